@@ -1,0 +1,16 @@
+//! Numbers, node sets, stamps, values, configurations and steps: what every other crate speaks of.
+#![tactic(auto)]
+
+mod config;
+mod node_set;
+mod numbers;
+mod order;
+mod step;
+mod value;
+
+pub use config::{Config, Limits, ObjectDecl, ObjectList};
+pub use node_set::NodeSet;
+pub use numbers::{NodeId, ObjId, SlotId, TxId};
+pub use order::{Stamp, Stream};
+pub use step::{NoMemory, Passed, Step};
+pub use value::{Text, Value};

@@ -1,0 +1,31 @@
+//! The values that objects hold.
+use std::marker::Model;
+
+/// A short text of 1 to 32 printable bytes, from 33 to 126, kept inline and seen as the list of its bytes.
+#[derive(Clone, Copy, Debug, PartialEq, Eq)]
+pub struct Text {
+    len: u8,
+    bytes: [u8; 32],
+}
+
+impl Model for Text {
+    ghost use Rattle.std.specs.Prelude.{List, ℕ, take};
+    ghost use Rattle.zeus_base.specs.Texts.{IsPadded, padded, padded-take};
+
+    ghost Value = { List ℕ };
+
+    ghost view = { λ t. take t.len t.bytes };
+
+    ghost invariant = { IsPadded };
+
+    ghost inverse = { padded };
+
+    ghost inverse_ok = { padded-take };
+}
+
+/// What an object holds: a number, or from version 2 on also a text.
+#[derive(Clone, Copy, Debug, PartialEq, Eq)]
+pub enum Value {
+    Num(u64),
+    Text(Text),
+}
