@@ -2,7 +2,7 @@
 use std::marker::Model;
 
 /// A node, by its number from 0; below 8.
-#[derive(Clone, Copy, Debug, PartialEq, Eq, PartialOrd, Ord)]
+#[derive(Clone, Copy, Debug, Default, PartialEq, Eq, PartialOrd, Ord)]
 pub struct NodeId(pub u8);
 
 impl Model for NodeId {
@@ -18,7 +18,7 @@ impl Model for NodeId {
 }
 
 /// A slot of a node, which is one worker's pipeline, by its number from 0; below 8.
-#[derive(Clone, Copy, Debug, PartialEq, Eq, PartialOrd, Ord)]
+#[derive(Clone, Copy, Debug, Default, PartialEq, Eq, PartialOrd, Ord)]
 pub struct SlotId(pub u8);
 
 impl Model for SlotId {
@@ -34,7 +34,7 @@ impl Model for SlotId {
 }
 
 /// An object, by its number from 0 in the order of declaration; below 256.
-#[derive(Clone, Copy, Debug, PartialEq, Eq, PartialOrd, Ord)]
+#[derive(Clone, Copy, Debug, Default, PartialEq, Eq, PartialOrd, Ord)]
 pub struct ObjId(pub u16);
 
 impl Model for ObjId {
@@ -50,7 +50,7 @@ impl Model for ObjId {
 }
 
 /// A transaction of a script, by its number from 0 in the order of the script.
-#[derive(Clone, Copy, Debug, PartialEq, Eq, PartialOrd, Ord)]
+#[derive(Clone, Copy, Debug, Default, PartialEq, Eq, PartialOrd, Ord)]
 pub struct TxId(pub u32);
 
 impl Model for TxId {

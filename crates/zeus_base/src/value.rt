@@ -1,4 +1,6 @@
 //! The values that objects hold.
+ghost use Rattle.std.specs.Prelude.{◌≡◌};
+
 use std::marker::Model;
 
 /// A short text of 1 to 32 printable bytes, from 33 to 126, kept inline and seen as the list of its bytes.
@@ -28,4 +30,12 @@ impl Model for Text {
 pub enum Value {
     Num(u64),
     Text(Text),
+}
+
+impl Default for Value {
+    fn default() -> Self
+        ensures { result ≡ Value.Num 0 }
+    {
+        Value::Num(0)
+    }
 }
