@@ -1,3 +1,4 @@
 pub mod Bits
+pub mod NodeLaws
 pub mod Nodes
 pub mod Texts
