@@ -1,4 +1,5 @@
 pub mod Bits
+pub mod NodeBits
 pub mod NodeLaws
 pub mod Nodes
 pub mod Texts

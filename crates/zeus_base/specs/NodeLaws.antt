@@ -1,5 +1,5 @@
 -- Laws of sets of nodes: what each operation has as members, and that a rising list is known by its members.
-use Rattle.std.specs.Prelude.{ℕ, zero, suc, Bool, true, false, not, ◌&&◌, ◌||◌, ◌==◌, nat_lt, ◌≡◌, ◌≢◌, ◌+◌, ◌<◌, ◌≤◌, List, [], ◌∷◌, length, Option, Some, None, if◌then◌else◌, refl}
+use Rattle.std.specs.Prelude.{ℕ, suc, true, false, not, ◌&&◌, ◌||◌, ◌==◌, ◌≡◌, ◌≢◌, ◌+◌, ◌<◌, ◌≤◌, List, [], ◌∷◌, length, Some, None, refl}
 use Rattle.std.proofs.Common.{arith, sym, ap, ◌∙◌, inl, inr}
 use Rattle.std.proofs.lemmas.Bool.{cases_order, lt-ltb, le-ltb, eq-eqb, ne_eqb, cond_both}
 use Rattle.std.proofs.lemmas.Bool.Decides.{nat_tests}
@@ -250,6 +250,11 @@ least-from_members b n (m ∷ ms) r h f =
 -- each node of the set is below the bound
 abbrev pub IsBelow : ℕ → List ℕ → Type 0
 IsBelow b ms = (k : ℕ) → has k ms ≡ true → k < b
+
+-- a set of nodes is a rising list of numbers below 8
+pub record IsNodeSet (ms : List ℕ) : Type 0 where
+  pub rising : IsRising ms
+  pub below : IsBelow 8 ms
 
 pub IsBelow-subset : (b : ℕ) (ms ns : List ℕ) → is_subset ms ns ≡ true → IsBelow b ns → IsBelow b ms
 IsBelow-subset b ms ns s h = λ k g. h k (is_subset-has k ms ns s g)

@@ -1,4 +1,9 @@
 //! Sets of nodes.
+ghost use Rattle.std.specs.Prelude.{◌≡◌, ◌↔◌, IsTrue, [], length};
+ghost use Rattle.zeus_base.specs.NodeLaws.{IsNodeSet};
+ghost use Rattle.zeus_base.specs.Nodes.{has, with_node, without, meet, join, is_subset, least};
+
+use crate::numbers::NodeId;
 use std::marker::Model;
 
 /// A set of nodes, seen as the rising list of their numbers.
@@ -20,4 +25,90 @@ impl Model for NodeSet {
     ghost inverse = { set_of };
 
     ghost inverse_ok = { set_of-nodes_of };
+}
+
+impl NodeSet {
+    /// The set with no node.
+    pub fn empty() -> NodeSet
+        ensures { result ≡ [] }
+    {
+        NodeSet { bits: 0 }
+    }
+
+    /// Whether no node is in the set.
+    pub fn is_empty(self) -> bool
+        ensures { IsTrue result ↔ (self ≡ []) }
+    {
+        self.bits == 0
+    }
+
+    /// How many nodes are in the set.
+    pub fn count(self) -> u8
+        ensures nodes { result ≡ length self }
+        ensures set { IsNodeSet self }
+    {
+        self.bits.count_ones() as u8
+    }
+
+    /// Whether the node is in the set.
+    pub fn has(self, node: NodeId) -> bool
+        ensures { result ≡ has node self }
+    {
+        self.bits >> node.0 & 1 == 1
+    }
+
+    /// The set with the node.
+    pub fn insert(self, node: NodeId) -> NodeSet
+        ensures { result ≡ with_node node self }
+    {
+        NodeSet {
+            bits: self.bits | 1 << node.0,
+        }
+    }
+
+    /// The set without the node.
+    pub fn without(self, node: NodeId) -> NodeSet
+        ensures { result ≡ without node self }
+    {
+        NodeSet {
+            bits: self.bits & !(1 << node.0),
+        }
+    }
+
+    /// The nodes that are in both sets.
+    pub fn meet(self, other: NodeSet) -> NodeSet
+        ensures { result ≡ meet self other }
+    {
+        NodeSet {
+            bits: self.bits & other.bits,
+        }
+    }
+
+    /// The nodes that are in one of the sets.
+    pub fn join(self, other: NodeSet) -> NodeSet
+        ensures { result ≡ join self other }
+    {
+        NodeSet {
+            bits: self.bits | other.bits,
+        }
+    }
+
+    /// Whether each node of this set is in the other.
+    pub fn is_subset(self, other: NodeSet) -> bool
+        ensures { result ≡ is_subset self other }
+    {
+        self.bits & other.bits == self.bits
+    }
+
+    /// The node with the least number, where there is one.
+    pub fn least(self) -> Option<NodeId>
+        ensures first { result ≡ least self }
+        ensures set { IsNodeSet self }
+    {
+        if self.bits == 0 {
+            None
+        } else {
+            Some(NodeId(self.bits.trailing_zeros() as u8))
+        }
+    }
 }
