@@ -1,5 +1,6 @@
 //! Sets of nodes.
-ghost use Rattle.std.specs.Prelude.{◌≡◌, ◌↔◌, IsTrue, [], length};
+ghost use Rattle.std.specs.Prelude.{◌≡◌, ◌↔◌, IsTrue, IfOk, [], length};
+ghost use Rattle.std.specs.Iterator.{YieldsFirst, item_count};
 ghost use Rattle.zeus_base.specs.NodeLaws.{IsNodeSet};
 ghost use Rattle.zeus_base.specs.Nodes.{has, with_node, without, meet, join, is_subset, least};
 
@@ -100,6 +101,13 @@ impl NodeSet {
         self.bits & other.bits == self.bits
     }
 
+    /// The nodes of the set in order, from the least on.
+    pub fn nodes(self) -> Nodes
+        ensures { result ≡ self }
+    {
+        Nodes { left: self }
+    }
+
     /// The node with the least number, where there is one.
     pub fn least(self) -> Option<NodeId>
         ensures first { result ≡ least self }
@@ -110,5 +118,71 @@ impl NodeSet {
         } else {
             Some(NodeId(self.bits.trailing_zeros() as u8))
         }
+    }
+}
+
+/// The nodes of a set in order, from the least on, seen as the list of those that are left.
+///
+/// A loop `for node in set` needs no measure, and in its invariant `l.node-iterator` is the list of the nodes that are
+/// left: where the loop pushes each node, the invariant `l.all.items ++ l.node-iterator ≡ l.fn.set` proves with no
+/// answer. A chain such as `set.nodes().collect(alloc)` proves with no file.
+#[derive(Debug, Drop)]
+pub struct Nodes {
+    left: NodeSet,
+}
+
+impl Model for Nodes {
+    ghost use Rattle.std.specs.Prelude.{List, ℕ};
+
+    ghost Value = { List ℕ };
+
+    ghost view = { λ s. s.left };
+}
+
+impl Iterator for Nodes {
+    type Item = NodeId;
+
+    ghost next_gives = { YieldsFirst (λ s. s) };
+
+    ghost remaining = { item_count (λ s. s) };
+
+    fn next(&mut self) -> Option<NodeId> {
+        let node = self.left.least()?;
+        self.left = self.left.without(node);
+        Some(node)
+    }
+}
+
+impl IntoIterator for NodeSet {
+    type Item = NodeId;
+
+    type IntoIter = Nodes;
+
+    ghost into_iter_gives = { λ set nodes. nodes ≡ set };
+
+    fn into_iter(self) -> Nodes {
+        Nodes { left: self }
+    }
+}
+
+#[cfg(test)]
+mod tests {
+    use super::*;
+    use std::alloc::{AllocError, Global};
+
+    fn chained(alloc: Global, set: NodeSet) -> Result<Vec<NodeId>, AllocError>
+        ensures { IfOk result (λ v. v.items ≡ set) }
+    {
+        set.nodes().collect(alloc)
+    }
+
+    fn looped(alloc: Global, set: NodeSet) -> Result<Vec<NodeId>, AllocError>
+        ensures { IfOk result (λ v. v.items ≡ set) }
+    {
+        let mut all = Vec::new(alloc);
+        for node in set {
+            all.push(node)?;
+        }
+        Ok(all)
     }
 }
