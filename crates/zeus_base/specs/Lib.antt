@@ -2,4 +2,6 @@ pub mod Bits
 pub mod NodeBits
 pub mod NodeLaws
 pub mod Nodes
+pub mod Order
+pub mod OrderLaws
 pub mod Texts
