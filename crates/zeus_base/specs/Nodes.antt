@@ -1,5 +1,5 @@
 -- Sets of nodes as rising lists of their numbers, so that "in the order of nodes" is the list itself.
-use Rattle.std.specs.Prelude.{ℕ, Bool, true, false, ◌&&◌, ◌||◌, ◌==◌, nat_lt, List, [], ◌∷◌, length, Option, Some, None, if◌then◌else◌}
+use Rattle.std.specs.Prelude.{ℕ, Bool, true, false, ◌&&◌, ◌||◌, ◌==◌, nat_lt, List, [], ◌∷◌, Option, Some, None, if◌then◌else◌}
 
 -- whether the node is in the set
 unfoldable pub has : ℕ → List ℕ → Bool

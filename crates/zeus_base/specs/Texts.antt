@@ -1,5 +1,5 @@
 -- Short printable texts, as the list of their bytes and as 32 bytes of which the first are the text.
-use Rattle.std.specs.Prelude.{ℕ, ◌≡◌, ◌≤◌, ◌<◌, ◌-◌, List, [], ◌∷◌, ◌++◌, length, take, drop, replicate, All, slice_index}
+use Rattle.std.specs.Prelude.{ℕ, ◌≡◌, ◌≤◌, ◌-◌, List, ◌++◌, length, take, drop, replicate, All}
 use Rattle.std.proofs.Common.{arith, refl}
 use Rattle.std.proofs.lemmas.List.{take-append-drop, length-take-le}
 use Rattle.zeus_base.specs.declared.value.Text.TheInside.{Inside}

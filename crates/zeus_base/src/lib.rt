@@ -9,7 +9,7 @@ mod step;
 mod value;
 
 pub use config::{Config, Limits, ObjectDecl, ObjectList};
-pub use node_set::NodeSet;
+pub use node_set::{NodeSet, Nodes};
 pub use numbers::{NodeId, ObjId, SlotId, TxId};
 pub use order::{Stamp, Stream};
 pub use step::{NoMemory, Passed, Step};

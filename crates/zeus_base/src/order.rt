@@ -1,4 +1,7 @@
 //! Stamps and streams, ordered by their fields from left to right.
+ghost use Rattle.std.specs.Prelude.{◌≡◌};
+ghost use Rattle.zeus_base.specs.Order.{is_below, is_before};
+
 use crate::numbers::{NodeId, SlotId};
 
 /// The commits of one slot of one node, in the order of their numbers.
@@ -13,4 +16,23 @@ pub struct Stream {
 pub struct Stamp {
     pub ver: u64,
     pub driver: NodeId,
+}
+
+impl Stream {
+    /// Whether this stream comes before the other: a lower node, or the same node and a lower slot. `<` says the same.
+    pub fn is_before(self, other: Stream) -> bool
+        ensures { result ≡ is_before self other }
+    {
+        self < other
+    }
+}
+
+impl Stamp {
+    /// Whether this stamp is below the other: a lower version, or the same version and a lower driver. `<` says the
+    /// same.
+    pub fn is_below(self, other: Stamp) -> bool
+        ensures { result ≡ is_below self other }
+    {
+        self < other
+    }
 }

@@ -1,0 +1,5 @@
+use Rattle.zeus_base.specs.NodeBits.{nodes_of-zero}
+use Rattle.zeus_base.proofs.node_set.NodeSet.empty.Goals as goal
+
+pub returns : goal.returns
+returns c = nodes_of-zero

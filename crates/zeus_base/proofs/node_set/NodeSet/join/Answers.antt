@@ -1,0 +1,6 @@
+use Rattle.zeus_base.specs.NodeBits.{nodes_of-or}
+use Rattle.zeus_base.proofs.node_set.NodeSet.join.Goals as goal
+
+pub returns : goal.returns
+returns c =
+    rw (← c.self.view_is, ← c.other.view_is) (nodes_of-or c.self.inside.bits c.other.inside.bits c.self.invariant c.other.invariant)
