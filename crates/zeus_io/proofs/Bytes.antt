@@ -1,6 +1,6 @@
 -- What two calls in a row took of a source, or put into a sink.
-use Rattle.std.proofs.Common.{◌≡◌, ℕ, ◌+◌, ◌-◌, ◌≤◌, List, ◌++◌, length, take, drop, arith, sym, ap, ◌∙◌, subst, length-append, length-drop}
-use Rattle.std.proofs.lemmas.List.{length-take-le, take_all}
+use Rattle.std.proofs.Common.{◌≡◌, ℕ, ◌+◌, ◌-◌, ◌≤◌, List, ◌++◌, length, take, drop, arith, sym, ap, ◌∙◌, subst, append_assoc, length-append, length-drop}
+use Rattle.std.proofs.lemmas.List.{length-take-le, take_all, take-append-drop, drop-append-le}
 use Rattle.std.proofs.Math.Seq.{take-add}
 use Rattle.std.specs.Io.KnownBytes.{Appends, Consumes}
 use Rattle.std.proofs.KnownBytes.{Appends-trans, Consumes-trans}
@@ -25,3 +25,11 @@ Appends-next a b c bytes i n p q =
     let joined : take i bytes ++ take n (take (length bytes - i) (drop i bytes)) ≡ take (i + n) bytes =
     ap (λ l. take i bytes ++ take n l) rest ∙ sym (take-add i n bytes) in
     subst (Appends a c) joined (Appends-trans a b c _ _ p q)
+
+-- a front of the buffer was written, and behind it the buffer is as it was
+pub fill_front : (xs front buf : List ℕ) (n most : ℕ) → xs ≡ front ++ drop n (take most buf) → n ≤ length (take most buf)
+    → xs ++ drop most buf ≡ front ++ drop n buf
+fill_front xs front buf n most e h =
+    let rest : drop n (take most buf) ++ drop most buf ≡ drop n buf =
+    sym (drop-append-le n (take most buf) (drop most buf) h) ∙ ap (drop n) (take-append-drop most buf) in
+    ap (λ l. l ++ drop most buf) e ∙ append_assoc front (drop n (take most buf)) (drop most buf) ∙ ap (λ l. front ++ l) rest

@@ -1,5 +1,5 @@
 -- When a source or a sink may say that it failed: only where its count of faults rose.
-use Rattle.std.specs.Prelude.{ℕ, ◌+◌, ◌-◌, ◌^◌, ◌≤◌, ◌<◌, ◌≡◌, min, Result, OnErr, IsOk, IfOk}
+use Rattle.std.specs.Prelude.{ℕ, ◌+◌, ◌-◌, ◌^◌, ◌≤◌, min, Result, OnErr}
 
 -- a count after one more fault; it stands still at its type's end
 abbrev pub one_more : ℕ → ℕ

@@ -7,13 +7,8 @@ pub record Bounded : Type 0 where
   pub room : ℕ
   pub faults : ℕ
 
--- which calls fail, how many calls came, and how often one failed
-pub record Planned : Type 0 where
-  pub fails : List ℕ
-  pub calls : ℕ
-  pub faults : ℕ
-
--- a source that fails by plan: the bytes left, the most that a call moves, and the plan
+-- a source that fails by plan: the bytes left, the most that a call moves, the numbers of the calls that fail, how many
+-- calls came, and how often one failed
 pub record PlannedSource : Type 0 where
   pub left : List ℕ
   pub piece : ℕ
@@ -21,7 +16,8 @@ pub record PlannedSource : Type 0 where
   pub calls : ℕ
   pub faults : ℕ
 
--- a sink that fails by plan: the bytes held, the room left, the most that a call moves, and the plan
+-- a sink that fails by plan: the bytes held, the room left, the most that a call moves, the numbers of the calls that
+-- fail, how many calls came, and how often one failed
 pub record PlannedSink : Type 0 where
   pub held : List ℕ
   pub room : ℕ

@@ -6,6 +6,7 @@
 #![tactic(auto)]
 
 mod memory;
+mod planned;
 mod sink;
 mod source;
 mod standard;
@@ -13,8 +14,12 @@ mod status;
 mod transfer;
 
 pub use memory::{SafeSink, SafeSource};
+pub use planned::{MemSink, MemSource};
 pub use sink::Sink;
 pub use source::{Failed, Source};
 pub use standard::{StdSink, StdSource};
 pub use status::Status;
 pub use transfer::{ReadEnd, WriteFault, read_all, write_all};
+
+#[cfg(test)]
+mod tests;

@@ -1,4 +1,4 @@
-use Rattle.std.proofs.Common.{◌≡◌, ◌<◌, ◌≤◌, length, arith, ◌++◌, take, refl}
+use Rattle.std.proofs.Common.{◌<◌, ◌≤◌, length, arith, ◌++◌, take, refl}
 use Rattle.zeus_io.proofs.Bytes.{Takes-both, length-piece}
 use Rattle.std.proofs.lemmas.Result.{err_from_is_err_and}
 use Rattle.zeus_io.proofs.transfer.read_all.Goals as goal
