@@ -1,5 +1,6 @@
 -- The log of a run: when each transaction was begun, had its point and was acknowledged, and with which reply.
-use Rattle.std.specs.Prelude.{ℕ, suc, ◌+◌, ◌-◌, Bool, true, false, ◌&&◌, ◌||◌, ◌==◌, nat_lt, List, [], ◌∷◌, ◌++◌, Option, Some, None, is_none, if◌then◌else◌}
+use Rattle.std.specs.Prelude.{ℕ, suc, ◌+◌, ◌-◌, Bool, true, false, ◌&&◌, ◌==◌, List, [], ◌∷◌, ◌++◌, Option, Some, None, is_none, if◌then◌else◌}
+use Rattle.zeus_base.specs.Order.{is_before, same_stream}
 use Rattle.zeus_base.specs.declared.order.Stream.{Stream}
 use Rattle.zeus_base.specs.declared.step.Passed.{Passed}
 use Rattle.zeus_txn.specs.declared.reply.Reply.{Reply}
@@ -101,7 +102,7 @@ ack_once b id own None = if own then record { book = book_ack b id; points = [];
 
 unfoldable pub is_entry : Stream → ℕ → Option EntryId → Bool
 is_entry s number None = false
-is_entry s number (Some e) = (e.stream.node == s.node) && (e.stream.slot == s.slot) && (e.number == number)
+is_entry s number (Some e) = same_stream e.stream s && (e.number == number)
 
 unfoldable pub tx_from : Stream → ℕ → ℕ → List TxRecord → Option ℕ
 tx_from s number id [] = None
@@ -126,10 +127,6 @@ book_passes b me [] = unchanged b
 book_passes b me (p ∷ ps) =
     change_then (pass_numbers b (p.stream.node == me) p.stream (numbers_from p.first (p.after - p.first)))
     (λ c. book_passes c me ps)
-
--- streams are ordered by node, then by slot
-unfoldable pub is_before : Stream → Stream → Bool
-is_before a b = nat_lt a.node b.node || ((a.node == b.node) && nat_lt a.slot b.slot)
 
 unfoldable pub inserted : Passed → List Passed → List Passed
 inserted p [] = p ∷ []

@@ -2,7 +2,8 @@
 use Rattle.std.specs.Prelude.{ℕ, ◌+◌, ◌-◌, ◌^◌, Bool, false, ◌&&◌, ◌||◌, not, ◌==◌, nat_lt, List, [], ◌∷◌, ◌++◌, length, Option, Some, None, is_none, is_some, if◌then◌else◌}
 use Rattle.zeus_base.specs.Nodes.{has, with_node, without, meet, is_subset, least}
 use Rattle.zeus_base.specs.declared.order.Stamp.{Stamp}
-use Rattle.zeus_packet.specs.Place.{is_below, same_stamp, same_proposal, source, arbiters, new_place}
+use Rattle.zeus_base.specs.Order.{is_below, same_stamp}
+use Rattle.zeus_packet.specs.Place.{same_proposal, source, arbiters, new_place}
 use Rattle.zeus_packet.specs.declared.letter.Body.TheVariants.{OInv, OAck, ONack, OVal}
 use Rattle.zeus_packet.specs.declared.letter.Cause.{Cause}
 use Rattle.zeus_packet.specs.declared.letter.Cause.TheVariants.{NotDirectory, Proposed, Owns, HasCopy, NotReader, NoSource, Degree, IsSource, WornOut, NoCopy, Held, NotValid, Kept, NotArbiter, NotCollector, OwnPlace}

@@ -1,7 +1,7 @@
 -- Soundness of a world: one owner, one history, the replies of a serial run, and no copy that is older than it leaves.
 use Rattle.std.specs.Prelude.{ℕ, suc, ◌≡◌, ◌<◌, ◌≤◌, true, false, ◌==◌, List, [], ◌∷◌, length, Some, is_some, if◌then◌else◌}
 use Rattle.zeus_base.specs.Nodes.{has}
-use Rattle.zeus_packet.specs.Place.{is_below}
+use Rattle.zeus_base.specs.Order.{is_below}
 use Rattle.zeus_packet.specs.declared.letter.State.TheVariants.{Valid}
 use Rattle.zeus_packet.specs.declared.place.Place.{Place}
 use Rattle.zeus_packet.specs.declared.write.Content.{Content}

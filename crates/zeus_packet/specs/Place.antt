@@ -1,19 +1,11 @@
 -- Who decides on a placement, and what a proposal makes of one.
 use Rattle.std.specs.Prelude.{ℕ, Bool, true, false, ◌&&◌, ◌||◌, ◌==◌, nat_lt, List, [], ◌∷◌, Option, Some, None, if◌then◌else◌}
 use Rattle.zeus_base.specs.Nodes.{has, with_node, without, meet, least}
-use Rattle.zeus_base.specs.declared.order.Stamp.{Stamp}
+use Rattle.zeus_base.specs.Order.{same_stamp}
 use Rattle.zeus_packet.specs.declared.place.Place.{Place}
 use Rattle.zeus_packet.specs.declared.place.Proposal.{Proposal}
 use Rattle.zeus_packet.specs.declared.place.Want.{Want}
 use Rattle.zeus_packet.specs.declared.place.Want.TheVariants.{Own, Read, Leave}
-
--- stamps are ordered by version, then by driver
-unfoldable pub is_below : Stamp → Stamp → Bool
-is_below a b = nat_lt a.ver b.ver || ((a.ver == b.ver) && nat_lt a.driver b.driver)
-
--- whether two stamps are the same
-unfoldable pub same_stamp : Stamp → Stamp → Bool
-same_stamp a b = (a.ver == b.ver) && (a.driver == b.driver)
 
 -- whether two sets of nodes are the same
 unfoldable pub same_nodes : List ℕ → List ℕ → Bool
