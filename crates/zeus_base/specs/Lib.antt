@@ -5,3 +5,5 @@ pub mod Nodes
 pub mod Order
 pub mod OrderLaws
 pub mod Texts
+pub mod ValueLaws
+pub mod Values
