@@ -4,4 +4,5 @@ pub mod NodeLaws
 pub mod Nodes
 pub mod Order
 pub mod OrderLaws
+pub mod Tables
 pub mod Texts
