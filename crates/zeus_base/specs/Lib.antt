@@ -6,3 +6,5 @@ pub mod Order
 pub mod OrderLaws
 pub mod Tables
 pub mod Texts
+pub mod ValueLaws
+pub mod Values

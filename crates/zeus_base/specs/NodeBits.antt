@@ -4,10 +4,11 @@ use Rattle.std.proofs.Common.{arith, sym, ap, ◌∙◌, zero-add, inl, inr}
 use Rattle.std.specs.Int.{bit_at, bit_not, w8, trailing_zeros}
 use Rattle.std.specs.Int.Count.{ones}
 use Rattle.std.proofs.lemmas.Bool.{eq-eqb, ne_eqb, cases_eq, cases_lt}
-use Rattle.std.proofs.lemmas.Bool.Decides.{nat_tests}
+use Rattle.std.proofs.lemmas.Bool.Decides.{nat_tests, same_from_decides, Decides-eqb}
+use Rattle.std.proofs.lemmas.Slice.Eq.{bytes_eq-Decides}
 use Rattle.std.proofs.lemmas.Nat.{ones_cat, or_of_8, and_le_l}
 use Rattle.std.proofs.lemmas.Nat.Bits.{bit_at_lowest, bit_at-suc, bit_at-zero, bit_at-lt, bit_at_and, bit_at_or, bit_at_above, bit_at_set_same, bit_at_set_other, bit_at_clear_same, bit_at_clear_other, bit_at-trailing_zeros}
-use Rattle.zeus_base.specs.Nodes.{has, with_node, without, meet, join, is_subset, least}
+use Rattle.zeus_base.specs.Nodes.{same_nodes, has, with_node, without, meet, join, is_subset, least}
 use Rattle.zeus_base.specs.NodeLaws.{RisesFrom, IsRising, IsBelow, IsNodeSet, RisesFrom-lower, RisesFrom-with_node, RisesFrom-without, RisesFrom-meet, RisesFrom-join, has-below, has-with_node, has-without, has-meet, has-join, same_from_members, least-from_members, is_subset-has, is_subset-meet_right}
 use Rattle.zeus_base.specs.Bits.{nodes_from, nodes_of, bits_of, bits_of-view, bits_of-nodes_of}
 
@@ -100,8 +101,8 @@ unfolding nodes_of nodes_from
 nodes_of-zero = refl
 
 -- a byte is known by which nodes it has
-same_nodes : (bits : ℕ) (ms : List ℕ) → bits < 2 ^ 8 → IsRising ms → ((k : ℕ) → (bit_at bits k == 1) ≡ has k ms) → nodes_of bits ≡ ms
-same_nodes bits ms h r f =
+by_members : (bits : ℕ) (ms : List ℕ) → bits < 2 ^ 8 → IsRising ms → ((k : ℕ) → (bit_at bits k == 1) ≡ has k ms) → nodes_of bits ≡ ms
+by_members bits ms h r f =
     same_from_members 0 0 (nodes_of bits) ms (IsRising-nodes_of bits) r (λ k. has-nodes_of k bits h ∙ f k)
 
 max_digit : (a b : ℕ) → a < 2 → b < 2 → (max a b == 1) ≡ ((a == 1) || (b == 1))
@@ -112,13 +113,13 @@ min_digit a b h g = grind (arith, nat_tests)
 
 pub nodes_of-or : (a b : ℕ) → a < 2 ^ 8 → b < 2 ^ 8 → nodes_of (bit_or a b) ≡ join (nodes_of a) (nodes_of b)
 nodes_of-or a b h g =
-    same_nodes (bit_or a b) (join (nodes_of a) (nodes_of b)) (or_of_8 a b h g) (RisesFrom-join 0 (nodes_of a) (nodes_of b) (IsRising-nodes_of a) (IsRising-nodes_of b)) (λ k.
+    by_members (bit_or a b) (join (nodes_of a) (nodes_of b)) (or_of_8 a b h g) (RisesFrom-join 0 (nodes_of a) (nodes_of b) (IsRising-nodes_of a) (IsRising-nodes_of b)) (λ k.
     rw (has-join k (nodes_of a) (nodes_of b), has-nodes_of k a h, has-nodes_of k b g, bit_at_or a b k) (max_digit (bit_at a k) (bit_at b k) (bit_at-lt a k) (bit_at-lt b k)))
 
 pub nodes_of-and : (a b : ℕ) → a < 2 ^ 8 → b < 2 ^ 8 → nodes_of (bit_and a b) ≡ meet (nodes_of a) (nodes_of b)
 nodes_of-and a b h g =
     let fits : bit_and a b < 2 ^ 8 = omega (arith, and_le_l a b) in
-    same_nodes (bit_and a b) (meet (nodes_of a) (nodes_of b)) fits (RisesFrom-meet 0 (nodes_of a) (nodes_of b) (IsRising-nodes_of a)) (λ k.
+    by_members (bit_and a b) (meet (nodes_of a) (nodes_of b)) fits (RisesFrom-meet 0 (nodes_of a) (nodes_of b) (IsRising-nodes_of a)) (λ k.
     rw (has-meet k (nodes_of a) (nodes_of b), has-nodes_of k a h, has-nodes_of k b g, bit_at_and a b k) (min_digit (bit_at a k) (bit_at b k) (bit_at-lt a k) (bit_at-lt b k)))
 
 set_digit : (a k n : ℕ) → n < 8 → (bit_at (bit_or a (1 * 2 ^ n % 2 ^ 8)) k == 1) ≡ ((k == n) || (bit_at a k == 1))
@@ -131,7 +132,7 @@ set_digit a k n h =
 pub nodes_of-set : (a n : ℕ) → a < 2 ^ 8 → n < 8 → nodes_of (bit_or a (1 * 2 ^ n % 2 ^ 8)) ≡ with_node n (nodes_of a)
 nodes_of-set a n h g =
     let fits : bit_or a (1 * 2 ^ n % 2 ^ 8) < 2 ^ 8 = or_of_8 a (1 * 2 ^ n % 2 ^ 8) h (omega arith) in
-    same_nodes (bit_or a (1 * 2 ^ n % 2 ^ 8)) (with_node n (nodes_of a)) fits (RisesFrom-with_node 0 n (nodes_of a) (omega arith) (IsRising-nodes_of a)) (λ k.
+    by_members (bit_or a (1 * 2 ^ n % 2 ^ 8)) (with_node n (nodes_of a)) fits (RisesFrom-with_node 0 n (nodes_of a) (omega arith) (IsRising-nodes_of a)) (λ k.
     rw (has-with_node k n (nodes_of a), has-nodes_of k a h) (set_digit a k n g))
 
 clear_digit : (a k n : ℕ) → a < 2 ^ 8 → n < 8 → (bit_at (bit_and a (bit_not w8 (1 * 2 ^ n % 2 ^ 8))) k == 1) ≡ (not (k == n) && (bit_at a k == 1))
@@ -149,7 +150,7 @@ clear_digit a k n f h =
 pub nodes_of-clear : (a n : ℕ) → a < 2 ^ 8 → n < 8 → nodes_of (bit_and a (bit_not w8 (1 * 2 ^ n % 2 ^ 8))) ≡ without n (nodes_of a)
 nodes_of-clear a n h g =
     let fits : bit_and a (bit_not w8 (1 * 2 ^ n % 2 ^ 8)) < 2 ^ 8 = omega (arith, and_le_l a (bit_not w8 (1 * 2 ^ n % 2 ^ 8))) in
-    same_nodes (bit_and a (bit_not w8 (1 * 2 ^ n % 2 ^ 8))) (without n (nodes_of a)) fits (RisesFrom-without 0 n (nodes_of a) (IsRising-nodes_of a)) (λ k.
+    by_members (bit_and a (bit_not w8 (1 * 2 ^ n % 2 ^ 8))) (without n (nodes_of a)) fits (RisesFrom-without 0 n (nodes_of a) (IsRising-nodes_of a)) (λ k.
     rw (has-without k n (nodes_of a), has-nodes_of k a h) (clear_digit a k n h g))
 
 pub least-zero : (a : ℕ) → a ≡ 0 → least (nodes_of a) ≡ None
@@ -178,3 +179,8 @@ is_subset-nodes_of a b h g =
     λ e. rw (sym (nodes_of-and a b h g) ∙ ap nodes_of e) at (is_subset-meet_right (nodes_of a) (nodes_of b)) in
     let other = is_subset-false a b h g in
     grind (arith, nat_tests)
+
+pub same_nodes-nodes_of : (a b : ℕ) → a < 2 ^ 8 → b < 2 ^ 8 → (a == b) ≡ same_nodes (nodes_of a) (nodes_of b)
+same_nodes-nodes_of a b h g =
+    let tells = bytes_eq-Decides (nodes_of a) (nodes_of b) in
+    same_from_decides (a == b) (same_nodes (nodes_of a) (nodes_of b)) (Decides-eqb a b) (λ t. sym (bits_of-nodes_of a h) ∙ (ap bits_of (tells.0 t) ∙ bits_of-nodes_of b g), λ is. tells.1 (ap nodes_of is))

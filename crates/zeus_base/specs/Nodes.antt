@@ -1,4 +1,5 @@
 -- Sets of nodes as rising lists of their numbers, so that "in the order of nodes" is the list itself.
+use Rattle.std.specs.Str.{bytes_eq}
 use Rattle.std.specs.Prelude.{ℕ, Bool, true, false, ◌&&◌, ◌||◌, ◌==◌, nat_lt, List, [], ◌∷◌, Option, Some, None, if◌then◌else◌}
 
 -- whether the node is in the set
@@ -35,3 +36,7 @@ is_subset (m ∷ ms) ns = has m ns && is_subset ms ns
 unfoldable pub least : List ℕ → Option ℕ
 least [] = None
 least (m ∷ ms) = Some m
+
+-- whether two sets are one
+abbrev pub same_nodes : List ℕ → List ℕ → Bool
+same_nodes ms ns = bytes_eq ms ns

@@ -1,8 +1,16 @@
 -- Short printable texts, as the list of their bytes and as 32 bytes of which the first are the text.
-use Rattle.std.specs.Prelude.{ℕ, ◌≡◌, ◌≤◌, ◌-◌, List, ◌++◌, length, take, drop, replicate, All}
-use Rattle.std.proofs.Common.{arith, refl}
+use Rattle.std.specs.Str.{bytes_eq}
+use Rattle.std.specs.Prelude.{ℕ, Bool, ◌&&◌, ◌==◌, ◌≡◌, ◌≤◌, ◌-◌, List, ◌++◌, length, take, drop, replicate, All}
+use Rattle.std.proofs.Common.{arith, refl, sym, ap, ◌∙◌}
+use Rattle.std.proofs.lemmas.Bool.Decides.{same_from_decides, Decides-eqb, Decides-and}
+use Rattle.std.proofs.lemmas.Bool.{eq-eqb}
+use Rattle.std.proofs.lemmas.Slice.Eq.{bytes_eq-Decides}
 use Rattle.std.proofs.lemmas.List.{take-append-drop, length-take-le}
 use Rattle.zeus_base.specs.declared.value.Text.TheInside.{Inside}
+
+-- whether two texts are one
+abbrev pub same_text : List ℕ → List ℕ → Bool
+same_text s t = bytes_eq s t
 
 -- a text has 1 to 32 bytes, each from 33 to 126
 abbrev pub IsText : List ℕ → Type 0
@@ -25,3 +33,16 @@ padded-take t h =
     let taken : length (take t.len t.bytes) ≡ t.len = length-take-le t.len t.bytes (omega (arith, h.whole, h.fits)) in
     let parts : take t.len t.bytes ++ drop t.len t.bytes ≡ t.bytes = take-append-drop t.len t.bytes in
     rw (taken, ← h.padding, parts) refl
+
+-- two texts are one where their lengths and their 32 bytes are
+pub same_text-take : (s t : Inside) → IsPadded s → IsPadded t → ((s.len == t.len) && bytes_eq s.bytes t.bytes) ≡ same_text (take s.len s.bytes) (take t.len t.bytes)
+same_text-take s t h g =
+    let bytes = bytes_eq-Decides s.bytes t.bytes in
+    let texts = bytes_eq-Decides (take s.len s.bytes) (take t.len t.bytes) in
+    let back : take s.len s.bytes ≡ take t.len t.bytes → s ≡ t = λ e. sym (padded-take s h) ∙ (ap padded e ∙ padded-take t g) in
+    let parts = Decides-and (s.len == t.len) (bytes_eq s.bytes t.bytes) (Decides-eqb s.len t.len) bytes in
+    same_from_decides ((s.len == t.len) && bytes_eq s.bytes t.bytes) (same_text (take s.len s.bytes) (take t.len t.bytes)) parts (λ e. (ap (λ (k : Inside). k.len) (back (texts.0 e)), ap (λ (k : Inside). k.bytes) (back (texts.0 e))), λ p. texts.1 (ap (λ (n : ℕ). take n s.bytes) p.0 ∙ ap (λ (bs : List ℕ). take t.len bs) p.1))
+
+pub same_text-length : (s t : Inside) (r : Bool) → IsPadded s → IsPadded t → s.len ≡ t.len → r ≡ bytes_eq s.bytes t.bytes → r ≡ same_text (take s.len s.bytes) (take t.len t.bytes)
+same_text-length s t r h g same is =
+    rw (← same_text-take s t h g, eq-eqb s.len t.len same) is

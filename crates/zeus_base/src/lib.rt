@@ -10,7 +10,7 @@ mod value;
 
 pub use config::{Config, Limits, ObjectDecl, ObjectList};
 pub use node_set::{NodeSet, Nodes};
-pub use numbers::{NodeId, ObjId, SlotId, TxId};
+pub use numbers::{NodeId, ObjId, SlotId, TxId, TxIds};
 pub use order::{Stamp, Stream};
-pub use step::{NoMemory, Passed, Step};
+pub use step::{NoMemory, Passed, Step, Steps};
 pub use value::{Text, Value};

@@ -8,7 +8,7 @@ use crate::numbers::NodeId;
 use std::marker::Model;
 
 /// A set of nodes, seen as the rising list of their numbers.
-#[derive(Clone, Copy, Debug, PartialEq, Eq)]
+#[derive(Clone, Copy, Debug, Eq)]
 pub struct NodeSet {
     pub bits: u8,
 }
@@ -26,6 +26,20 @@ impl Model for NodeSet {
     ghost inverse = { set_of };
 
     ghost inverse_ok = { set_of-nodes_of };
+}
+
+impl PartialEq for NodeSet {
+    ghost use Rattle.std.specs.Cmp.{partial_equiv_from_equiv};
+    ghost use Rattle.std.proofs.lemmas.Cmp.{nat_list_eq_equiv};
+    ghost use Rattle.zeus_base.specs.Nodes.{same_nodes};
+
+    ghost eq = { same_nodes };
+
+    ghost laws = { partial_equiv_from_equiv nat_list_eq_equiv };
+
+    fn eq(&self, other: &NodeSet) -> bool {
+        self.bits == other.bits
+    }
 }
 
 impl NodeSet {

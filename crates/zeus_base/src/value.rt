@@ -4,7 +4,7 @@ ghost use Rattle.std.specs.Prelude.{◌≡◌};
 use std::marker::Model;
 
 /// A short text of 1 to 32 printable bytes, from 33 to 126, kept inline and seen as the list of its bytes.
-#[derive(Clone, Copy, Debug, PartialEq, Eq)]
+#[derive(Clone, Copy, Debug, Eq)]
 pub struct Text {
     len: u8,
     bytes: [u8; 32],
@@ -23,6 +23,20 @@ impl Model for Text {
     ghost inverse = { padded };
 
     ghost inverse_ok = { padded-take };
+}
+
+impl PartialEq for Text {
+    ghost use Rattle.std.specs.Cmp.{partial_equiv_from_equiv};
+    ghost use Rattle.std.proofs.lemmas.Cmp.{nat_list_eq_equiv};
+    ghost use Rattle.zeus_base.specs.Texts.{same_text};
+
+    ghost eq = { same_text };
+
+    ghost laws = { partial_equiv_from_equiv nat_list_eq_equiv };
+
+    fn eq(&self, other: &Text) -> bool {
+        self.len == other.len && self.bytes == other.bytes
+    }
 }
 
 /// What an object holds: a number, or from version 2 on also a text.

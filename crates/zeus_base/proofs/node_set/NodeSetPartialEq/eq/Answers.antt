@@ -1,6 +1,6 @@
-use Rattle.std.proofs.Common.{arith}
-use Rattle.zeus_base.specs.Bits.{bits_of-view}
+use Rattle.zeus_base.specs.NodeBits.{same_nodes-nodes_of}
 use Rattle.zeus_base.proofs.node_set.NodeSetPartialEq.eq.Goals as goal
 
 pub returns : goal.returns
-returns c = grind (arith, bits_of-view)
+returns c =
+    rw (← c.self.view_is, ← c.other.view_is) (same_nodes-nodes_of c.self.inside.bits c.other.inside.bits c.self.invariant c.other.invariant)
