@@ -1,3 +1,4 @@
+pub mod In
 pub mod Tables
 pub mod State
 pub mod Act
