@@ -1,7 +1,7 @@
 -- The moves of the machine. What a move needs is said by the letters that were sent and by the node that acts; it is less than what
 -- the rules ask for, and any part of the letters may be left out, but for the acknowledgement of a proposal that is newly held.
-use Rattle.std.specs.Prelude.{ℕ, suc, ◌≡◌, ◌≢◌, ◌+◌, ◌-◌, ◌<◌, ◌≤◌, ◌==◌, Bool, true, false, List, [], ◌∷◌, ◌++◌, length, take, drop, map, Option, Some, None, is_some, is_none, ◌⊎◌}
-use Rattle.zeus_base.specs.Nodes.{has, with_node, without, meet, is_subset}
+use Rattle.std.specs.Prelude.{ℕ, ◌≡◌, ◌≢◌, ◌+◌, ◌<◌, ◌≤◌, true, false, List, [], length, map, Option, Some, None, is_some, ◌⊎◌}
+use Rattle.zeus_base.specs.Nodes.{has, with_node, without}
 use Rattle.zeus_base.specs.Order.{is_below}
 use Rattle.zeus_base.specs.declared.order.Stamp.{Stamp}
 use Rattle.zeus_base.specs.declared.order.Stream.{Stream}
@@ -12,24 +12,21 @@ use Rattle.zeus_packet.specs.declared.letter.Letter.{Letter}
 use Rattle.zeus_packet.specs.declared.letter.RInv.{RInv as Invalidation}
 use Rattle.zeus_packet.specs.declared.place.Place.{Place}
 use Rattle.zeus_packet.specs.declared.place.Proposal.{Proposal}
-use Rattle.zeus_packet.specs.declared.place.View.{View}
 use Rattle.zeus_packet.specs.declared.place.Want.{Want}
 use Rattle.zeus_packet.specs.declared.place.Want.TheVariants.{Leave}
 use Rattle.zeus_packet.specs.declared.write.Content.{Content}
-use Rattle.zeus_packet.specs.declared.write.Write.{Write}
-use Rattle.zeus_txn.specs.declared.reply.Ran.{Ran}
 use Rattle.zeus_model.specs.In.{In}
 use Rattle.zeus_model.specs.Tables.{nth, put}
 use Rattle.zeus_model.specs.declared.state.Current.{Current}
 use Rattle.zeus_model.specs.declared.state.Gather.{Gather}
 use Rattle.zeus_model.specs.declared.state.Kept.{Kept}
-use Rattle.zeus_model.specs.State.{Node, Slot, StreamLog, entry, copy, gather, slot, log, with_slot, with_log, with_gather, own_stream, is_open}
+use Rattle.zeus_model.specs.State.{Node, entry, gather, slot, log, with_slot, with_log, with_gather, own_stream, is_open}
 use Rattle.zeus_model.specs.Act.{letter}
 use Rattle.zeus_model.specs.Commit.{as_kept, raise, store, passes, pass_own, pass_kept, next_kept, no_kept, no_pending, acked_kept, acked_pending}
-use Rattle.zeus_model.specs.Ownership.{settle, holding, is_source, own_content, unready_cause, driven, collector, greater_cause, greater_gather, gather_for, noted, is_decidable, bring}
+use Rattle.zeus_model.specs.Ownership.{settle, holding, is_source, own_content, unready_cause, driven, greater_cause, greater_gather, gather_for, noted, is_decidable, bring}
 use Rattle.zeus_model.specs.Membership.{dropped}
 use Rattle.zeus_model.specs.Local.{with_current, committed, write_cause, run_here, new_writes, replicas_of}
-use Rattle.machine_moves.specs.Scene.{Scene, IsLive, IsReceivable, Sends, Changes, Same, NewView, nothing, view}
+use Rattle.machine_moves.specs.Scene.{Scene, IsReceivable, Changes, Same, NewView, nothing, view}
 
 -- the entries that a node has of a stream: pending in its own slot, or stored
 unfoldable pub own_kept : Node → ℕ → List Kept
@@ -90,11 +87,11 @@ pub data IsRaising (s : Stream) (d : ℕ) : Letter → Type 0 where
 -- a driver may drive a request of a member, which holds no proposal and whose settled placement has a source
 pub record MayDrive (s : Scene) (n x requester : ℕ) (want : Want) : Type 0 where
   pub directory : has n (s.node n).directory ≡ true
-  pub requester : has requester (s.node n).members ≡ true
+  pub member : has requester (s.node n).members ≡ true
   pub opened : is_open (s.node n) ≡ true
   pub free : (entry (s.node n) x).proposal ≡ None
   pub sourced : is_some (source (entry (s.node n) x).place (s.node n).members) ≡ true
-  pub want : want ≡ Leave → (has requester (entry (s.node n) x).place.replicas ≡ true) × ((entry (s.node n) x).place.owner ≢ requester)
+  pub may_want : want ≡ Leave → (has requester (entry (s.node n) x).place.replicas ≡ true) × ((entry (s.node n) x).place.owner ≢ requester)
   pub ready : is_source (s.node n) (entry (s.node n) x).place ≡ true → unready_cause (s.node n) x ≡ None
 
 -- an arbiter may hold a proposal that it was sent, above its settled stamp, whose base is not, and not below what it holds
@@ -169,6 +166,6 @@ pub data Move (old new : Scene) : Type 0 where
       (new_writes (old.node n) (run_here (old.node n) c.tx).writes)) nothing → Move old new
 
 -- moves one after another
-pub data Moves (old new : Scene) : Type 0 where
-  none : Same old new → Moves old new
-  next : (mid : Scene) → Move old mid → Moves mid new → Moves old new
+pub data Moves : Scene → Scene → Type 0 where
+  none : (old new : Scene) → Same old new → Moves old new
+  next : (old mid new : Scene) → Move old mid → Moves mid new → Moves old new

@@ -1,5 +1,5 @@
 -- The world as the proofs see it: nodes by number, and all letters that were ever sent, whatever their links.
-use Rattle.std.specs.Prelude.{ℕ, suc, ◌≡◌, ◌≢◌, ◌-◌, ◌<◌, ◌≤◌, ◌==◌, Bool, true, false, List, [], ◌∷◌, ◌++◌, length, if◌then◌else◌, ◌⊎◌}
+use Rattle.std.specs.Prelude.{ℕ, ◌≡◌, ◌≢◌, ◌-◌, ◌<◌, ◌≤◌, true, false, List, [], ◌∷◌, ◌++◌, length, ◌⊎◌}
 use Rattle.zeus_base.specs.Nodes.{has, is_subset}
 use Rattle.zeus_base.specs.NodeLaws.{IsRising}
 use Rattle.zeus_base.specs.declared.config.Config.{Config}
@@ -37,11 +37,13 @@ IsLive s n = (s.node n).stopped ≡ false
 abbrev pub IsReceivable : Scene → ℕ → Letter → Type 0
 IsReceivable s n l = (l.to ≡ n) × (l.epoch ≡ (s.node n).epoch) × In l s.letters
 
--- what a node's number says of it: it is its own, and its directory is the configuration's
+-- a live node is one of the configuration, knows its number, directory and degree, and is in one of the epochs, with its members
 pub record IsNumbered (s : Scene) : Type 0 where
+  pub within : (n : ℕ) → IsLive s n → n < s.config.nodes
   pub me : (n : ℕ) → IsLive s n → (s.node n).me ≡ n
   pub directory : (n : ℕ) → IsLive s n → (s.node n).directory ≡ s.config.directory
   pub degree : (n : ℕ) → IsLive s n → (s.node n).degree ≡ s.config.degree
+  pub epoch : (n : ℕ) → IsLive s n → (1 ≤ (s.node n).epoch) × ((s.node n).epoch ≤ length s.views)
   pub members : (n : ℕ) → IsLive s n → (s.node n).members ≡ view s (s.node n).epoch
 
 -- the letters stay, and each new one is allowed
