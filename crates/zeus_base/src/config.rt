@@ -96,3 +96,20 @@ pub struct Config {
     pub degree: Option<u8>,
     pub objects: ObjectList,
 }
+
+impl Config {
+    ghost use Rattle.zeus_base.specs.Limits.{KeepsLimits, limits_of};
+
+    /// The ranges that the numbers of a packet keep under this configuration.
+    pub fn limits(&self) -> Limits
+        requires { KeepsLimits self.now }
+        ensures { result ≡ limits_of self.now }
+    {
+        Limits {
+            version: self.version,
+            nodes: self.nodes,
+            slots: self.slots,
+            objects: self.objects.len() as u16,
+        }
+    }
+}
