@@ -4,7 +4,7 @@ use Rattle.zeus_base.specs.Nodes.{has}
 use Rattle.zeus_base.specs.Order.{is_below}
 use Rattle.zeus_packet.specs.declared.letter.State.TheVariants.{Valid}
 use Rattle.zeus_packet.specs.declared.place.Place.{Place}
-use Rattle.zeus_packet.specs.declared.write.Content.{Content}
+use Rattle.zeus_txn.specs.declared.map.Versioned.{Versioned}
 use Rattle.zeus_txn.specs.declared.ops.Op.{Op}
 use Rattle.zeus_txn.specs.declared.reply.Reply.{Reply}
 use Rattle.zeus_model.specs.declared.state.Copy.{Copy}
@@ -49,7 +49,7 @@ replies_of [] = []
 replies_of (p ∷ ps) = p.reply ∷ replies_of ps
 
 -- what the history leaves of an object
-abbrev pub left : World → ℕ → Content
+abbrev pub left : World → ℕ → Versioned
 left w x = content (serial_map (start_map w.config) (history_txs w w.book.points)) x
 
 -- how often a transaction stands in the history
@@ -69,7 +69,7 @@ pub record IsOneHistory (w : World) : Type 0 where
   pub complete : (id : ℕ) → is_some (record_of w.book id).acked ≡ true → 1 ≤ times id w.book.points
 
 -- a copy is not older than what the history leaves, and where it is valid or of that version it is just that
-pub record IsUpToDate (c : Copy) (left : Content) : Type 0 where
+pub record IsUpToDate (c : Copy) (left : Versioned) : Type 0 where
   pub not_older : left.ver ≤ c.ver
   pub valid : c.state ≡ Valid → (c.ver ≡ left.ver) × (c.value ≡ left.value)
   pub same : c.ver ≡ left.ver → c.value ≡ left.value

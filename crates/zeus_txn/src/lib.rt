@@ -2,11 +2,13 @@
 #![tactic(auto)]
 
 mod lists;
+mod map;
 mod ops;
 mod reply;
 mod tx;
 
 pub use lists::{Named, NewValues, Values};
+pub use map::{Map, Versioned};
 pub use ops::Op;
 pub use reply::{Ran, Reply};
 pub use tx::{Tx, TxDecl, TxFault, TxList};
