@@ -6,6 +6,6 @@ mod place;
 mod write;
 
 pub use letter::{Body, Cause, Letter, Packet, RInv, State};
-pub use place::{Place, Proposal, View, Want};
+pub use place::{Place, Proposal, View, Want, arbiters, new_place, source};
 pub use write::{Content, Write, Writes};
 pub use zeus_base::{NodeId, NodeSet, ObjId, SlotId, Stamp, Stream, Value};
