@@ -92,6 +92,12 @@ pub record IsChosen (o : Object) (p : Proposal) (e : ℕ) : Type 0 where
   pub source : (s : ℕ) × IsSource o e p.base_place s
   pub acked : (a : ℕ) → IsArbiter o e p.base_place a → HasAcked o a p e
 
+-- a live node owns the object: its settled placement names it as owner, and it holds no proposal
+pub record IsOwner (o : Object) (n : ℕ) : Type 0 where
+  pub live : IsLive o n
+  pub free : (o.entry n).proposal ≡ None
+  pub owner : (o.entry n).place.owner ≡ n
+
 -- an arbiter has not acknowledged the stamp in the epoch and never will, since it is stopped, past the epoch, or holds a greater one
 abbrev pub IsBlocker : Object → Stamp → ℕ → ℕ → Type 0
 IsBlocker o t e a =
