@@ -1,0 +1,13 @@
+pub mod In
+pub mod Tables
+pub mod State
+pub mod Act
+pub mod Commit
+pub mod Ownership
+pub mod Local
+pub mod Membership
+pub mod Receive
+pub mod Book
+pub mod World
+pub mod Serial
+pub mod Sound

@@ -1,13 +1,8 @@
-// A library with one function.
+//! The protocol machine: the data of a node's state, the answers, and in `specs/` the definitions of every rule.
 #![tactic(auto)]
 
-ghost use Rattle.std.specs.Prelude.{◌≡◌};
-ghost use Rattle.zeus_model.specs.Echo.{echo_of};
+mod answer;
+mod state;
 
-// The `ensures` clause is the contract: what `echo` returns is `echo_of` of its argument, a definition
-// in `specs/Echo.antt`, which a caller's clause can cite too.
-pub fn echo(x: usize) -> usize
-    ensures { result ≡ echo_of x }
-{
-    x
-}
+pub use answer::{Answer, Begin, Install, Made, Outcome, Stop, Ticked, Tried};
+pub use state::{Copy, Current, Entry, Gather, Kept, Pending};

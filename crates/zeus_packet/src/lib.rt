@@ -1,13 +1,11 @@
-// A library with one function.
+//! Views, placements, proposals, letters and packets: what nodes send to each other.
 #![tactic(auto)]
 
-ghost use Rattle.std.specs.Prelude.{◌≡◌};
-ghost use Rattle.zeus_packet.specs.Echo.{echo_of};
+mod letter;
+mod place;
+mod write;
 
-// The `ensures` clause is the contract: what `echo` returns is `echo_of` of its argument, a definition
-// in `specs/Echo.antt`, which a caller's clause can cite too.
-pub fn echo(x: usize) -> usize
-    ensures { result ≡ echo_of x }
-{
-    x
-}
+pub use letter::{Body, Cause, Letter, Packet, RInv, State};
+pub use place::{Place, Proposal, View, Want};
+pub use write::{Content, Write, Writes};
+pub use zeus_base::{NodeId, NodeSet, ObjId, SlotId, Stamp, Stream, Value};

@@ -1,0 +1,4 @@
+pub mod Map
+pub mod Ops
+pub mod Run
+pub mod Tx

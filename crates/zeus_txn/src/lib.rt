@@ -1,13 +1,15 @@
-// A library with one function.
+//! Transactions: their operations, what they reply and write, and the store that one thread runs them on.
 #![tactic(auto)]
 
-ghost use Rattle.std.specs.Prelude.{◌≡◌};
-ghost use Rattle.zeus_txn.specs.Echo.{echo_of};
+mod lists;
+mod map;
+mod ops;
+mod reply;
+mod tx;
 
-// The `ensures` clause is the contract: what `echo` returns is `echo_of` of its argument, a definition
-// in `specs/Echo.antt`, which a caller's clause can cite too.
-pub fn echo(x: usize) -> usize
-    ensures { result ≡ echo_of x }
-{
-    x
-}
+pub use lists::{Named, NewValues, Values};
+pub use map::{Map, Versioned};
+pub use ops::Op;
+pub use reply::{Ran, Reply};
+pub use tx::{Tx, TxDecl, TxFault, TxList};
+pub use zeus_base::{NoMemory, NodeId, ObjId, SlotId, TxId, Value};
