@@ -3,3 +3,7 @@ pub mod Arbiters
 pub mod Chain
 pub mod Choice
 pub mod Owner
+pub mod Grows
+pub mod Letters
+pub mod Quiet
+pub mod Speaks
