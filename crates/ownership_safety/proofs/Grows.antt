@@ -11,36 +11,11 @@ use Rattle.zeus_packet.specs.declared.place.Place.{Place}
 use Rattle.zeus_packet.specs.declared.place.Proposal.{Proposal}
 use Rattle.zeus_packet.specs.declared.write.Content.{Content}
 use Rattle.zeus_model.specs.Tables.{nth}
-use Rattle.ownership_safety.specs.Object.{Object, Letter, Invalidates, Acknowledges, In, IsView, IsLive, IsMember, IsSource, IsArbiter, IsSaid, HasAcked, HasAckedStamp, IsChosen, IsBlocked, view, rank, no_proposal, chain_stamp, chain_place, place_at}
+use Rattle.ownership_safety.specs.Object.{Object, Invalidates, Acknowledges, IsView, IsMember, IsSource, IsArbiter, IsSaid, HasAcked, HasAckedStamp, IsChosen, IsBlocked, rank, no_proposal, chain_stamp, chain_place, place_at}
 use Rattle.ownership_safety.specs.Moves.{SameOthers}
 use Rattle.ownership_safety.specs.Ordered.{IsProposal, IsAck, IsLink, IsDecided}
+use Rattle.ownership_safety.specs.Kept.{Grows}
 use Rattle.ownership_safety.proofs.Basics.{nth-append}
-
--- the node is live and in this epoch
-pub record IsSpeaker (o : Object) (n e : ℕ) : Type 0 where
-  pub live : IsLive o n
-  pub epoch : o.epoch n ≡ e
-
--- the node is live, in this epoch, and its rank is not above the stamp
-pub record IsVoter (o : Object) (n : ℕ) (p : Proposal) (e : ℕ) : Type 0 where
-  pub live : IsLive o n
-  pub epoch : o.epoch n ≡ e
-  pub rank : is_below p.stamp (rank o n) ≡ false
-
-pub record Grows (old new : Object) : Type 0 where
-  pub directory : new.directory ≡ old.directory
-  pub declared : new.declared ≡ old.declared
-  pub viewed : (e : ℕ) → IsView old e → IsView new e
-  pub views : (e : ℕ) → IsView old e → view new e ≡ view old e
-  pub stopped : (n : ℕ) → old.stopped n ≡ true → new.stopped n ≡ true
-  pub epoch : (n : ℕ) → old.epoch n ≤ new.epoch n
-  pub rank : (n : ℕ) → is_below (rank new n) (rank old n) ≡ false
-  pub settled : (n : ℕ) → is_below (new.entry n).stamp (old.entry n).stamp ≡ false
-  pub letters : (l : Letter) → In l old.letters → In l new.letters
-  pub invalidations : (from to e : ℕ) (p : Proposal) → In (Invalidates from to e p) new.letters
-      → In (Invalidates from to e p) old.letters ⊎ IsSpeaker old from e
-  pub acks : (from to e : ℕ) (p : Proposal) (c : Option Content) → In (Acknowledges from to e p c) new.letters
-      → In (Acknowledges from to e p c) old.letters ⊎ IsVoter old from p e
 
 -- a chain that begins with the other
 pub record Extends (chain longer : List Proposal) : Type 0 where

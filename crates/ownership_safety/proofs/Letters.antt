@@ -10,7 +10,8 @@ use Rattle.zeus_model.specs.Tables.{nth}
 use Rattle.ownership_safety.specs.Object.{Object, Invalidates, Acknowledges, In, IsView, IsLive, IsMember, HasAcked, view, rank}
 use Rattle.ownership_safety.specs.Ordered.{Ordered, IsViewed}
 use Rattle.ownership_safety.proofs.Chain.{ack-rank, ack-epoch}
-use Rattle.ownership_safety.proofs.Grows.{Grows, member-grows}
+use Rattle.ownership_safety.specs.Kept.{Grows}
+use Rattle.ownership_safety.proofs.Grows.{member-grows}
 
 module _ (old new : Object) (grows : Grows old new) where
   pub live-back : (n : ℕ) → IsLive new n → IsLive old n

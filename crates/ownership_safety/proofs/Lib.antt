@@ -7,3 +7,7 @@ pub mod Grows
 pub mod Letters
 pub mod Quiet
 pub mod Speaks
+pub mod KeepsViews
+pub mod KeepsSpeech
+pub mod KeepsGathers
+pub mod KeepsSettled

@@ -12,7 +12,8 @@ use Rattle.ownership_safety.specs.Object.{Object, Invalidates, Acknowledges, Val
 use Rattle.ownership_safety.specs.Ordered.{Ordered, IsViewed, IsProposal, IsAck, IsHeld, IsGather, IsLink, IsDecided, IsLesser}
 use Rattle.ownership_safety.proofs.Basics.{lesser-epoch}
 use Rattle.ownership_safety.proofs.Chain.{said-viewed}
-use Rattle.ownership_safety.proofs.Grows.{Grows, Extends, arbiter-grows, acked-grows, proposal-grows, ack-grows, link-grows, blocked-grows}
+use Rattle.ownership_safety.specs.Kept.{Grows}
+use Rattle.ownership_safety.proofs.Grows.{Extends, arbiter-grows, acked-grows, proposal-grows, ack-grows, link-grows, blocked-grows}
 use Rattle.ownership_safety.proofs.Letters.{ack_order-grows}
 
 pub record Quiet (old new : Object) : Type 0 where

@@ -13,24 +13,25 @@ use Rattle.ownership_safety.specs.Object.{Object, Invalidates, Acknowledges, Val
 use Rattle.ownership_safety.specs.Moves.{Acts, Sends, IsAboutProposal, IsAsSource, to_arbiter, to_collector}
 use Rattle.ownership_safety.specs.Ordered.{Ordered, IsViewed, IsProposal, IsAck, IsHeld, IsGather, IsDecided, IsLesser}
 use Rattle.ownership_safety.proofs.Chain.{entry_rank-some}
-use Rattle.ownership_safety.proofs.Grows.{Grows, IsSpeaker, IsVoter, Extends-refl, each_node, rank-not_below, settled-not_below, stopped-kept, epoch-kept, arbiter-grows, proposal-grows, ack-grows, link-grows, decided-grows, source-grows, source-back, member-back}
+use Rattle.ownership_safety.specs.Kept.{Grows, IsSpeaker, IsVoter}
+use Rattle.ownership_safety.proofs.Grows.{Extends-refl, each_node, rank-not_below, settled-not_below, stopped-kept, epoch-kept, arbiter-grows, proposal-grows, ack-grows, link-grows, decided-grows, source-grows, source-back, member-back}
 use Rattle.ownership_safety.proofs.Letters.{ack_order-grows, viewed-grows, live-back}
 use Rattle.ownership_safety.proofs.Quiet.{blocks-kept, held-grows, gather-grows}
 
 -- ---- the letters about a proposal
 
-record IsNewInvalidation (o : Object) (n : ℕ) (p : Proposal) (from to e : ℕ) (q : Proposal) : Type 0 where
-  from_node : from ≡ n
-  epoch : e ≡ o.epoch n
-  proposal : q ≡ p
-  arbiter : IsArbiter o (o.epoch n) p.base_place to
+pub record IsNewInvalidation (o : Object) (n : ℕ) (p : Proposal) (from to e : ℕ) (q : Proposal) : Type 0 where
+  pub from_node : from ≡ n
+  pub epoch : e ≡ o.epoch n
+  pub proposal : q ≡ p
+  pub arbiter : IsArbiter o (o.epoch n) p.base_place to
 
-record IsNewAcknowledgement (o : Object) (n : ℕ) (p : Proposal) (from to e : ℕ) (q : Proposal) (c : Option Content) : Type 0 where
-  from_node : from ≡ n
-  epoch : e ≡ o.epoch n
-  proposal : q ≡ p
-  to_requester : IsMember o (o.epoch n) p.requester → to ≡ p.requester
-  content : IsAsSource o n p c
+pub record IsNewAcknowledgement (o : Object) (n : ℕ) (p : Proposal) (from to e : ℕ) (q : Proposal) (c : Option Content) : Type 0 where
+  pub from_node : from ≡ n
+  pub epoch : e ≡ o.epoch n
+  pub proposal : q ≡ p
+  pub to_requester : IsMember o (o.epoch n) p.requester → to ≡ p.requester
+  pub content : IsAsSource o n p c
 
 about-invalidation : (o : Object) (n : ℕ) (p : Proposal) (from to e : ℕ) (q : Proposal) → IsAboutProposal o n p (Invalidates from to e q) → IsNewInvalidation o n p from to e q
 about-invalidation o n p from to e q (inl (to_arbiter _ arbiter)) = record { from_node = refl; epoch = refl; proposal = refl; arbiter = arbiter }
@@ -73,14 +74,14 @@ module _ (old new : Object) (n : ℕ) (p : Proposal) (says : Says old new n p) w
   pub says-rank : rank new n ≡ p.stamp
   says-rank = entry_rank-some (new.entry n).stamp (new.entry n).proposal p says.held
 
-  says-invalidations : (from to e : ℕ) (q : Proposal) → In (Invalidates from to e q) new.letters → In (Invalidates from to e q) old.letters ⊎ IsNewInvalidation old n p from to e q
+  pub says-invalidations : (from to e : ℕ) (q : Proposal) → In (Invalidates from to e q) new.letters → In (Invalidates from to e q) old.letters ⊎ IsNewInvalidation old n p from to e q
   says-invalidations from to e q m =
       elim (says.sends.only (Invalidates from to e q) m) [
         | inl before ↦ inl before
         | inr now ↦ inr (about-invalidation old n p from to e q now)
       ]
 
-  says-acks : (from to e : ℕ) (q : Proposal) (c : Option Content) → In (Acknowledges from to e q c) new.letters → In (Acknowledges from to e q c) old.letters ⊎ IsNewAcknowledgement old n p from to e q c
+  pub says-acks : (from to e : ℕ) (q : Proposal) (c : Option Content) → In (Acknowledges from to e q c) new.letters → In (Acknowledges from to e q c) old.letters ⊎ IsNewAcknowledgement old n p from to e q c
   says-acks from to e q c m =
       elim (says.sends.only (Acknowledges from to e q c) m) [
         | inl before ↦ inl before
