@@ -11,3 +11,5 @@ pub mod KeepsViews
 pub mod KeepsSpeech
 pub mod KeepsGathers
 pub mod KeepsSettled
+pub mod Received
+pub mod Start

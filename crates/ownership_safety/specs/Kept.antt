@@ -1,12 +1,26 @@
 -- What moves leave of an object, and what a decision makes of the chain.
-use Rattle.std.specs.Prelude.{ℕ, suc, ◌≡◌, ◌≢◌, ◌<◌, ◌≤◌, true, false, List, [], ◌∷◌, ◌++◌, length, Option, ◌⊎◌}
+use Rattle.std.specs.Prelude.{ℕ, suc, ◌≡◌, ◌≢◌, ◌<◌, ◌≤◌, true, false, List, [], ◌∷◌, ◌++◌, length, Option, None, ◌⊎◌}
+use Rattle.zeus_base.specs.Nodes.{has}
+use Rattle.zeus_base.specs.NodeLaws.{IsRising}
 use Rattle.zeus_base.specs.Order.{is_below}
 use Rattle.zeus_packet.specs.declared.place.Proposal.{Proposal}
 use Rattle.zeus_packet.specs.declared.write.Content.{Content}
 use Rattle.zeus_model.specs.Tables.{nth}
-use Rattle.ownership_safety.specs.Object.{Object, Letter, Invalidates, Acknowledges, In, IsView, IsLive, view, rank, no_proposal, chain_stamp, latest}
+use Rattle.ownership_safety.specs.Object.{Object, Letter, Invalidates, Acknowledges, In, IsView, IsLive, view, rank, no_proposal, first_stamp, chain_stamp, latest}
 use Rattle.ownership_safety.specs.Moves.{Settles}
-use Rattle.ownership_safety.specs.Ordered.{Ordered}
+use Rattle.ownership_safety.specs.Ordered.{Ordered, IsPlaced}
+
+-- an object in the beginning: one view, nothing said or gathered, and each node has settled the declared placement
+pub record IsStart (o : Object) : Type 0 where
+  pub declared : IsPlaced o.declared
+  pub members : List ℕ
+  pub rising : IsRising members
+  pub views : o.views ≡ members ∷ []
+  pub letters : o.letters ≡ []
+  pub entry : (n : ℕ) → o.entry n ≡ record { stamp = first_stamp; place = o.declared; proposal = None }
+  pub gather : (n : ℕ) → o.gather n ≡ None
+  pub epoch : (n : ℕ) → IsLive o n → o.epoch n ≡ 1
+  pub member : (n : ℕ) → IsLive o n → has n members ≡ true
 
 -- the node is live and in this epoch
 pub record IsSpeaker (o : Object) (n e : ℕ) : Type 0 where
