@@ -133,10 +133,7 @@ module _ (old new : Object) (n : ℕ) (p : Proposal) (accepts : Accepts old new 
         held = ap (λ (x : Entry). x.proposal) accepts.entry;
         not_above = rank-not_above p.stamp (old.entry n).stamp (old.entry n).proposal accepts.below accepts.greatest;
         gather = accepts.gather;
-        sends = record {
-          kept = accepts.sends.kept;
-          only = λ l m. elim (accepts.sends.only l m) [ inl before ↦ inl before | inr now ↦ inr (inr now) ];
-        };
+        sends = accepts.sends;
       }
 
   pub grows_Accepts : Grows old new
