@@ -54,6 +54,18 @@ settle-other n x y stamp place h ne = record {
   gather = ap (λ (k : Node). gather k y) (settle-taken n x stamp place h) ∙ nth-put_other None n.gathers x y (gather_above stamp (gather n x)) ne;
 }
 
+settle-not : (n : Node) (x : ℕ) (stamp : Stamp) (place : Place) → is_below (entry n x).stamp stamp ≡ false → settle n x stamp place ≡ n
+unfolding settle
+settle-not n x stamp place h = rw h refl
+
+-- whether or not it settles, another object sees nothing
+pub settle-away : (n : Node) (x y : ℕ) (stamp : Stamp) (place : Place) → x ≢ y → IsQuiet n (settle n x stamp place) y
+settle-away n x y stamp place ne =
+    elim (cases_Bool (is_below (entry n x).stamp stamp)) [
+      | inl above ↦ settle-other n x y stamp place above ne
+      | inr not_above ↦ rw (settle-not n x stamp place not_above) record { stopped = refl; epoch = refl; entry = refl; gather = refl }
+    ]
+
 pub holding-entry : (n : Node) (x : ℕ) (p : Proposal)
     → entry (holding n x p) x ≡ record { stamp = (entry n x).stamp; place = (entry n x).place; proposal = Some p }
 holding-entry n x p = nth-put_same no_entry n.entries x record { stamp = (entry n x).stamp; place = (entry n x).place; proposal = Some p }

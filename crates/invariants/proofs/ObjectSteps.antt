@@ -59,7 +59,7 @@ about_proposal-other n x y p l m ne (to_collector to h r) i =
         only_about-from y x m (Acknowledges n.me to n.epoch p (own_content n x p.base_place)) i in
     ne found.0
 
-is_node-some : (o : Option ℕ) (n : ℕ) → is_node o n ≡ true → o ≡ Some n
+pub is_node-some : (o : Option ℕ) (n : ℕ) → is_node o n ≡ true → o ≡ Some n
 unfolding is_node
 is_node-some None n h = cc
 is_node-some (Some m) n h = let e : m ≡ n = grind (arith, nat_tests) in ap (λ (k : ℕ). Some k) e
