@@ -329,6 +329,7 @@ module _ (old new : Object) (chain : List Proposal) (ordered : Ordered old chain
     decides-first : IsFirst old new chain n g.proposal
     decides-first =
         record {
+          last = last;
           ver = first-next;
           base = first-base;
           base_place = first-base_place;

@@ -13,3 +13,4 @@ pub mod KeepsGathers
 pub mod KeepsSettled
 pub mod Received
 pub mod Start
+pub mod Reached

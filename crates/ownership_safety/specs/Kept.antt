@@ -60,6 +60,7 @@ pub record IsAgain (old new : Object) (chain : List Proposal) (n : ℕ) (p : Pro
 
 -- the first decision of a proposal: it stands on the latest placement, and makes the chain one longer
 pub record IsFirst (old new : Object) (chain : List Proposal) (n : ℕ) (p : Proposal) : Type 0 where
+  pub last : p.base.ver ≡ length chain
   pub ver : p.stamp.ver ≡ suc (length chain)
   pub base : p.base ≡ chain_stamp chain (length chain)
   pub base_place : p.base_place ≡ latest old chain

@@ -2,3 +2,4 @@ pub mod Object
 pub mod Moves
 pub mod Ordered
 pub mod Kept
+pub mod Run
