@@ -3,3 +3,4 @@ pub mod Frames
 pub mod ObjectMoves
 pub mod ObjectSteps
 pub mod ObjectSeen
+pub mod ObjectKeeps
