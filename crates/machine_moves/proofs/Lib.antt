@@ -2,3 +2,4 @@ pub mod Lists
 pub mod Links
 pub mod Within
 pub mod Steady
+pub mod Reach
