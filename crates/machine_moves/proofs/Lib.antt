@@ -3,3 +3,4 @@ pub mod Links
 pub mod Within
 pub mod Steady
 pub mod Reach
+pub mod Passing

@@ -179,3 +179,25 @@ cut_tells s n k sent live fair = tells_reaches s n (take k sent) live (λ l i. f
 pub cut_then : (s : Scene) (n k : ℕ) (m after : Node) (a b : List Letter) → IsReady s n → Reaches s n m (take k a) → ((t : Scene) (j : ℕ) → IsReady t n → Became s t n m (take k a) → Reaches t n after (take j b)) → Reaches s n after (take k (a ++ b))
 cut_then s n k m after a b ready r on =
     rw (take-append k a b) (then_reaches s n m after (take k a) (take (k - length a) b) ready r (λ t rt b. on t (k - length a) rt b))
+
+-- a node's letters at a scene where it is known what it has become
+pub tells_at : (t : Scene) (n k : ℕ) (m : Node) (sent : List Letter) → IsLive t n → t.node n ≡ m → ((l : Letter) → In l sent → IsTellable m l) → Reaches t n m (take k sent)
+tells_at t n k m sent live is fair =
+    (subst (λ (x : Node). ((l : Letter) → In l sent → IsTellable x l) → Reaches t n x (take k sent)) is (λ f. cut_tells t n k sent live f)) fair
+
+-- quiet moves, and then letters
+pub quiet_then_tells : (s : Scene) (n k : ℕ) (m : Node) (sent : List Letter) → IsReady s n → Reaches s n m [] → ((l : Letter) → In l sent → IsTellable m l) → Reaches s n m (take k sent)
+quiet_then_tells s n k m sent ready r fair =
+    then_reaches s n m m [] (take k sent) ready r (λ t rt b. tells_at t n k m sent rt.live b.node fair)
+
+-- one act, and then another
+pub act_then : (s : Scene) (n k : ℕ) (a : Act) (g : Node → Act) → IsReady s n → Reached s n k a → ((t : Scene) (j : ℕ) → IsReady t n → Keeps (s.node n) (t.node n) → Reached t n j (g (t.node n))) → Reached s n k (joined a (g a.node))
+act_then s n k a g ready r on =
+    cut_then s n k a.node (g a.node).node a.sent (g a.node).sent ready r
+    (λ t j rt b. subst (λ (m : Node). Reaches t n (g m).node (take j (g m).sent)) b.node (on t j rt (let keeps = r.keeps in rw (b.node) keeps)))
+
+-- an answer, and then an act
+pub did_then_reaches : {A : Type 0} (s : Scene) (n k : ℕ) (d : Did A) (g : Node → Act) → IsReady s n → Answered s n k d → ((t : Scene) (j : ℕ) → IsReady t n → Reached t n j (g (t.node n))) → Answered s n k (did_joined d (g d.node))
+did_then_reaches s n k d g ready r on =
+    cut_then s n k d.node (g d.node).node d.sent (g d.node).sent ready r
+    (λ t j rt b. subst (λ (m : Node). Reaches t n (g m).node (take j (g m).sent)) b.node (on t j rt))
