@@ -4,3 +4,4 @@ pub mod Within
 pub mod Steady
 pub mod Reach
 pub mod Passing
+pub mod Finish

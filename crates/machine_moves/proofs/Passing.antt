@@ -173,3 +173,94 @@ pub advance_own-reached : (s : Scene) (n i k : ℕ) → IsReady s n → Reached 
 unfolding advance_own own_kept
 advance_own-reached s n i k ready =
     advance_own_by-reached s n i k (passing (s.node n) (map as_kept (slot (s.node n) i).pending)) ready (omega arith)
+
+-- ---- a stream whose node is no member
+
+pass_kept-log : (m : Node) (t : Stream) (k : ℕ) → log (pass_kept m t k) t ≡ record { done = (log m t).done + k; kept = drop k (log m t).kept }
+pass_kept-log m t k = log-with_log_same m t record { done = (log m t).done + k; kept = drop k (log m t).kept }
+
+node_with_logs : (m : Node) (c d : List (Option Copy)) (a b : List (List StreamLog)) → c ≡ d → a ≡ b → ◌≡◌ {A = Node} (record m { copies = c; logs = a }) (record m { copies = d; logs = b })
+node_with_logs m c d a b e h = λ j. record m { copies = e j; logs = h j }
+
+-- entries of a log that is given pass
+abbrev pass_kept_of : Node → Stream → StreamLog → ℕ → Node
+pass_kept_of m t l k =
+    record m {
+      copies = each_write validated m.copies (writes_of (take k l.kept));
+      logs = put [] m.logs t.node (put no_log (nth [] m.logs t.node) t.slot record { done = l.done + k; kept = drop k l.kept });
+    }
+
+logs-put : (logs : List (List StreamLog)) (node slot : ℕ) (a b : StreamLog) → put [] (put [] logs node (put no_log (nth [] logs node) slot a)) node (put no_log (nth [] (put [] logs node (put no_log (nth [] logs node) slot a)) node) slot b) ≡ put [] logs node (put no_log (nth [] logs node) slot b)
+logs-put logs node slot a b = rw (nth-put_same [] logs node (put no_log (nth [] logs node) slot a), put-put, put-put) refl
+
+log-more : (l : StreamLog) (k : ℕ) → ◌≡◌ {A = StreamLog} (record { done = l.done + 1 + k; kept = drop k (drop 1 l.kept) }) (record { done = l.done + suc k; kept = drop (suc k) l.kept })
+log-more l k = let sum : l.done + 1 + k ≡ l.done + suc k = omega arith in rw (sum, drop-more k l.kept) refl
+
+pass_kept_of-more : (m : Node) (t : Stream) (l : StreamLog) (k : ℕ) → pass_kept_of (pass_kept_of m t l 1) t record { done = l.done + 1; kept = drop 1 l.kept } k ≡ pass_kept_of m t l (suc k)
+pass_kept_of-more m t l k =
+    node_with_logs m _ _ _ _ (copies-more m.copies k l.kept)
+    (logs-put m.logs t.node t.slot record { done = l.done + 1; kept = drop 1 l.kept } record { done = l.done + 1 + k; kept = drop k (drop 1 l.kept) }
+    ∙ ap (λ (b : StreamLog). put [] m.logs t.node (put no_log (nth [] m.logs t.node) t.slot b)) (log-more l k))
+
+pub pass_kept-more : (m : Node) (t : Stream) (k : ℕ) → pass_kept (pass_kept m t 1) t k ≡ pass_kept m t (suc k)
+pass_kept-more m t k = ap (λ (l : StreamLog). pass_kept_of (pass_kept m t 1) t l k) (pass_kept-log m t 1) ∙ pass_kept_of-more m t (log m t) k
+
+-- a live node is a member of its view, so a node that is no member is another
+pub self_member : (s : Scene) (n : ℕ) → IsReady s n → has n (s.node n).members ≡ true
+self_member s n ready =
+    let k = known s n ready in
+    let m = s.node n in
+    rw (k.members) (k.everywhere m.epoch k.first k.made)
+
+pub outsider_other : (s : Scene) (n k : ℕ) → IsReady s n → has k (s.node n).members ≡ false → k ≢ n
+outsider_other s n k ready out same =
+    let some : has n (s.node n).members ≡ true = self_member s n ready in
+    let none : has n (s.node n).members ≡ false = rw same at out in
+    absurd cc
+
+kept_pass : (s : Scene) (n : ℕ) (t : Stream) → IsReady s n → has t.node (s.node n).members ≡ false → 1 ≤ front (passes (s.node n)) (log (s.node n) t).kept → Reaches s n (pass_kept (s.node n) t 1) []
+kept_pass s n t ready out h =
+    let m = s.node n in
+    let first = front-parts (passes m) no_kept (log m t).kept 0 h in
+    quiet_reaches s n (pass_kept m t 1) ready.live (Keeps-pass_kept m t 1) (λ ch. passes_kept n t out (outsider_other s n t.node ready out) first.0 first.1 ch)
+
+kept_front : (m : Node) (t : Stream) (c : ℕ) → suc (suc c) ≤ front (passes m) (log m t).kept → suc c ≤ front (passes (pass_kept m t 1)) (log (pass_kept m t 1) t).kept
+unfolding passes
+kept_front m t c h = rw (pass_kept-log m t 1) (front-parts (passes m) no_kept (log m t).kept (suc c) h).2
+
+-- its entries pass one after another
+pub kept_passes : (c : ℕ) (s : Scene) (n : ℕ) (t : Stream) → IsReady s n → has t.node (s.node n).members ≡ false → suc c ≤ front (passes (s.node n)) (log (s.node n) t).kept → Reaches s n (pass_kept (s.node n) t (suc c)) []
+kept_passes zero s n t ready out h = kept_pass s n t ready out h
+kept_passes (suc c) s n t ready out h =
+    let m = s.node n in
+    then_reaches s n (pass_kept m t 1) (pass_kept m t (suc (suc c))) [] [] ready (kept_pass s n t ready out (omega arith))
+    (λ u ru b.
+      rw (← pass_kept-more m t (suc c))
+      (subst (λ (x : Node). has t.node x.members ≡ false → suc c ≤ front (passes x) (log x t).kept → Reaches u n (pass_kept x t (suc c)) []) b.node (kept_passes c u n t ru) out (kept_front m t c h)))
+
+kept_telling : (m : Node) (t : Stream) (k : ℕ) → has t.node m.members ≡ false → t.node ≢ m.me → (l : Letter) → In l (told (pass_kept m t k) t (log m t).done (take k (log m t).kept)).sent → IsTellable (pass_kept m t k) l
+kept_telling m t k out foreign =
+    let after = pass_kept m t k in
+    let ks = take k (log m t).kept in
+    let tos = without m.me (meet (followers_of ks) m.members) in
+    let most : length ks ≤ k = length-take_most k (log m t).kept in
+    let le : (log m t).done + length ks ≤ (log after t).done = rw (pass_kept-log m t k) (omega arith) in
+    let member : (to : ℕ) → has to tos ≡ true → has to m.members ≡ true = λ to h. meet-right to (followers_of ks) m.members (without-member to m.me (meet (followers_of ks) m.members) h) in
+    to_each-each (IsTellable after) after tos (RVal t ((log m t).done + length ks)) (λ to h. kept_passed to ((log m t).done + length ks) t foreign le (other_member to t.node m.members (member to h) out))
+  where
+    other_member : (a b : ℕ) (ms : List ℕ) → has a ms ≡ true → has b ms ≡ false → a ≢ b
+    other_member a b ms some none same = let other : has b ms ≡ true = rw same at some in absurd cc
+
+advance_kept_by-reached : (s : Scene) (n : ℕ) (t : Stream) (k c : ℕ) → IsReady s n → has t.node (s.node n).members ≡ false → c ≤ front (passes (s.node n)) (log (s.node n) t).kept → Reached s n k (advance_kept_by (s.node n) t c)
+unfolding advance_kept_by
+advance_kept_by-reached s n t k zero ready out h = cut_none s n (s.node n) k (still_reaches s n)
+advance_kept_by-reached s n t k (suc c) ready out h =
+    let me = known s n ready in
+    let foreign : t.node ≢ (s.node n).me = rw (me.me) (outsider_other s n t.node ready out) in
+    quiet_then_tells s n k (pass_kept (s.node n) t (suc c)) _ ready (kept_passes c s n t ready out h) (kept_telling (s.node n) t (suc c) out foreign)
+
+-- a stream whose node is no member advances
+pub advance_kept-reached : (s : Scene) (n : ℕ) (t : Stream) (k : ℕ) → IsReady s n → has t.node (s.node n).members ≡ false → Reached s n k (advance_kept (s.node n) t)
+unfolding advance_kept
+advance_kept-reached s n t k ready out =
+    advance_kept_by-reached s n t k (passing (s.node n) (log (s.node n) t).kept) ready out (omega arith)
