@@ -5,3 +5,4 @@ pub mod Steady
 pub mod Reach
 pub mod Passing
 pub mod Finish
+pub mod Entries
