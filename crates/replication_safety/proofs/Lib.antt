@@ -1,0 +1,4 @@
+pub mod Basics
+pub mod Carries
+pub mod Same
+pub mod Views
