@@ -2,3 +2,4 @@ pub mod Basics
 pub mod Carries
 pub mod Same
 pub mod Views
+pub mod Reports
