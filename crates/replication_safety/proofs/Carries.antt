@@ -84,23 +84,28 @@ IsMember-before old new e n g v m =
     let same : view new e ≡ view old e = g.view e v in
     cc
 
+-- a witness stays one while it keeps the entry and says nothing
+pub witness-grows : (old new : Line) (e k : ℕ) → Grows old new → IsView old e → ((n : ℕ) → Has old n k → Has new n k)
+    → ((n : ℕ) → Has old n k → HasReported new n e → HasReported old n e) → IsWitnessed old e k → IsWitnessed new e k
+witness-grows old new e k g v stays silent w =
+    let same : view new e ≡ view old e = g.view e v in
+    let m : IsMember new e w.0 = rw same w.1 in
+    (w.0, m, λ here. w.2 (here ∙ g.home), stays w.0 w.3, λ r. w.4 (silent w.0 w.3 r))
+
 witness-stays : (old new : Line) (passed now e k : ℕ) → Carries old new passed now → IsView old e → IsOut old e old.home → now ≤ k → IsWitnessed old e k → IsWitnessed new e k
 witness-stays old new passed now e k c v out above w =
-    let same : view new e ≡ view old e = c.grows.view e v in
-    let home : new.home ≡ old.home = c.grows.home in
-    let m : IsMember new e w.0 = rw same w.1 in
-    (w.0, m, λ here. w.2 (here ∙ home), c.keeps.stays w.0 k above w.3, λ r. w.4 (c.says.silent w.0 e k v out w.3 r))
+    witness-grows old new e k c.grows v (λ n. c.keeps.stays n k above) (λ n. c.says.silent n e k v out) w
 
 -- ---- each field
 
-IsCopy-stays : (old new : Line) (passed now from to e k d : ℕ) (x : Entry) → Replicated old passed → Carries old new passed now
-    → In (Stores from to e k d x) old.letters → IsCopy new now to k d x
-IsCopy-stays old new passed now from to e k d x r c m =
-    let o : IsCopy old passed to k d x = r.copies from to e k d x m in
-    let home : new.home ≡ old.home = c.grows.home in
-    let ends : end old ≤ end new = rw (ap (λ (n : ℕ). top new n) home) (c.grows.top old.home) in
-    let rises : passed ≤ now = c.keeps.rises in
-    let dones : old.done old.home ≤ new.done new.home = rw home (c.grows.done old.home) in
+-- what holds of a letter with an entry holds on, where each entry that passes now is stored at its live followers
+pub IsCopy-grows : (old new : Line) (passed now to k d : ℕ) (x : Entry) → Grows old new → passed ≤ now
+    → (passed ≤ k → k < now → (g : ℕ) → IsLive new g → has g x.followers ≡ true → k < top new g)
+    → IsCopy old passed to k d x → IsCopy new now to k d x
+IsCopy-grows old new passed now to k d x grows rises first o =
+    let home : new.home ≡ old.home = grows.home in
+    let ends : end old ≤ end new = rw (ap (λ (n : ℕ). top new n) home) (grows.top old.home) in
+    let dones : old.done old.home ≤ new.done new.home = rw home (grows.done old.home) in
     record {
       follower = o.follower;
       foreign = rw home o.foreign;
@@ -108,11 +113,11 @@ IsCopy-stays old new passed now from to e k d x r c m =
       near = o.near;
       committed = omega (arith, o.committed);
       done_passed = omega (arith, o.done_passed);
-      same = λ h. o.same (omega arith) ∙ sym (c.grows.entry k h o.committed);
+      same = λ h. o.same (omega arith) ∙ sym (grows.entry k h o.committed);
       safe = λ h g live f.
           elim (cases_lt k passed) [
-            | inl before ↦ top-Holds new g k (omega (arith, c.grows.top g, Holds-top old g k (o.safe before g (c.grows.live g live) f)))
-            | inr now_passed ↦ top-Holds new g k (c.keeps.first from to e k d g x m now_passed h live f)
+            | inl before ↦ top-Holds new g k (omega (arith, grows.top g, Holds-top old g k (o.safe before g (grows.live g live) f)))
+            | inr now_passed ↦ top-Holds new g k (first now_passed h g live f)
           ];
     }
 
@@ -120,7 +125,10 @@ carried-copies : (old new : Line) (passed now from to e k d : ℕ) (x : Entry) �
     → In (Stores from to e k d x) new.letters → IsCopy new now to k d x
 carried-copies old new passed now from to e k d x r c m =
     elim (c.says.entries from to e k d x m) [
-      | inl before ↦ IsCopy-stays old new passed now from to e k d x r c before
+      | inl before ↦
+          IsCopy-grows old new passed now to k d x c.grows c.keeps.rises
+          (λ above below g. c.keeps.first from to e k d g x before above below)
+          (r.copies from to e k d x before)
       | inr told ↦ told.copy
     ]
 

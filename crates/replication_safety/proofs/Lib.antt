@@ -3,3 +3,4 @@ pub mod Carries
 pub mod Same
 pub mod Views
 pub mod Reports
+pub mod Letters
