@@ -4,3 +4,4 @@ pub mod Same
 pub mod Views
 pub mod Reports
 pub mod Letters
+pub mod Appends
