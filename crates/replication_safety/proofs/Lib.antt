@@ -5,3 +5,4 @@ pub mod Views
 pub mod Reports
 pub mod Letters
 pub mod Appends
+pub mod Drops
