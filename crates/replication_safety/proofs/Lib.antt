@@ -6,3 +6,4 @@ pub mod Reports
 pub mod Letters
 pub mod Appends
 pub mod Drops
+pub mod Consequences
