@@ -77,7 +77,7 @@ drops-kept_at old new n d m k s h =
       | inr other ↦ rw (s.acts.acts.others.done m other, s.acts.acts.others.kept m other)
     ]
 
-drops-kept : (old new : Line) (n d m k : ℕ) → Drops old new n d → Has new m k → WasKept old new m k
+pub drops-kept : (old new : Line) (n d m k : ℕ) → Drops old new n d → Has new m k → WasKept old new m k
 drops-kept old new n d m k s h =
     record {
       kept = drops-has_before old new n d m k s h;
@@ -85,7 +85,7 @@ drops-kept old new n d m k s h =
       acks = λ b is. inl (rw (drops-kept_at old new n d m k s h) at is);
     }
 
-drops-sizes : (old new : Line) (n d m : ℕ) → Drops old new n d → length (new.kept m) ≤ length (old.kept m)
+pub drops-sizes : (old new : Line) (n d m : ℕ) → Drops old new n d → length (new.kept m) ≤ length (old.kept m)
 drops-sizes old new n d m s =
     elim (cases_eq m n) [
       | inl same ↦ rw same (omega (arith, drops-length old new n d s))

@@ -7,3 +7,4 @@ pub mod Letters
 pub mod Appends
 pub mod Drops
 pub mod Consequences
+pub mod Passing
