@@ -8,3 +8,4 @@ pub mod Appends
 pub mod Drops
 pub mod Consequences
 pub mod Passing
+pub mod Acks
