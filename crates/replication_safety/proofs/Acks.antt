@@ -11,7 +11,7 @@ use Rattle.replication_safety.specs.Moves.{NotesAck}
 use Rattle.replication_safety.specs.Replicated.{Replicated}
 use Rattle.replication_safety.proofs.Basics.{agree}
 use Rattle.replication_safety.proofs.Carries.{Grows, WasKept, CarriesKept, Carries, carried}
-use Rattle.replication_safety.proofs.Same.{view-same, acts-live}
+use Rattle.replication_safety.proofs.Same.{view-same, acts-live, acts-epoch}
 use Rattle.replication_safety.proofs.Appends.{acting-says}
 
 notes-done : (old new : Line) (n k a m : ℕ) → NotesAck old new n k a → new.done m ≡ old.done m
@@ -70,13 +70,14 @@ notes-kept old new n k a m j s h =
           record { kept = h; same = ap entry_of is; acks = λ b noted. inl (rw is at noted) }
     ]
 
-notes-grows : (old new : Line) (n k a : ℕ) → NotesAck old new n k a → Grows old new
-notes-grows old new n k a s =
+pub grows_NotesAck : (old new : Line) (n k a : ℕ) → NotesAck old new n k a → Grows old new
+grows_NotesAck old new n k a s =
     let home : new.home ≡ old.home = s.acts.acts.setting.home in
     record {
       home = home;
       view = λ e _. view-same old new e s.acts.acts.setting;
       live = λ m. acts-live old new n m s.acts.acts;
+      epoch = λ m. omega (arith, acts-epoch old new n m s.acts.acts);
       done = λ m. omega (arith, notes-done old new n k a m s);
       top = λ m. omega (arith, notes-top old new n k a m s);
       entry = λ j above below.
@@ -106,7 +107,7 @@ notes-keeps old new passed n k a r s =
 notes-carries : (old new : Line) (passed n k a : ℕ) → Replicated old passed → NotesAck old new n k a → Carries old new passed passed
 notes-carries old new passed n k a r s =
     record {
-      grows = notes-grows old new n k a s;
+      grows = grows_NotesAck old new n k a s;
       keeps = notes-keeps old new passed n k a r s;
       says = acting-says old new passed passed n r s.acts;
     }

@@ -116,6 +116,7 @@ appends-grows old new n x a =
       home = home;
       view = λ e _. view-same old new e a.acts.acts.setting;
       live = λ m. acts-live old new n m a.acts.acts;
+      epoch = λ m. omega (arith, acts-epoch old new n m a.acts.acts);
       done = λ m. omega (arith, appends-done old new n m x a);
       top = λ m. appends-rises old new n m x a;
       entry = λ k above below.
@@ -161,10 +162,13 @@ commits-added old new passed x s =
       witnessed = λ e v out above m foreign. absurd (foreign (sym home));
     }
 
+pub grows_Commits : (old new : Line) (x : Entry) → Commits old new x → Grows old new
+grows_Commits old new x s = appends-grows old new old.home x (commits-appends old new x s)
+
 commits-carries : (old new : Line) (passed : ℕ) (x : Entry) → Replicated old passed → Commits old new x → Carries old new passed passed
 commits-carries old new passed x r s =
     record {
-      grows = appends-grows old new old.home x (commits-appends old new x s);
+      grows = grows_Commits old new x s;
       keeps = appends-keeps old new passed old.home x r (commits-appends old new x s) s.room (commits-added old new passed x s);
       says = acting-says old new passed passed old.home r s.acts;
     }
@@ -226,12 +230,15 @@ stores-added old new passed n from d x r s sent c =
       witnessed = λ e v out above m _. stores-witnessed old new passed n e from d x r s sent foreign v out above m;
     }
 
+pub grows_StoresNext : (old new : Line) (n : ℕ) (x : Entry) → StoresNext old new n x → Grows old new
+grows_StoresNext old new n x s = appends-grows old new n x (stores-appends old new n x s)
+
 stores-carries : (old new : Line) (passed n : ℕ) (x : Entry) → Replicated old passed → StoresNext old new n x → Carries old new passed passed
 stores-carries old new passed n x r s =
     let c : IsCopy old passed n (top old n) s.sent.1 x = r.copies s.sent.0 n (old.epoch n) (top old n) s.sent.1 x s.sent.3 in
     let room : length (old.kept n) < 16 = receiver-room old passed n (top old n) s.sent.1 x c s.sent.2 refl in
     record {
-      grows = appends-grows old new n x (stores-appends old new n x s);
+      grows = grows_StoresNext old new n x s;
       keeps = appends-keeps old new passed n x r (stores-appends old new n x s) room (stores-added old new passed n s.sent.0 s.sent.1 x r s s.sent.3 c);
       says = acting-says old new passed passed n r s.acts;
     }

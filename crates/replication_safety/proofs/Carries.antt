@@ -12,6 +12,7 @@ pub record Grows (old new : Line) : Type 0 where
   pub home : new.home ≡ old.home
   pub view : (e : ℕ) → IsView old e → view new e ≡ view old e
   pub live : (n : ℕ) → IsLive new n → IsLive old n
+  pub epoch : (n : ℕ) → old.epoch n ≤ new.epoch n
   pub done : (n : ℕ) → old.done n ≤ new.done n
   pub top : (n : ℕ) → top old n ≤ top new n
   pub entry : (k : ℕ) → new.done new.home ≤ k → k < end old → entry new k ≡ entry old k

@@ -14,7 +14,7 @@ use Rattle.replication_safety.specs.Moves.{Acts, ActsOnKept, NotesAck, Raises, P
 use Rattle.replication_safety.specs.Replicated.{IsViewed, Holds, IsCopy, Replicated}
 use Rattle.replication_safety.proofs.Basics.{agree, IsOut-stopped, Holds-top}
 use Rattle.replication_safety.proofs.Carries.{Grows, WasKept, IsAdded, CarriesKept, CarriesSaid, Carries, carried}
-use Rattle.replication_safety.proofs.Same.{view-same, acts-live}
+use Rattle.replication_safety.proofs.Same.{view-same, acts-live, acts-epoch}
 use Rattle.replication_safety.proofs.Appends.{acting-says}
 
 -- ---- a node knows that more entries have passed, and drops them
@@ -99,6 +99,7 @@ drops-grows old new n d s =
       home = home;
       view = λ e _. view-same old new e s.acts.acts.setting;
       live = λ m. acts-live old new n m s.acts.acts;
+      epoch = λ m. omega (arith, acts-epoch old new n m s.acts.acts);
       done = λ m. drops-done old new n d m s;
       top = λ m. drops-top old new n d m s;
       entry = λ k above below.
@@ -148,10 +149,13 @@ raises-keeps old new passed n d r s =
       first = λ from to e k f a x m above below. absurd (omega arith);
     }
 
+pub grows_Raises : (old new : Line) (passed n d : ℕ) → Raises old new passed n d → Grows old new
+grows_Raises old new passed n d s = drops-grows old new n d (raises-drops old new passed n d s)
+
 raises-carries : (old new : Line) (passed n d : ℕ) → Replicated old passed → Raises old new passed n d → Carries old new passed passed
 raises-carries old new passed n d r s =
     record {
-      grows = drops-grows old new n d (raises-drops old new passed n d s);
+      grows = grows_Raises old new passed n d s;
       keeps = raises-keeps old new passed n d r s;
       says = acting-says old new passed passed n r s.acts;
     }

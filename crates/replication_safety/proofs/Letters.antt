@@ -8,21 +8,21 @@ use Rattle.replication_safety.specs.Moves.{Acts, Tells, IsTellable, entry as ent
 use Rattle.replication_safety.specs.Replicated.{IsViewed, Holds, IsCopy, IsWitnessed, Replicated}
 use Rattle.replication_safety.proofs.Basics.{agree, IsOut-stopped}
 use Rattle.replication_safety.proofs.Carries.{Grows, IsTold, CarriesKept, CarriesSaid, Carries, carried, IsCopy-grows, witness-grows}
-use Rattle.replication_safety.proofs.Same.{SameKept, same-grows, same-kept, same-has, same-top, IsView-same, view-same, quiet-reports, acts-live, acts-epoch, acts-speaks}
+use Rattle.replication_safety.proofs.Same.{SameKept, acts-grows, same-kept, same-has, same-top, IsView-same, view-same, quiet-reports, acts-live, acts-epoch, acts-speaks}
 
 -- ---- what may be told
 
 -- a letter with an entry that the node keeps
-record IsItsEntry (old : Line) (n from to e k d : ℕ) (x : Entry) : Type 0 where
-  sender : from ≡ n
-  epoch : e ≡ old.epoch n
-  done : d ≡ old.done n
-  entry : x ≡ entry_of (kept_at old n k)
-  kept : Has old n k
-  may : (n ≡ old.home) ⊎ IsOut old (old.epoch n) old.home
-  follower : has to x.followers ≡ true
+pub record IsItsEntry (old : Line) (n from to e k d : ℕ) (x : Entry) : Type 0 where
+  pub sender : from ≡ n
+  pub epoch : e ≡ old.epoch n
+  pub done : d ≡ old.done n
+  pub entry : x ≡ entry_of (kept_at old n k)
+  pub kept : Has old n k
+  pub may : (n ≡ old.home) ⊎ IsOut old (old.epoch n) old.home
+  pub follower : has to x.followers ≡ true
 
-tellable-entry : (old : Line) (n from to e k d : ℕ) (x : Entry) → IsTellable old n (Stores from to e k d x) → IsItsEntry old n from to e k d x
+pub tellable-entry : (old : Line) (n from to e k d : ℕ) (x : Entry) → IsTellable old n (Stores from to e k d x) → IsItsEntry old n from to e k d x
 tellable-entry old n from to e k d x (entry_told _ _ h may f m other) =
     record { sender = refl; epoch = refl; done = refl; entry = refl; kept = h; may = may; follower = f }
 
@@ -86,7 +86,7 @@ told-copy old passed n to k d x r live h is done f =
 
 -- ---- a node says what it may
 
-tells-kept : (old new : Line) (n : ℕ) → Tells old new n → SameKept old new
+pub tells-kept : (old new : Line) (n : ℕ) → Tells old new n → SameKept old new
 tells-kept old new n s =
     record {
       home = s.acts.setting.home;
@@ -94,9 +94,8 @@ tells-kept old new n s =
       kept = agree new.kept old.kept n s.acts.others.kept s.kept;
     }
 
-tells-grows : (old new : Line) (n : ℕ) → Tells old new n → Grows old new
-tells-grows old new n s =
-    same-grows old new (tells-kept old new n s) (λ e _. view-same old new e s.acts.setting) (λ m. acts-live old new n m s.acts) s.sends.stay
+pub grows_Tells : (old new : Line) (n : ℕ) → Tells old new n → Grows old new
+grows_Tells old new n s = acts-grows old new n (tells-kept old new n s) s.acts s.sends.stay
 
 tells-reported : (old new : Line) (n m : ℕ) → Tells old new n → new.reported m ≡ old.reported m
 tells-reported old new n m s = agree new.reported old.reported n s.acts.others.reported s.reported m
@@ -123,7 +122,7 @@ tells-witnessed old new passed n e k r s h v out above =
     let home : new.home ≡ old.home = s.acts.setting.home in
     let left : IsOut old e old.home = cc in
     let foreign : n ≢ old.home = λ here. IsOut-stopped old e old.home r.viewed before left (rw here at s.acts.live) in
-    witness-grows old new e k (tells-grows old new n s) before
+    witness-grows old new e k (grows_Tells old new n s) before
     (λ m. same-has old new m k (tells-kept old new n s))
     (λ m _. tells-silent old new n m e s)
     (r.kept_barrier e k n before left above (r.viewed.live n e s.acts.live before) foreign h)
@@ -131,7 +130,7 @@ tells-witnessed old new passed n e k r s h v out above =
 tells-told : (old new : Line) (passed n from to e k d : ℕ) (x : Entry) → Replicated old passed → Tells old new n → IsItsEntry old n from to e k d x → IsTold new passed to e k d x
 tells-told old new passed n from to e k d x r s t =
     record {
-      copy = IsCopy-grows old new passed passed to k d x (tells-grows old new n s) (omega arith) (λ above below. absurd (omega arith))
+      copy = IsCopy-grows old new passed passed to k d x (grows_Tells old new n s) (omega arith) (λ above below. absurd (omega arith))
           (told-copy old passed n to k d x r s.acts.live t.kept t.entry t.done t.follower);
       witnessed = λ f v out above le. tells-witnessed old new passed n f k r s t.kept v out above;
     }
@@ -192,7 +191,7 @@ tells-says old new passed n r s =
 tells-carries : (old new : Line) (passed n : ℕ) → Replicated old passed → Tells old new n → Carries old new passed passed
 tells-carries old new passed n r s =
     record {
-      grows = tells-grows old new n s;
+      grows = grows_Tells old new n s;
       keeps = same-kept old new passed r (tells-kept old new n s) (λ m. acts-live old new n m s.acts);
       says = tells-says old new passed n r s;
     }

@@ -9,3 +9,4 @@ pub mod Drops
 pub mod Consequences
 pub mod Passing
 pub mod Acks
+pub mod Alive

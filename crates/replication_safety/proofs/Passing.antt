@@ -2,6 +2,7 @@
 use Rattle.std.specs.Prelude.{ℕ, zero, suc, ◌≡◌, ◌≢◌, ◌+◌, ◌-◌, ◌<◌, ◌≤◌, ◌&&◌, true, false, List, [], ◌∷◌, length, drop, ◌⊎◌}
 use Rattle.std.proofs.Common.{arith, refl, sym, ap, ◌∙◌, inl, inr}
 use Rattle.std.proofs.lemmas.Bool.{cases_lt, cases_eq}
+use Rattle.std.proofs.lemmas.List.{length-drop}
 use Rattle.zeus_base.specs.Nodes.{has, with_node, without, meet, is_subset}
 use Rattle.zeus_base.specs.NodeLaws.{has-without_other, has-meet, is_subset-has}
 use Rattle.zeus_model.specs.declared.state.Kept.{Kept}
@@ -9,16 +10,30 @@ use Rattle.replication_safety.specs.Line.{Line, Letter, Entry, Stores, Stored, P
 use Rattle.replication_safety.specs.Moves.{Acts, ActsOnKept, Raises, PassesFirst}
 use Rattle.replication_safety.specs.Replicated.{IsViewed, Holds, IsCopy, Replicated}
 use Rattle.replication_safety.proofs.Basics.{IsOut-stopped, Holds-top}
-use Rattle.replication_safety.proofs.Carries.{CarriesKept, Carries, carried}
+use Rattle.replication_safety.proofs.Carries.{Grows, CarriesKept, Carries, carried}
 use Rattle.replication_safety.proofs.Same.{acts-live}
 use Rattle.replication_safety.proofs.Appends.{acting-says}
-use Rattle.replication_safety.proofs.Drops.{Drops, drops-top, drops-has, drops-grows, drops-kept, drops-sizes, keeps_Raises}
+use Rattle.replication_safety.proofs.Drops.{Drops, drops-top, drops-top_other, drops-has, drops-grows, drops-kept, drops-sizes, keeps_Raises}
 use Rattle.replication_safety.proofs.Consequences.{kept-committed, content-agrees}
 
-passes-drops : (old new : Line) (n : ℕ) → PassesFirst old new n → Drops old new n (suc (old.done n))
+pub passes-drops : (old new : Line) (n : ℕ) → PassesFirst old new n → Drops old new n (suc (old.done n))
 passes-drops old new n s =
     let one : suc (old.done n) - old.done n ≡ 1 = omega arith in
     record { acts = s.acts; above = omega arith; done = s.done; kept = rw one s.kept }
+
+pub grows_PassesFirst : (old new : Line) (n : ℕ) → PassesFirst old new n → Grows old new
+grows_PassesFirst old new n s = drops-grows old new n (suc (old.done n)) (passes-drops old new n s)
+
+-- the number of the next entry stays
+passes-top_here : (old new : Line) (n : ℕ) → PassesFirst old new n → top new n ≡ top old n
+passes-top_here old new n s = omega (arith, s.done, s.some, ap length s.kept, length-drop 1 (old.kept n))
+
+pub passes-top : (old new : Line) (n m : ℕ) → PassesFirst old new n → top new m ≡ top old m
+passes-top old new n m s =
+    elim (cases_eq m n) [
+      | inl same ↦ rw same (passes-top_here old new n s)
+      | inr other ↦ drops-top_other old new n (suc (old.done n)) m (passes-drops old new n s) other
+    ]
 
 passes-kept : (old new : Line) (n : ℕ) → PassesFirst old new n → Has old n (old.done n)
 passes-kept old new n s = (omega arith, omega (arith, s.some))
@@ -122,7 +137,7 @@ first_pass-keeps old new passed n r s first =
 first_pass-carries : (old new : Line) (passed n : ℕ) → Replicated old passed → PassesFirst old new n → old.done n ≡ passed → Carries old new passed (suc passed)
 first_pass-carries old new passed n r s first =
     record {
-      grows = drops-grows old new n (suc (old.done n)) (passes-drops old new n s);
+      grows = grows_PassesFirst old new n s;
       keeps = first_pass-keeps old new passed n r s first;
       says = acting-says old new passed (suc passed) n r s.acts;
     }

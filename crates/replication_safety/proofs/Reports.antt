@@ -10,7 +10,7 @@ use Rattle.replication_safety.specs.Moves.{Acts, SameSetting, Sends, nothing, Re
 use Rattle.replication_safety.specs.Replicated.{IsViewed, IsCopy, IsWitnessed, Replicated}
 use Rattle.replication_safety.proofs.Basics.{silent-only, agree, IsOut-stopped, Holds-top, top-Holds}
 use Rattle.replication_safety.proofs.Carries.{Grows, IsTold, IsFresh, CarriesKept, CarriesSaid, Carries, carried}
-use Rattle.replication_safety.proofs.Same.{SameKept, same-grows, same-kept, IsView-same, view-same, silent-says, quiet-silent, quiet-reports, acts-live, acts-epoch, acts-viewed, acts-speaks}
+use Rattle.replication_safety.proofs.Same.{SameKept, acts-grows, same-kept, IsView-same, view-same, silent-says, quiet-silent, quiet-reports, acts-live, acts-epoch, acts-viewed, acts-speaks}
 
 -- who is in a set with one more node is that node or was in the set
 has-with_either : (m n : ℕ) (ms : List ℕ) → has m (with_node n ms) ≡ true → (m ≡ n) ⊎ (has m ms ≡ true)
@@ -19,7 +19,7 @@ has-with_either m n ms h =
 
 -- ---- a node reports
 
-reports-kept : (old new : Line) (n : ℕ) → ReportsItself old new n → SameKept old new
+pub reports-kept : (old new : Line) (n : ℕ) → ReportsItself old new n → SameKept old new
 reports-kept old new n s =
     record {
       home = s.acts.setting.home;
@@ -65,10 +65,13 @@ reports-reports old new passed n m a r s live h =
           quiet-reports old new passed m a r s.sends.stay (acts-live old new n m s.acts) (s.acts.others.epoch m other) (s.acts.others.reported m other) live h
     ]
 
+pub grows_ReportsItself : (old new : Line) (n : ℕ) → ReportsItself old new n → Grows old new
+grows_ReportsItself old new n s = acts-grows old new n (reports-kept old new n s) s.acts s.sends.stay
+
 reports-carries : (old new : Line) (passed n : ℕ) → Replicated old passed → ReportsItself old new n → Carries old new passed passed
 reports-carries old new passed n r s =
     record {
-      grows = same-grows old new (reports-kept old new n s) (λ e _. view-same old new e s.acts.setting) (λ m. acts-live old new n m s.acts) s.sends.stay;
+      grows = grows_ReportsItself old new n s;
       keeps = same-kept old new passed r (reports-kept old new n s) (λ m. acts-live old new n m s.acts);
       says = silent-says old new passed s.acts.setting s.sends (acts-viewed old new n r.viewed s.acts s.sends)
           (λ m a. reports-reports old new passed n m a r s)
@@ -80,7 +83,7 @@ keeps_ReportsItself old new passed n r s = carried old new passed passed r (repo
 
 -- ---- a node hears of a report
 
-hears-kept : (old new : Line) (n a : ℕ) → Hears old new n a → SameKept old new
+pub hears-kept : (old new : Line) (n a : ℕ) → Hears old new n a → SameKept old new
 hears-kept old new n a s =
     record {
       home = s.acts.setting.home;
@@ -133,10 +136,13 @@ hears-reports old new passed n b m a r s live h =
           quiet-reports old new passed m a r s.sends.stay (acts-live old new n m s.acts) (s.acts.others.epoch m other) (s.acts.others.reported m other) live h
     ]
 
+pub grows_Hears : (old new : Line) (n a : ℕ) → Hears old new n a → Grows old new
+grows_Hears old new n a s = acts-grows old new n (hears-kept old new n a s) s.acts s.sends.stay
+
 hears-carries : (old new : Line) (passed n a : ℕ) → Replicated old passed → Hears old new n a → Carries old new passed passed
 hears-carries old new passed n a r s =
     record {
-      grows = same-grows old new (hears-kept old new n a s) (λ e _. view-same old new e s.acts.setting) (λ m. acts-live old new n m s.acts) s.sends.stay;
+      grows = grows_Hears old new n a s;
       keeps = same-kept old new passed r (hears-kept old new n a s) (λ m. acts-live old new n m s.acts);
       says = silent-says old new passed s.acts.setting s.sends (acts-viewed old new n r.viewed s.acts s.sends)
           (λ m b. hears-reports old new passed n a m b r s)

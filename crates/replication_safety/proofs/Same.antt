@@ -35,12 +35,13 @@ pub same-entry : (old new : Line) (k : ℕ) → SameKept old new → entry new k
 same-entry old new k s = rw (same-kept_at old new new.home k s, s.home)
 
 pub same-grows : (old new : Line) → SameKept old new → ((e : ℕ) → IsView old e → view new e ≡ view old e)
-    → ((n : ℕ) → IsLive new n → IsLive old n) → ((l : Letter) → In l old.letters → In l new.letters) → Grows old new
-same-grows old new s views live stay =
+    → ((n : ℕ) → IsLive new n → IsLive old n) → ((n : ℕ) → old.epoch n ≤ new.epoch n) → ((l : Letter) → In l old.letters → In l new.letters) → Grows old new
+same-grows old new s views live later stay =
     record {
       home = s.home;
       view = views;
       live = live;
+      epoch = later;
       done = λ n. omega (arith, s.done n);
       top = λ n. omega (arith, same-top old new n s);
       entry = λ k above below. same-entry old new k s;
@@ -191,3 +192,7 @@ acts-viewed old new n v a s =
     acts-speaks old new n v a
     (λ from to e k d x m. inl (silent-only old new (Stores from to e k d x) s m))
     (λ from e m. inl (silent-only old new (Reports from e) s m))
+
+pub acts-grows : (old new : Line) (n : ℕ) → SameKept old new → Acts old new n → ((l : Letter) → In l old.letters → In l new.letters) → Grows old new
+acts-grows old new n s a stay =
+    same-grows old new s (λ e _. view-same old new e a.setting) (λ m. acts-live old new n m a) (λ m. omega (arith, acts-epoch old new n m a)) stay

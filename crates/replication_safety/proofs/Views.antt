@@ -14,7 +14,7 @@ use Rattle.replication_safety.proofs.Same.{SameKept, same-grows, same-kept, Spea
 
 -- ---- a node stops
 
-stops-kept : (old new : Line) (n : ℕ) → Stops old new n → SameKept old new
+pub stops-kept : (old new : Line) (n : ℕ) → Stops old new n → SameKept old new
 stops-kept old new n s =
     record {
       home = s.setting.home;
@@ -47,10 +47,14 @@ stops-viewed old new n v s =
       reports = λ from e m. inl (silent-only old new (Reports from e) s.sends m);
     }
 
+pub grows_Stops : (old new : Line) (n : ℕ) → Stops old new n → Grows old new
+grows_Stops old new n s =
+    same-grows old new (stops-kept old new n s) (λ e _. view-same old new e s.setting) (λ m. stops-live old new n m s) (λ m. omega (arith, stops-epoch old new n m s)) s.sends.stay
+
 stops-carries : (old new : Line) (passed n : ℕ) → Replicated old passed → Stops old new n → Carries old new passed passed
 stops-carries old new passed n r s =
     record {
-      grows = same-grows old new (stops-kept old new n s) (λ e _. view-same old new e s.setting) (λ m. stops-live old new n m s) s.sends.stay;
+      grows = grows_Stops old new n s;
       keeps = same-kept old new passed r (stops-kept old new n s) (λ m. stops-live old new n m s);
       says = silent-says old new passed s.setting s.sends (stops-viewed old new n r.viewed s)
           (λ m a. quiet-reports old new passed m a r s.sends.stay (stops-live old new n m s) (stops-epoch old new n m s) (stops-reported old new n m s))
@@ -62,7 +66,7 @@ keeps_Stops old new passed n r s = carried old new passed passed r (stops-carrie
 
 -- ---- a node installs a later view
 
-installs-kept : (old new : Line) (n e : ℕ) → Installs old new n e → SameKept old new
+pub installs-kept : (old new : Line) (n e : ℕ) → Installs old new n e → SameKept old new
 installs-kept old new n e s =
     record {
       home = s.setting.home;
@@ -121,10 +125,14 @@ installs-reports old new passed n e m a r s live h =
           quiet-reports old new passed m a r s.sends.stay (installs-live old new n e m s) (s.others.epoch m other) (s.others.reported m other) live h
     ]
 
+pub grows_Installs : (old new : Line) (n e : ℕ) → Installs old new n e → Grows old new
+grows_Installs old new n e s =
+    same-grows old new (installs-kept old new n e s) (λ f _. view-same old new f s.setting) (λ m. installs-live old new n e m s) (λ m. (installs-epoch old new n e m s).0) s.sends.stay
+
 installs-carries : (old new : Line) (passed n e : ℕ) → Replicated old passed → Installs old new n e → Carries old new passed passed
 installs-carries old new passed n e r s =
     record {
-      grows = same-grows old new (installs-kept old new n e s) (λ f _. view-same old new f s.setting) (λ m. installs-live old new n e m s) s.sends.stay;
+      grows = grows_Installs old new n e s;
       keeps = same-kept old new passed r (installs-kept old new n e s) (λ m. installs-live old new n e m s);
       says = silent-says old new passed s.setting s.sends (installs-viewed old new n e r.viewed s)
           (λ m a. installs-reports old new passed n e m a r s)
@@ -136,7 +144,7 @@ keeps_Installs old new passed n e r s = carried old new passed passed r (install
 
 -- ---- a new view
 
-viewed-kept : (old new : Line) (set : List ℕ) → NewView old new set → SameKept old new
+pub viewed-kept : (old new : Line) (set : List ℕ) → NewView old new set → SameKept old new
 viewed-kept old new set s = record { home = s.home; done = s.done; kept = s.kept }
 
 view-length : (old new : Line) (set : List ℕ) → NewView old new set → length new.views ≡ suc (length old.views)
@@ -232,10 +240,14 @@ view-says old new passed set r s =
       views = λ e. view-views old new set e r.viewed s;
     }
 
+pub grows_NewView : (old new : Line) (set : List ℕ) → NewView old new set → Grows old new
+grows_NewView old new set s =
+    same-grows old new (viewed-kept old new set s) (λ e. view-old old new set e s) (λ n. view-live old new set n s) (λ n. omega (arith, s.epoch n)) s.sends.stay
+
 view-carries : (old new : Line) (passed : ℕ) (set : List ℕ) → Replicated old passed → NewView old new set → Carries old new passed passed
 view-carries old new passed set r s =
     record {
-      grows = same-grows old new (viewed-kept old new set s) (λ e. view-old old new set e s) (λ n. view-live old new set n s) s.sends.stay;
+      grows = grows_NewView old new set s;
       keeps = same-kept old new passed r (viewed-kept old new set s) (λ n. view-live old new set n s);
       says = view-says old new passed set r s;
     }
