@@ -4,3 +4,7 @@ pub mod ObjectMoves
 pub mod ObjectSteps
 pub mod ObjectSeen
 pub mod ObjectKeeps
+pub mod AboutLines
+pub mod LineMoves
+pub mod LineSeen
+pub mod LineEntries
