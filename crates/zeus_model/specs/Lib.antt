@@ -1,3 +1,4 @@
+pub mod In
 pub mod Names
 pub mod Spelling
 pub mod Scripts
