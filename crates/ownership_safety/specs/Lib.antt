@@ -1,3 +1,4 @@
 pub mod Object
 pub mod Moves
 pub mod Ordered
+pub mod Kept
