@@ -1,12 +1,11 @@
 -- An acknowledgement that is noted keeps what holds of a stream.
-use Rattle.std.specs.Prelude.{ℕ, ◌≡◌, ◌≢◌, ◌+◌, ◌-◌, ◌<◌, ◌≤◌, true, false, length, ◌⊎◌}
-use Rattle.std.proofs.Common.{arith, refl, sym, ap, ◌∙◌, inl, inr}
+use Rattle.std.specs.Prelude.{ℕ, ◌≡◌, ◌≢◌, ◌-◌, length}
+use Rattle.std.proofs.Common.{arith, sym, ap, ◌∙◌, inl, inr}
 use Rattle.std.proofs.lemmas.Bool.{cases_eq}
-use Rattle.zeus_base.specs.Nodes.{has, with_node}
 use Rattle.zeus_base.specs.NodeLaws.{has-with_other}
 use Rattle.zeus_base.specs.TableLaws.{nth-put_same, nth-put_other, length-put}
 use Rattle.zeus_model.specs.Commit.{no_kept, acked_kept}
-use Rattle.replication_safety.specs.Line.{Line, Entry, Stored, In, IsLive, Has, top, end, kept_at, entry_of, entry}
+use Rattle.replication_safety.specs.Line.{Line, IsLive, Has, top, kept_at, entry_of}
 use Rattle.replication_safety.specs.Moves.{NotesAck}
 use Rattle.replication_safety.specs.Replicated.{Replicated}
 use Rattle.replication_safety.proofs.Basics.{agree}

@@ -1,19 +1,15 @@
 -- Acknowledgements that are noted, and entries that pass or are known to have passed, keep what holds of a stream.
-use Rattle.std.specs.Prelude.{ℕ, zero, suc, ◌≡◌, ◌≢◌, ◌+◌, ◌-◌, ◌<◌, ◌≤◌, true, false, List, [], ◌∷◌, length, drop, ◌⊎◌}
-use Rattle.std.proofs.Common.{arith, refl, sym, ap, ◌∙◌, inl, inr}
-use Rattle.std.proofs.lemmas.Bool.{cases_lt, cases_eq}
+use Rattle.std.specs.Prelude.{ℕ, ◌≡◌, ◌≢◌, ◌+◌, ◌-◌, ◌<◌, ◌≤◌, length, drop}
+use Rattle.std.proofs.Common.{arith, sym, ap, ◌∙◌, inl, inr}
+use Rattle.std.proofs.lemmas.Bool.{cases_eq}
 use Rattle.std.proofs.lemmas.List.{length-drop}
-use Rattle.zeus_base.specs.Nodes.{has, with_node, without, meet, is_subset}
-use Rattle.zeus_base.specs.NodeLaws.{has-with_other, has-without_other, has-meet, is_subset-has}
 use Rattle.zeus_model.specs.Tables.{nth}
-use Rattle.zeus_base.specs.TableLaws.{nth-drop, nth-put_same, nth-put_other, length-put}
-use Rattle.zeus_model.specs.Commit.{no_kept, acked_kept}
-use Rattle.zeus_model.specs.declared.state.Kept.{Kept}
-use Rattle.replication_safety.specs.Line.{Line, Letter, Entry, Stores, Stored, Passes, Reports, In, IsView, IsLive, IsMember, IsOut, Has, HasReported, view, top, end, kept_at, entry_of, entry}
-use Rattle.replication_safety.specs.Moves.{Acts, ActsOnKept, NotesAck, Raises, PassesFirst}
-use Rattle.replication_safety.specs.Replicated.{IsViewed, Holds, IsCopy, Replicated}
-use Rattle.replication_safety.proofs.Basics.{agree, IsOut-stopped, Holds-top}
-use Rattle.replication_safety.proofs.Carries.{Grows, WasKept, IsAdded, CarriesKept, CarriesSaid, Carries, carried}
+use Rattle.zeus_base.specs.TableLaws.{nth-drop}
+use Rattle.zeus_model.specs.Commit.{no_kept}
+use Rattle.replication_safety.specs.Line.{Line, IsLive, Has, top, kept_at, entry_of}
+use Rattle.replication_safety.specs.Moves.{ActsOnKept, Raises}
+use Rattle.replication_safety.specs.Replicated.{Replicated}
+use Rattle.replication_safety.proofs.Carries.{Grows, WasKept, CarriesKept, Carries, carried}
 use Rattle.replication_safety.proofs.Same.{view-same, acts-live, acts-epoch}
 use Rattle.replication_safety.proofs.Appends.{acting-says}
 

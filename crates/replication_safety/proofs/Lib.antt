@@ -10,3 +10,5 @@ pub mod Consequences
 pub mod Passing
 pub mod Acks
 pub mod Alive
+pub mod Start
+pub mod Received

@@ -1,14 +1,14 @@
 -- Passes keep what holds of a stream; and what passes is stored at all its live followers.
-use Rattle.std.specs.Prelude.{ℕ, zero, suc, ◌≡◌, ◌≢◌, ◌+◌, ◌-◌, ◌<◌, ◌≤◌, ◌&&◌, true, false, List, [], ◌∷◌, length, drop, ◌⊎◌}
-use Rattle.std.proofs.Common.{arith, refl, sym, ap, ◌∙◌, inl, inr}
-use Rattle.std.proofs.lemmas.Bool.{cases_lt, cases_eq}
+use Rattle.std.specs.Prelude.{ℕ, suc, ◌≡◌, ◌≢◌, ◌-◌, ◌<◌, ◌≤◌, true, List, length}
+use Rattle.std.proofs.Common.{arith, sym, ap, ◌∙◌, inl, inr}
+use Rattle.std.proofs.lemmas.Bool.{cases_eq}
 use Rattle.std.proofs.lemmas.List.{length-drop}
-use Rattle.zeus_base.specs.Nodes.{has, with_node, without, meet, is_subset}
+use Rattle.zeus_base.specs.Nodes.{has, without, meet}
 use Rattle.zeus_base.specs.NodeLaws.{has-without_other, has-meet, is_subset-has}
 use Rattle.zeus_model.specs.declared.state.Kept.{Kept}
-use Rattle.replication_safety.specs.Line.{Line, Letter, Entry, Stores, Stored, Passes, Reports, In, IsView, IsLive, IsMember, IsOut, Has, view, top, end, kept_at, entry_of, entry}
-use Rattle.replication_safety.specs.Moves.{Acts, ActsOnKept, Raises, PassesFirst}
-use Rattle.replication_safety.specs.Replicated.{IsViewed, Holds, IsCopy, Replicated}
+use Rattle.replication_safety.specs.Line.{Line, Entry, Stores, Stored, In, IsView, IsLive, Has, view, top, end, kept_at, entry_of, entry}
+use Rattle.replication_safety.specs.Moves.{Raises, PassesFirst}
+use Rattle.replication_safety.specs.Replicated.{Replicated}
 use Rattle.replication_safety.proofs.Basics.{IsOut-stopped, Holds-top}
 use Rattle.replication_safety.proofs.Carries.{Grows, CarriesKept, Carries, carried}
 use Rattle.replication_safety.proofs.Same.{acts-live}
