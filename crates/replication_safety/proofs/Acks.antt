@@ -29,9 +29,6 @@ notes-top old new n k a m s = omega (arith, notes-done old new n k a m s, notes-
 pub notes-has_before : (old new : Line) (n k a m j : ℕ) → NotesAck old new n k a → Has new m j → Has old m j
 notes-has_before old new n k a m j s h = omega (arith, h.0, h.1, notes-done old new n k a m s, notes-top old new n k a m s)
 
-pub notes-has : (old new : Line) (n k a m j : ℕ) → NotesAck old new n k a → Has old m j → Has new m j
-notes-has old new n k a m j s h = omega (arith, h.0, h.1, notes-done old new n k a m s, notes-top old new n k a m s)
-
 notes-entry : (old new : Line) (n k a : ℕ) → NotesAck old new n k a → kept_at new n k ≡ acked_kept (kept_at old n k) a
 notes-entry old new n k a s =
     rw (s.done, s.kept) (nth-put_same no_kept (old.kept n) (k - old.done n) (acked_kept (kept_at old n k) a))
@@ -99,7 +96,6 @@ notes-keeps old new passed n k a r s =
       committed = rw home (omega (arith, r.committed, notes-top old new n k a old.home s));
       sizes = λ m. omega (arith, r.sizes m, notes-length old new n k a m s);
       kept = λ m j h. inl (notes-kept old new n k a m j s (notes-has_before old new n k a m j s h));
-      stays = λ m j above. notes-has old new n k a m j s;
       first = λ from to e j d g x m above below. absurd (omega arith);
     }
 

@@ -141,7 +141,6 @@ appends-keeps old new passed n x r a room added =
       committed = rw home (omega (arith, r.committed, appends-rises old new n old.home x a));
       sizes = λ m. appends-sizes old new passed n m x r a room;
       kept = λ m k. appends-kept old new passed n m k x a added;
-      stays = λ m k above. appends-has old new n m k x a;
       first = λ from to e k d g y m above below. absurd (omega arith);
     }
 

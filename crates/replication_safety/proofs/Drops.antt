@@ -51,16 +51,6 @@ drops-has_before old new n d m k s h =
       | inr other ↦ omega (arith, h.0, h.1, drops-top_other old new n d m s other, s.acts.acts.others.done m other)
     ]
 
--- what was not dropped stays
-pub drops-has : (old new : Line) (n d m k : ℕ) → Drops old new n d → d ≤ k → Has old m k → Has new m k
-drops-has old new n d m k s above h =
-    elim (cases_eq m n) [
-      | inl same ↦
-          let here : Has old n k = rw same at h in
-          rw same (omega (arith, s.done, drops-top old new n d n s, here.0, here.1))
-      | inr other ↦ omega (arith, h.0, h.1, drops-top_other old new n d m s other, s.acts.acts.others.done m other)
-    ]
-
 drops-kept_here : (old new : Line) (n d k : ℕ) → Drops old new n d → Has new n k → kept_at new n k ≡ kept_at old n k
 drops-kept_here old new n d k s h =
     let place : (k - d) + (d - old.done n) ≡ k - old.done n = omega (arith, s.done, s.above, h.0) in
@@ -141,7 +131,6 @@ raises-keeps old new passed n d r s =
       committed = rw s.acts.acts.setting.home (omega (arith, r.committed, drops-top old new n d old.home g));
       sizes = λ m. omega (arith, r.sizes m, drops-sizes old new n d m g);
       kept = λ m k h. inl (drops-kept old new n d m k g h);
-      stays = λ m k above. drops-has old new n d m k g (omega (arith, s.known));
       first = λ from to e k f a x m above below. absurd (omega arith);
     }
 

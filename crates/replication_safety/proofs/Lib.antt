@@ -12,3 +12,4 @@ pub mod Acks
 pub mod Alive
 pub mod Start
 pub mod Received
+pub mod Entries

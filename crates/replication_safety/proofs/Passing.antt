@@ -13,7 +13,7 @@ use Rattle.replication_safety.proofs.Basics.{IsOut-stopped, Holds-top}
 use Rattle.replication_safety.proofs.Carries.{Grows, CarriesKept, Carries, carried}
 use Rattle.replication_safety.proofs.Same.{acts-live}
 use Rattle.replication_safety.proofs.Appends.{acting-says}
-use Rattle.replication_safety.proofs.Drops.{Drops, drops-top, drops-top_other, drops-has, drops-grows, drops-kept, drops-sizes, keeps_Raises}
+use Rattle.replication_safety.proofs.Drops.{Drops, drops-top, drops-top_other, drops-grows, drops-kept, drops-sizes, keeps_Raises}
 use Rattle.replication_safety.proofs.Consequences.{kept-committed, content-agrees}
 
 pub passes-drops : (old new : Line) (n : ℕ) → PassesFirst old new n → Drops old new n (suc (old.done n))
@@ -130,7 +130,6 @@ first_pass-keeps old new passed n r s first =
       committed = rw s.acts.acts.setting.home (omega (arith, drops-top old new n (suc (old.done n)) old.home d));
       sizes = λ m. omega (arith, r.sizes m, drops-sizes old new n (suc (old.done n)) m d);
       kept = λ m k h. inl (drops-kept old new n (suc (old.done n)) m k d h);
-      stays = λ m k above. drops-has old new n (suc (old.done n)) m k d (omega arith);
       first = λ from to e k f g x. first_pass-first old new passed n from to e k f g x r s first;
     }
 

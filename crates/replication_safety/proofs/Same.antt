@@ -64,7 +64,6 @@ same-kept old new passed r s live =
       committed = omega (arith, same-end old new s, r.committed);
       sizes = λ n. rw (s.kept n) (r.sizes n);
       kept = λ n k h. inl record { kept = same-has_before old new n k s h; same = rw (same-kept_at old new n k s); acks = λ a is. inl (rw (same-kept_at old new n k s) at is) };
-      stays = λ n k above h. same-has old new n k s h;
       first = λ from to e k d g x m above below. absurd (omega arith);
     }
 

@@ -46,8 +46,11 @@ start-Replicated l s =
 pub grows-rises : (old new : Line) → Grows old new → Rises old new
 grows-rises old new g =
     record {
+      home = g.home;
+      live = g.live;
       epoch = g.epoch;
       done = g.done;
       top = g.top;
-      end = rw g.home (g.top old.home);
+      committed = rw g.home (g.top old.home);
+      entry = g.entry;
     }

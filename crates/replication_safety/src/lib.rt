@@ -30,8 +30,8 @@ pub fn moves_keep_what_holds()
     ensures passes_first { (old new : Line) (passed n : ℕ) → Replicated old passed → PassesFirst old new n → old.done n ≡ passed → Replicated new (suc passed) }
 {}
 
-/// What passes first is the next entry that passes, its followers are those that every node knows of it, and each live one
-/// keeps it; while the stream's own node lives, no other passes.
+/// An entry that passes for the first time is kept by each of its live followers, whoever passes it; an unpassed entry is the
+/// same wherever it is kept; and while the stream's own node lives, no other passes.
 pub fn first_pass_is_stored()
     ensures stored { (old new : Line) (passed n g : ℕ) → Replicated old passed → PassesFirst old new n → old.done n ≡ passed → IsLive old g → has g (kept_at old n passed).followers ≡ true → Has old g passed }
     ensures content { (l : Line) (passed n k : ℕ) → Replicated l passed → Has l n k → passed ≤ k → entry_of (kept_at l n k) ≡ entry l k }
@@ -53,7 +53,7 @@ pub fn what_lives_lived_before()
     ensures passes { (old new : Line) (passed now k n : ℕ) → PassesFirst old new n → passed ≤ now → IsAlive new now k → IsAlive old passed k }
 {}
 
-/// No move takes back an epoch, what is known to have passed, or what was kept.
+/// No move takes anything back: stops, epochs, what is known to have passed, and entries stay.
 pub fn moves_take_nothing_back()
     ensures new_view { (old new : Line) (set : List ℕ) → NewView old new set → Rises old new }
     ensures stops { (old new : Line) (n : ℕ) → Stops old new n → Rises old new }
@@ -66,6 +66,14 @@ pub fn moves_take_nothing_back()
     ensures raises { (old new : Line) (passed n d : ℕ) → Raises old new passed n d → Rises old new }
     ensures notes { (old new : Line) (n k a : ℕ) → NotesAck old new n k a → Rises old new }
     ensures passes { (old new : Line) (n : ℕ) → PassesFirst old new n → Rises old new }
+{}
+
+/// A committed entry gets the next number; what a node stores is what the stream's own node committed, and has not passed.
+pub fn what_moves_add()
+    ensures commits { (old new : Line) (x : Entry) → Commits old new x → entry new (end old) ≡ x }
+    ensures stores_unpassed { (old new : Line) (passed n : ℕ) (x : Entry) → Replicated old passed → StoresNext old new n x → passed ≤ top old n }
+    ensures stores_entry { (old new : Line) (passed n : ℕ) (x : Entry) → Replicated old passed → StoresNext old new n x → x ≡ entry old (top old n) }
+    ensures repeats { (old new : Line) (passed n from to e k d : ℕ) (x : Entry) → Replicated old passed → Tells old new n → In (Stores from to e k d x) new.letters → k < passed → (f g b c : ℕ) × In (Stores f g b k c x) old.letters }
 {}
 
 /// What follows at one moment: a live node lacks no entry that lives below one that it keeps, what passed is not stored again,

@@ -1,4 +1,4 @@
--- What passes first is the next entry that passes, its followers are those that every node knows of it, and each live one keeps it; while the stream's own node lives, no other passes.
+-- An entry that passes for the first time is kept by each of its live followers, whoever passes it; an unpassed entry is the same wherever it is kept; and while the stream's own node lives, no other passes.
 use Rattle.replication_safety.proofs.Passing.{first_pass-stored, passes-own}
 use Rattle.replication_safety.proofs.Consequences.{content-agrees}
 use Rattle.replication_safety.proofs.first_pass_is_stored.Goals as goal

@@ -1,4 +1,4 @@
--- No move takes back an epoch, what is known to have passed, or what was kept.
+-- No move takes anything back: stops, epochs, what is known to have passed, and entries stay.
 use Rattle.replication_safety.proofs.Views.{grows_NewView, grows_Stops, grows_Installs}
 use Rattle.replication_safety.proofs.Reports.{grows_ReportsItself, grows_Hears}
 use Rattle.replication_safety.proofs.Letters.{grows_Tells}
