@@ -1,12 +1,11 @@
 -- An acknowledgement that is noted keeps what holds of a stream.
-use Rattle.std.specs.Prelude.{ℕ, ◌≡◌, ◌≢◌, ◌+◌, ◌-◌, ◌<◌, ◌≤◌, true, false, length, ◌⊎◌}
-use Rattle.std.proofs.Common.{arith, refl, sym, ap, ◌∙◌, inl, inr}
+use Rattle.std.specs.Prelude.{ℕ, ◌≡◌, ◌≢◌, ◌-◌, length}
+use Rattle.std.proofs.Common.{arith, sym, ap, ◌∙◌, inl, inr}
 use Rattle.std.proofs.lemmas.Bool.{cases_eq}
-use Rattle.zeus_base.specs.Nodes.{has, with_node}
 use Rattle.zeus_base.specs.NodeLaws.{has-with_other}
 use Rattle.zeus_base.specs.TableLaws.{nth-put_same, nth-put_other, length-put}
 use Rattle.zeus_model.specs.Commit.{no_kept, acked_kept}
-use Rattle.replication_safety.specs.Line.{Line, Entry, Stored, In, IsLive, Has, top, end, kept_at, entry_of, entry}
+use Rattle.replication_safety.specs.Line.{Line, IsLive, Has, top, kept_at, entry_of}
 use Rattle.replication_safety.specs.Moves.{NotesAck}
 use Rattle.replication_safety.specs.Replicated.{Replicated}
 use Rattle.replication_safety.proofs.Basics.{agree}
@@ -29,9 +28,6 @@ notes-top old new n k a m s = omega (arith, notes-done old new n k a m s, notes-
 
 pub notes-has_before : (old new : Line) (n k a m j : ℕ) → NotesAck old new n k a → Has new m j → Has old m j
 notes-has_before old new n k a m j s h = omega (arith, h.0, h.1, notes-done old new n k a m s, notes-top old new n k a m s)
-
-pub notes-has : (old new : Line) (n k a m j : ℕ) → NotesAck old new n k a → Has old m j → Has new m j
-notes-has old new n k a m j s h = omega (arith, h.0, h.1, notes-done old new n k a m s, notes-top old new n k a m s)
 
 notes-entry : (old new : Line) (n k a : ℕ) → NotesAck old new n k a → kept_at new n k ≡ acked_kept (kept_at old n k) a
 notes-entry old new n k a s =
@@ -100,7 +96,6 @@ notes-keeps old new passed n k a r s =
       committed = rw home (omega (arith, r.committed, notes-top old new n k a old.home s));
       sizes = λ m. omega (arith, r.sizes m, notes-length old new n k a m s);
       kept = λ m j h. inl (notes-kept old new n k a m j s (notes-has_before old new n k a m j s h));
-      stays = λ m j above. notes-has old new n k a m j s;
       first = λ from to e j d g x m above below. absurd (omega arith);
     }
 

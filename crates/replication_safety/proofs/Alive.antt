@@ -1,8 +1,8 @@
 -- An entry that lives after a move lived before it, or was committed by it.
-use Rattle.std.specs.Prelude.{ℕ, suc, ◌≡◌, ◌≢◌, ◌+◌, ◌-◌, ◌<◌, ◌≤◌, true, false, List, length, ◌⊎◌}
-use Rattle.std.proofs.Common.{arith, refl, sym, ap, ◌∙◌, inl, inr}
-use Rattle.std.proofs.lemmas.Bool.{cases_lt, cases_eq}
-use Rattle.replication_safety.specs.Line.{Line, Letter, Entry, Stores, In, IsLive, IsOut, Has, IsInFlight, IsAlive, top, end}
+use Rattle.std.specs.Prelude.{ℕ, suc, ◌≡◌, ◌≢◌, ◌<◌, ◌≤◌, List, ◌⊎◌}
+use Rattle.std.proofs.Common.{arith, sym, inl, inr}
+use Rattle.std.proofs.lemmas.Bool.{cases_lt}
+use Rattle.replication_safety.specs.Line.{Line, Letter, Entry, Stores, In, IsLive, Has, IsInFlight, IsAlive, top, end}
 use Rattle.replication_safety.specs.Moves.{Sends, nothing, NewView, Stops, Installs, ReportsItself, Hears, Tells, Commits, StoresNext, Raises, NotesAck, PassesFirst}
 use Rattle.replication_safety.specs.Replicated.{IsCopy, Replicated}
 use Rattle.replication_safety.proofs.Basics.{silent-only}
@@ -11,7 +11,7 @@ use Rattle.replication_safety.proofs.Same.{SameKept, same-end, same-has_before}
 use Rattle.replication_safety.proofs.Views.{viewed-kept, stops-kept, installs-kept, grows_NewView, grows_Stops, grows_Installs}
 use Rattle.replication_safety.proofs.Reports.{reports-kept, hears-kept, grows_ReportsItself, grows_Hears}
 use Rattle.replication_safety.proofs.Letters.{IsItsEntry, tellable-entry, tells-kept, grows_Tells}
-use Rattle.replication_safety.proofs.Appends.{Appends, commits-appends, stores-appends, appends-top, appends-top_other, appends-has_before, grows_Commits, grows_StoresNext, receiver-foreign}
+use Rattle.replication_safety.proofs.Appends.{commits-appends, stores-appends, appends-top, appends-top_other, appends-has_before, grows_Commits, grows_StoresNext, receiver-foreign}
 use Rattle.replication_safety.proofs.Drops.{raises-drops, drops-has_before, drops-top_other, grows_Raises}
 use Rattle.replication_safety.proofs.Passing.{passes-drops, passes-top, grows_PassesFirst}
 use Rattle.replication_safety.proofs.Acks.{notes-has_before, notes-top, grows_NotesAck}

@@ -1,5 +1,5 @@
 -- Commits, and entries that are stored, keep what holds of a stream.
-use Rattle.std.specs.Prelude.{ℕ, suc, ◌≡◌, ◌≢◌, ◌+◌, ◌-◌, ◌<◌, ◌≤◌, true, false, List, [], ◌∷◌, ◌++◌, length, ◌⊎◌}
+use Rattle.std.specs.Prelude.{ℕ, suc, ◌≡◌, ◌≢◌, ◌-◌, ◌<◌, ◌≤◌, true, false, [], ◌∷◌, ◌++◌, length, ◌⊎◌}
 use Rattle.std.proofs.Common.{arith, refl, sym, ap, ◌∙◌, inl, inr}
 use Rattle.std.proofs.lemmas.Bool.{cases_lt, cases_eq}
 use Rattle.std.proofs.lemmas.List.{length-append}
@@ -7,10 +7,10 @@ use Rattle.zeus_base.specs.Nodes.{has}
 use Rattle.zeus_base.specs.TableLaws.{nth-append_old, nth-append_new}
 use Rattle.zeus_model.specs.Commit.{no_kept}
 use Rattle.zeus_model.specs.declared.state.Kept.{Kept}
-use Rattle.replication_safety.specs.Line.{Line, Letter, Entry, Stores, Stored, Passes, Reports, In, IsView, IsLive, IsMember, IsOut, Has, HasReported, view, top, end, kept_at, entry_of, entry}
-use Rattle.replication_safety.specs.Moves.{Acts, ActsOnKept, Commits, StoresNext}
-use Rattle.replication_safety.specs.Replicated.{IsViewed, Holds, IsCopy, IsWitnessed, Replicated}
-use Rattle.replication_safety.proofs.Basics.{agree, IsOut-stopped, Holds-top, silent-only}
+use Rattle.replication_safety.specs.Line.{Line, Entry, Stores, In, IsView, IsLive, IsMember, IsOut, Has, HasReported, view, top, kept_at, entry_of}
+use Rattle.replication_safety.specs.Moves.{ActsOnKept, Commits, StoresNext}
+use Rattle.replication_safety.specs.Replicated.{IsCopy, IsWitnessed, Replicated}
+use Rattle.replication_safety.proofs.Basics.{agree}
 use Rattle.replication_safety.proofs.Carries.{Grows, WasKept, IsAdded, CarriesKept, CarriesSaid, Carries, carried, witness-grows}
 use Rattle.replication_safety.proofs.Same.{IsView-same, view-same, quiet-reports, quiet-silent, silent-says, acts-live, acts-epoch, acts-viewed}
 
@@ -141,7 +141,6 @@ appends-keeps old new passed n x r a room added =
       committed = rw home (omega (arith, r.committed, appends-rises old new n old.home x a));
       sizes = λ m. appends-sizes old new passed n m x r a room;
       kept = λ m k. appends-kept old new passed n m k x a added;
-      stays = λ m k above. appends-has old new n m k x a;
       first = λ from to e k d g y m above below. absurd (omega arith);
     }
 
@@ -203,12 +202,17 @@ stores-witnessed old new passed n e from d x r s sent foreign v out above m =
     let left : IsOut old e old.home = cc in
     elim (cases_lt (old.epoch n) e) [
       | inl later ↦
-          let h : Has new n (top old n) = (omega (arith, a.done), omega (arith, appends-top old new n x a)) in
-          (n, m, foreign, h, λ reported.
-              elim (acting-silent old new n n e s.acts reported) [
-                | inl said ↦ omega (arith, (r.viewed.reports n e said).1)
-                | inr knows ↦ omega (arith, knows.0)
-              ])
+          let h : Has new n (top old n) = (omega (arith, a.done), omega (arith, appends-top old new n x a)) in (
+            n,
+            m,
+            foreign,
+            h,
+            λ reported.
+                elim (acting-silent old new n n e s.acts reported) [
+                  | inl said ↦ omega (arith, (r.viewed.reports n e said).1)
+                  | inr knows ↦ omega (arith, knows.0)
+                ],
+          )
       | inr earlier ↦
           witness-grows old new e (top old n) (appends-grows old new n x a) before
           (λ b. appends-has old new n b (top old n) x a)

@@ -1,11 +1,10 @@
 -- Members of lists, the letters that are sent, what a node keeps, and views that shrink.
-use Rattle.std.specs.Prelude.{ℕ, zero, suc, ◌≡◌, ◌≢◌, ◌+◌, ◌-◌, ◌<◌, ◌≤◌, true, false, List, [], ◌∷◌, ◌++◌, length, ◌⊎◌}
-use Rattle.std.proofs.Common.{arith, refl, sym, ap, subst, inl, inr}
+use Rattle.std.specs.Prelude.{ℕ, zero, suc, ◌≡◌, ◌≢◌, ◌+◌, ◌-◌, ◌<◌, ◌≤◌, true, List, [], ◌∷◌, ◌++◌, length, ◌⊎◌}
+use Rattle.std.proofs.Common.{arith, sym, subst, inl, inr}
 use Rattle.std.proofs.lemmas.Bool.{cases_lt, cases_eq}
-use Rattle.zeus_base.specs.Nodes.{has, is_subset}
+use Rattle.zeus_base.specs.Nodes.{is_subset}
 use Rattle.zeus_base.specs.NodeLaws.{is_subset-refl, is_subset-trans, is_subset-has}
-use Rattle.zeus_model.specs.Tables.{nth}
-use Rattle.replication_safety.specs.Line.{Line, Letter, In, here, there, IsView, IsLive, IsMember, IsOut, Has, view, top}
+use Rattle.replication_safety.specs.Line.{Line, Letter, In, here, there, IsView, IsLive, IsMember, IsOut, view, top}
 use Rattle.replication_safety.specs.Moves.{Sends, nothing}
 use Rattle.replication_safety.specs.Replicated.{IsViewed, Holds}
 

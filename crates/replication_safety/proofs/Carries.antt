@@ -1,5 +1,5 @@
 -- What a move owes so that what holds of the stream before it holds after it: it takes nothing back, and accounts for what is new.
-use Rattle.std.specs.Prelude.{ℕ, ◌≡◌, ◌≢◌, ◌<◌, ◌≤◌, true, false, [], length, ◌⊎◌}
+use Rattle.std.specs.Prelude.{ℕ, ◌≡◌, ◌≢◌, ◌<◌, ◌≤◌, true, false, length, ◌⊎◌}
 use Rattle.std.proofs.Common.{arith, refl, sym, ap, ◌∙◌, inl, inr}
 use Rattle.std.proofs.lemmas.Bool.{cases_lt}
 use Rattle.zeus_base.specs.Nodes.{has}
@@ -50,7 +50,6 @@ pub record CarriesKept (old new : Line) (passed now : ℕ) : Type 0 where
   pub committed : now ≤ end new
   pub sizes : (n : ℕ) → length (new.kept n) ≤ 16
   pub kept : (n k : ℕ) → Has new n k → WasKept old new n k ⊎ IsAdded new now n k
-  pub stays : (n k : ℕ) → now ≤ k → Has old n k → Has new n k
   -- what passes now is known to be stored
   pub first : (from to e k d g : ℕ) (x : Entry) → In (Stores from to e k d x) old.letters → passed ≤ k → k < now
       → IsLive new g → has g x.followers ≡ true → k < top new g
@@ -95,7 +94,9 @@ witness-grows old new e k g v stays silent w =
 
 witness-stays : (old new : Line) (passed now e k : ℕ) → Carries old new passed now → IsView old e → IsOut old e old.home → now ≤ k → IsWitnessed old e k → IsWitnessed new e k
 witness-stays old new passed now e k c v out above w =
-    witness-grows old new e k c.grows v (λ n. c.keeps.stays n k above) (λ n. c.says.silent n e k v out) w
+    witness-grows old new e k c.grows v
+    (λ n h. (omega (arith, c.keeps.most n), omega (arith, c.grows.top n, h.1)))
+    (λ n. c.says.silent n e k v out) w
 
 -- ---- each field
 

@@ -1,10 +1,10 @@
 -- What follows from what holds of a stream at one moment.
-use Rattle.std.specs.Prelude.{ℕ, ◌≡◌, ◌≢◌, ◌+◌, ◌<◌, ◌≤◌, true, false, List, length, ◌⊎◌, ◌↔◌}
-use Rattle.std.proofs.Common.{arith, refl, sym, ap, ◌∙◌, inl, inr}
+use Rattle.std.specs.Prelude.{ℕ, ◌≡◌, ◌≢◌, ◌<◌, ◌≤◌, true, ◌↔◌}
+use Rattle.std.proofs.Common.{arith, refl, ap, inl, inr}
 use Rattle.std.proofs.lemmas.Bool.{cases_eq}
 use Rattle.zeus_base.specs.Nodes.{has, is_subset}
 use Rattle.zeus_base.specs.NodeLaws.{is_subset-has}
-use Rattle.replication_safety.specs.Line.{Line, Letter, Entry, Stores, Stored, Passes, Reports, In, IsView, IsLive, IsMember, IsOut, Has, HasReported, IsInFlight, IsAlive, view, top, end, kept_at, entry_of, entry}
+use Rattle.replication_safety.specs.Line.{Line, Entry, Stores, In, IsView, IsLive, IsMember, IsOut, Has, HasReported, IsAlive, view, end, kept_at, entry_of, entry}
 use Rattle.replication_safety.specs.Replicated.{Holds, IsCopy, IsWitnessed, Replicated}
 use Rattle.replication_safety.proofs.Basics.{IsOut-stopped}
 

@@ -1,19 +1,15 @@
 -- Acknowledgements that are noted, and entries that pass or are known to have passed, keep what holds of a stream.
-use Rattle.std.specs.Prelude.{ℕ, zero, suc, ◌≡◌, ◌≢◌, ◌+◌, ◌-◌, ◌<◌, ◌≤◌, true, false, List, [], ◌∷◌, length, drop, ◌⊎◌}
-use Rattle.std.proofs.Common.{arith, refl, sym, ap, ◌∙◌, inl, inr}
-use Rattle.std.proofs.lemmas.Bool.{cases_lt, cases_eq}
+use Rattle.std.specs.Prelude.{ℕ, ◌≡◌, ◌≢◌, ◌+◌, ◌-◌, ◌<◌, ◌≤◌, length, drop}
+use Rattle.std.proofs.Common.{arith, sym, ap, ◌∙◌, inl, inr}
+use Rattle.std.proofs.lemmas.Bool.{cases_eq}
 use Rattle.std.proofs.lemmas.List.{length-drop}
-use Rattle.zeus_base.specs.Nodes.{has, with_node, without, meet, is_subset}
-use Rattle.zeus_base.specs.NodeLaws.{has-with_other, has-without_other, has-meet, is_subset-has}
 use Rattle.zeus_model.specs.Tables.{nth}
-use Rattle.zeus_base.specs.TableLaws.{nth-drop, nth-put_same, nth-put_other, length-put}
-use Rattle.zeus_model.specs.Commit.{no_kept, acked_kept}
-use Rattle.zeus_model.specs.declared.state.Kept.{Kept}
-use Rattle.replication_safety.specs.Line.{Line, Letter, Entry, Stores, Stored, Passes, Reports, In, IsView, IsLive, IsMember, IsOut, Has, HasReported, view, top, end, kept_at, entry_of, entry}
-use Rattle.replication_safety.specs.Moves.{Acts, ActsOnKept, NotesAck, Raises, PassesFirst}
-use Rattle.replication_safety.specs.Replicated.{IsViewed, Holds, IsCopy, Replicated}
-use Rattle.replication_safety.proofs.Basics.{agree, IsOut-stopped, Holds-top}
-use Rattle.replication_safety.proofs.Carries.{Grows, WasKept, IsAdded, CarriesKept, CarriesSaid, Carries, carried}
+use Rattle.zeus_base.specs.TableLaws.{nth-drop}
+use Rattle.zeus_model.specs.Commit.{no_kept}
+use Rattle.replication_safety.specs.Line.{Line, IsLive, Has, top, kept_at, entry_of}
+use Rattle.replication_safety.specs.Moves.{ActsOnKept, Raises}
+use Rattle.replication_safety.specs.Replicated.{Replicated}
+use Rattle.replication_safety.proofs.Carries.{Grows, WasKept, CarriesKept, Carries, carried}
 use Rattle.replication_safety.proofs.Same.{view-same, acts-live, acts-epoch}
 use Rattle.replication_safety.proofs.Appends.{acting-says}
 
@@ -52,16 +48,6 @@ pub drops-has_before : (old new : Line) (n d m k : ℕ) → Drops old new n d �
 drops-has_before old new n d m k s h =
     elim (cases_eq m n) [
       | inl same ↦ rw same (drops-has_here old new n d k s (rw same at h)).0
-      | inr other ↦ omega (arith, h.0, h.1, drops-top_other old new n d m s other, s.acts.acts.others.done m other)
-    ]
-
--- what was not dropped stays
-pub drops-has : (old new : Line) (n d m k : ℕ) → Drops old new n d → d ≤ k → Has old m k → Has new m k
-drops-has old new n d m k s above h =
-    elim (cases_eq m n) [
-      | inl same ↦
-          let here : Has old n k = rw same at h in
-          rw same (omega (arith, s.done, drops-top old new n d n s, here.0, here.1))
       | inr other ↦ omega (arith, h.0, h.1, drops-top_other old new n d m s other, s.acts.acts.others.done m other)
     ]
 
@@ -145,7 +131,6 @@ raises-keeps old new passed n d r s =
       committed = rw s.acts.acts.setting.home (omega (arith, r.committed, drops-top old new n d old.home g));
       sizes = λ m. omega (arith, r.sizes m, drops-sizes old new n d m g);
       kept = λ m k h. inl (drops-kept old new n d m k g h);
-      stays = λ m k above. drops-has old new n d m k g (omega (arith, s.known));
       first = λ from to e k f a x m above below. absurd (omega arith);
     }
 

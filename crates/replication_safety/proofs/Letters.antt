@@ -1,13 +1,13 @@
 -- The letters that a node sends by itself keep what holds of a stream.
-use Rattle.std.specs.Prelude.{ℕ, ◌≡◌, ◌≢◌, ◌+◌, ◌-◌, ◌<◌, ◌≤◌, true, false, List, length, ◌⊎◌}
+use Rattle.std.specs.Prelude.{ℕ, ◌≡◌, ◌≢◌, ◌<◌, ◌≤◌, true, length, ◌⊎◌}
 use Rattle.std.proofs.Common.{arith, refl, sym, ap, ◌∙◌, inl, inr}
 use Rattle.std.proofs.lemmas.Bool.{cases_eq}
 use Rattle.zeus_base.specs.Nodes.{has}
-use Rattle.replication_safety.specs.Line.{Line, Letter, Entry, Stores, Stored, Passes, Reports, In, IsView, IsLive, IsMember, IsOut, Has, HasReported, view, top, end, kept_at, entry_of, entry}
-use Rattle.replication_safety.specs.Moves.{Acts, Tells, IsTellable, entry as entry_told, stored as stored_told, passed as passed_told, reported as reported_told}
-use Rattle.replication_safety.specs.Replicated.{IsViewed, Holds, IsCopy, IsWitnessed, Replicated}
+use Rattle.replication_safety.specs.Line.{Line, Entry, Stores, Stored, Passes, Reports, In, IsView, IsLive, IsOut, Has, HasReported, view, top, kept_at, entry_of, entry}
+use Rattle.replication_safety.specs.Moves.{Tells, IsTellable, entry as entry_told, stored as stored_told, passed as passed_told, reported as reported_told}
+use Rattle.replication_safety.specs.Replicated.{IsViewed, IsCopy, IsWitnessed, Replicated}
 use Rattle.replication_safety.proofs.Basics.{agree, IsOut-stopped}
-use Rattle.replication_safety.proofs.Carries.{Grows, IsTold, CarriesKept, CarriesSaid, Carries, carried, IsCopy-grows, witness-grows}
+use Rattle.replication_safety.proofs.Carries.{Grows, IsTold, CarriesSaid, Carries, carried, IsCopy-grows, witness-grows}
 use Rattle.replication_safety.proofs.Same.{SameKept, acts-grows, same-kept, same-has, same-top, IsView-same, view-same, quiet-reports, acts-live, acts-epoch, acts-speaks}
 
 -- ---- what may be told
@@ -166,15 +166,15 @@ tells-viewed : (old new : Line) (n : ℕ) → IsViewed old → Tells old new n �
 tells-viewed old new n v s =
     acts-speaks old new n v s.acts
     (λ from to e k d x m.
-        elim (s.sends.only (Stores from to e k d x) m) [
-          | inl before ↦ inl before
-          | inr now ↦ let t = tellable-entry old n from to e k d x now in inr (rw t.sender s.acts.live, t.epoch ∙ sym (ap old.epoch t.sender))
-        ])
+    elim (s.sends.only (Stores from to e k d x) m) [
+      | inl before ↦ inl before
+      | inr now ↦ let t = tellable-entry old n from to e k d x now in inr (rw t.sender s.acts.live, t.epoch ∙ sym (ap old.epoch t.sender))
+    ])
     (λ from e m.
-        elim (s.sends.only (Reports from e) m) [
-          | inl before ↦ inl before
-          | inr now ↦ let t = tellable-reported old n from e now in inr (rw t.0 s.acts.live, t.1 ∙ sym (ap old.epoch t.0))
-        ])
+    elim (s.sends.only (Reports from e) m) [
+      | inl before ↦ inl before
+      | inr now ↦ let t = tellable-reported old n from e now in inr (rw t.0 s.acts.live, t.1 ∙ sym (ap old.epoch t.0))
+    ])
 
 tells-says : (old new : Line) (passed n : ℕ) → Replicated old passed → Tells old new n → CarriesSaid old new passed
 tells-says old new passed n r s =

@@ -10,3 +10,6 @@ pub mod Consequences
 pub mod Passing
 pub mod Acks
 pub mod Alive
+pub mod Start
+pub mod Received
+pub mod Entries

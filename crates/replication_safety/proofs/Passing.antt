@@ -1,19 +1,19 @@
 -- Passes keep what holds of a stream; and what passes is stored at all its live followers.
-use Rattle.std.specs.Prelude.{ℕ, zero, suc, ◌≡◌, ◌≢◌, ◌+◌, ◌-◌, ◌<◌, ◌≤◌, ◌&&◌, true, false, List, [], ◌∷◌, length, drop, ◌⊎◌}
-use Rattle.std.proofs.Common.{arith, refl, sym, ap, ◌∙◌, inl, inr}
-use Rattle.std.proofs.lemmas.Bool.{cases_lt, cases_eq}
+use Rattle.std.specs.Prelude.{ℕ, suc, ◌≡◌, ◌≢◌, ◌-◌, ◌<◌, ◌≤◌, true, List, length}
+use Rattle.std.proofs.Common.{arith, sym, ap, ◌∙◌, inl, inr}
+use Rattle.std.proofs.lemmas.Bool.{cases_eq}
 use Rattle.std.proofs.lemmas.List.{length-drop}
-use Rattle.zeus_base.specs.Nodes.{has, with_node, without, meet, is_subset}
+use Rattle.zeus_base.specs.Nodes.{has, without, meet}
 use Rattle.zeus_base.specs.NodeLaws.{has-without_other, has-meet, is_subset-has}
 use Rattle.zeus_model.specs.declared.state.Kept.{Kept}
-use Rattle.replication_safety.specs.Line.{Line, Letter, Entry, Stores, Stored, Passes, Reports, In, IsView, IsLive, IsMember, IsOut, Has, view, top, end, kept_at, entry_of, entry}
-use Rattle.replication_safety.specs.Moves.{Acts, ActsOnKept, Raises, PassesFirst}
-use Rattle.replication_safety.specs.Replicated.{IsViewed, Holds, IsCopy, Replicated}
+use Rattle.replication_safety.specs.Line.{Line, Entry, Stores, Stored, In, IsView, IsLive, Has, view, top, end, kept_at, entry_of, entry}
+use Rattle.replication_safety.specs.Moves.{Raises, PassesFirst}
+use Rattle.replication_safety.specs.Replicated.{Replicated}
 use Rattle.replication_safety.proofs.Basics.{IsOut-stopped, Holds-top}
 use Rattle.replication_safety.proofs.Carries.{Grows, CarriesKept, Carries, carried}
 use Rattle.replication_safety.proofs.Same.{acts-live}
 use Rattle.replication_safety.proofs.Appends.{acting-says}
-use Rattle.replication_safety.proofs.Drops.{Drops, drops-top, drops-top_other, drops-has, drops-grows, drops-kept, drops-sizes, keeps_Raises}
+use Rattle.replication_safety.proofs.Drops.{Drops, drops-top, drops-top_other, drops-grows, drops-kept, drops-sizes, keeps_Raises}
 use Rattle.replication_safety.proofs.Consequences.{kept-committed, content-agrees}
 
 pub passes-drops : (old new : Line) (n : ℕ) → PassesFirst old new n → Drops old new n (suc (old.done n))
@@ -130,7 +130,6 @@ first_pass-keeps old new passed n r s first =
       committed = rw s.acts.acts.setting.home (omega (arith, drops-top old new n (suc (old.done n)) old.home d));
       sizes = λ m. omega (arith, r.sizes m, drops-sizes old new n (suc (old.done n)) m d);
       kept = λ m k h. inl (drops-kept old new n (suc (old.done n)) m k d h);
-      stays = λ m k above. drops-has old new n (suc (old.done n)) m k d (omega arith);
       first = λ from to e k f g x. first_pass-first old new passed n from to e k f g x r s first;
     }
 

@@ -1,16 +1,15 @@
 -- Reports, and the letters that a node sends by itself, keep what holds of a stream.
-use Rattle.std.specs.Prelude.{ℕ, suc, ◌≡◌, ◌≢◌, ◌+◌, ◌-◌, ◌<◌, ◌≤◌, ◌||◌, ◌==◌, Bool, true, false, List, [], ◌∷◌, ◌++◌, length, ◌⊎◌}
-use Rattle.std.proofs.Common.{arith, refl, sym, ap, ◌∙◌, inl, inr}
-use Rattle.std.proofs.lemmas.Bool.{cases_lt, cases_eq}
-use Rattle.std.proofs.lemmas.Bool.Decides.{nat_tests}
-use Rattle.zeus_base.specs.Nodes.{has, with_node, is_subset}
+use Rattle.std.specs.Prelude.{ℕ, ◌≡◌, true, List, [], length, ◌⊎◌}
+use Rattle.std.proofs.Common.{arith, sym, ap, ◌∙◌, inl, inr}
+use Rattle.std.proofs.lemmas.Bool.{cases_eq}
+use Rattle.zeus_base.specs.Nodes.{has, with_node}
 use Rattle.zeus_base.specs.NodeLaws.{has-with_other}
-use Rattle.replication_safety.specs.Line.{Line, Letter, Entry, Stores, Stored, Passes, Reports, In, IsView, IsLive, IsMember, IsOut, Has, HasReported, view, top, end, kept_at, entry_of, entry}
-use Rattle.replication_safety.specs.Moves.{Acts, SameSetting, Sends, nothing, ReportsItself, Hears, Tells, IsTellable}
-use Rattle.replication_safety.specs.Replicated.{IsViewed, IsCopy, IsWitnessed, Replicated}
-use Rattle.replication_safety.proofs.Basics.{silent-only, agree, IsOut-stopped, Holds-top, top-Holds}
-use Rattle.replication_safety.proofs.Carries.{Grows, IsTold, IsFresh, CarriesKept, CarriesSaid, Carries, carried}
-use Rattle.replication_safety.proofs.Same.{SameKept, acts-grows, same-kept, IsView-same, view-same, silent-says, quiet-silent, quiet-reports, acts-live, acts-epoch, acts-viewed, acts-speaks}
+use Rattle.replication_safety.specs.Line.{Line, Reports, In, IsLive, IsOut, Has, HasReported}
+use Rattle.replication_safety.specs.Moves.{ReportsItself, Hears}
+use Rattle.replication_safety.specs.Replicated.{Replicated}
+use Rattle.replication_safety.proofs.Basics.{silent-only, agree}
+use Rattle.replication_safety.proofs.Carries.{Grows, Carries, carried}
+use Rattle.replication_safety.proofs.Same.{SameKept, acts-grows, same-kept, silent-says, quiet-silent, quiet-reports, acts-live, acts-epoch, acts-viewed}
 
 -- who is in a set with one more node is that node or was in the set
 has-with_either : (m n : ℕ) (ms : List ℕ) → has m (with_node n ms) ≡ true → (m ≡ n) ⊎ (has m ms ≡ true)

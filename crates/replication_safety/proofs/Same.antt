@@ -1,14 +1,12 @@
 -- Moves that leave what the nodes keep: views, stops, installs, reports and letters.
-use Rattle.std.specs.Prelude.{ℕ, suc, ◌≡◌, ◌≢◌, ◌+◌, ◌-◌, ◌<◌, ◌≤◌, true, false, List, [], ◌∷◌, ◌++◌, length, ◌⊎◌}
-use Rattle.std.proofs.Common.{arith, refl, sym, ap, subst, ◌∙◌, inl, inr}
-use Rattle.std.proofs.lemmas.Bool.{cases_lt, cases_eq}
-use Rattle.zeus_base.specs.Nodes.{has, with_node, is_subset}
-use Rattle.zeus_model.specs.declared.state.Kept.{Kept}
-use Rattle.replication_safety.specs.Line.{Line, Letter, Entry, Stores, Stored, Passes, Reports, In, IsView, IsLive, IsMember, IsOut, Has, HasReported, view, top, end, kept_at, entry_of, entry}
-use Rattle.replication_safety.specs.Moves.{SameSetting, SameOthers, Sends, nothing, Acts, NewView, Stops, Installs, ReportsItself, Hears, Tells, IsTellable}
-use Rattle.replication_safety.specs.Replicated.{IsViewed, Holds, IsCopy, IsWitnessed, Replicated}
-use Rattle.replication_safety.proofs.Basics.{Holds-top, top-Holds, silent-only, agree}
-use Rattle.replication_safety.proofs.Carries.{Grows, WasKept, IsAdded, IsTold, IsFresh, CarriesKept, CarriesSaid, Carries, carried}
+use Rattle.std.specs.Prelude.{ℕ, suc, ◌≡◌, ◌≤◌, true, length, ◌⊎◌}
+use Rattle.std.proofs.Common.{arith, sym, ◌∙◌, inl, inr}
+use Rattle.zeus_base.specs.Nodes.{has}
+use Rattle.replication_safety.specs.Line.{Line, Letter, Entry, Stores, Stored, Passes, Reports, In, IsView, IsLive, IsMember, IsOut, Has, HasReported, view, top, end, kept_at, entry}
+use Rattle.replication_safety.specs.Moves.{SameSetting, Sends, nothing, Acts}
+use Rattle.replication_safety.specs.Replicated.{IsViewed, Replicated}
+use Rattle.replication_safety.proofs.Basics.{silent-only, agree}
+use Rattle.replication_safety.proofs.Carries.{Grows, CarriesKept, CarriesSaid}
 
 -- what the nodes keep stays
 pub record SameKept (old new : Line) : Type 0 where
@@ -66,7 +64,6 @@ same-kept old new passed r s live =
       committed = omega (arith, same-end old new s, r.committed);
       sizes = λ n. rw (s.kept n) (r.sizes n);
       kept = λ n k h. inl record { kept = same-has_before old new n k s h; same = rw (same-kept_at old new n k s); acks = λ a is. inl (rw (same-kept_at old new n k s) at is) };
-      stays = λ n k above h. same-has old new n k s h;
       first = λ from to e k d g x m above below. absurd (omega arith);
     }
 

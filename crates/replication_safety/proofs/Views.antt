@@ -1,16 +1,16 @@
 -- New views, stops and installs keep what holds of a stream.
-use Rattle.std.specs.Prelude.{ℕ, suc, ◌≡◌, ◌≢◌, ◌+◌, ◌-◌, ◌<◌, ◌≤◌, true, false, List, [], ◌∷◌, ◌++◌, length, ◌⊎◌}
-use Rattle.std.proofs.Common.{arith, refl, sym, ap, ◌∙◌, inl, inr}
+use Rattle.std.specs.Prelude.{ℕ, suc, ◌≡◌, ◌-◌, ◌≤◌, true, false, List, [], ◌∷◌, length, ◌⊎◌}
+use Rattle.std.proofs.Common.{arith, ap, inl, inr}
 use Rattle.std.proofs.lemmas.Bool.{cases_lt, cases_eq}
 use Rattle.std.proofs.lemmas.List.{length-append}
 use Rattle.zeus_base.specs.Nodes.{has, is_subset}
 use Rattle.zeus_base.specs.TableLaws.{nth-append_old, nth-append_new}
-use Rattle.replication_safety.specs.Line.{Line, Letter, Entry, Stores, Stored, Passes, Reports, In, IsView, IsLive, IsMember, IsOut, Has, HasReported, view}
-use Rattle.replication_safety.specs.Moves.{SameSetting, Sends, nothing, NewView, Stops, Installs}
+use Rattle.replication_safety.specs.Line.{Line, Stores, Stored, Passes, Reports, In, IsView, IsLive, IsMember, HasReported, view}
+use Rattle.replication_safety.specs.Moves.{NewView, Stops, Installs}
 use Rattle.replication_safety.specs.Replicated.{IsViewed, Replicated}
 use Rattle.replication_safety.proofs.Basics.{silent-only, agree}
-use Rattle.replication_safety.proofs.Carries.{Grows, IsFresh, CarriesKept, CarriesSaid, Carries, carried}
-use Rattle.replication_safety.proofs.Same.{SameKept, same-grows, same-kept, Speaks, speaks-viewed, IsView-same, view-same, silent-says, quiet-silent, quiet-reports}
+use Rattle.replication_safety.proofs.Carries.{Grows, IsFresh, CarriesSaid, Carries, carried}
+use Rattle.replication_safety.proofs.Same.{SameKept, same-grows, same-kept, speaks-viewed, view-same, silent-says, quiet-silent, quiet-reports}
 
 -- ---- a node stops
 
