@@ -6,3 +6,5 @@ pub mod Reach
 pub mod Passing
 pub mod Finish
 pub mod Entries
+pub mod Causes
+pub mod Proposals
