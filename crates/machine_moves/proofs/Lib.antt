@@ -8,3 +8,4 @@ pub mod Finish
 pub mod Entries
 pub mod Causes
 pub mod Proposals
+pub mod Decisions
