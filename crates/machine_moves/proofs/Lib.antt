@@ -9,3 +9,5 @@ pub mod Entries
 pub mod Causes
 pub mod Proposals
 pub mod Decisions
+pub mod Receiving
+pub mod Trying
