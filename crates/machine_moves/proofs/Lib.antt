@@ -11,3 +11,4 @@ pub mod Proposals
 pub mod Decisions
 pub mod Receiving
 pub mod Trying
+pub mod Ticking

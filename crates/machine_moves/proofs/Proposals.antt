@@ -47,13 +47,13 @@ unfolding to_each
 length-to_each n [] body = refl
 length-to_each n (to ∷ tos) body = ap suc (length-to_each n tos body)
 
-invalidation_about : (m : Node) (x : ℕ) (p : Proposal) (l : Letter) → In l (invalidations m x p) → IsAboutProposal m x p l
+pub invalidation_about : (m : Node) (x : ℕ) (p : Proposal) (l : Letter) → In l (invalidations m x p) → IsAboutProposal m x p l
 invalidation_about m x p =
     let nodes = arbiters p.base_place m.members m.directory in
     to_each-each (IsAboutProposal m x p) m (without m.me nodes) (OInv x p) (λ to h. to_arbiter to (without-member to m.me nodes h))
 
 -- an acknowledgement to where it may go
-acknowledgement_about : (m : Node) (x to : ℕ) (p : Proposal) → (has p.requester m.members ≡ true → to ≡ p.requester) → (is_source m p.base_place ≡ true → unready_cause m x ≡ None) → (l : Letter) → In l (acknowledgement m to x p ∷ []) → IsAboutProposal m x p l
+pub acknowledgement_about : (m : Node) (x to : ℕ) (p : Proposal) → (has p.requester m.members ≡ true → to ≡ p.requester) → (is_source m p.base_place ≡ true → unready_cause m x ≡ None) → (l : Letter) → In l (acknowledgement m to x p ∷ []) → IsAboutProposal m x p l
 acknowledgement_about m x to p collects ready l (here _ _ e) = rw e (to_collector to collects ready)
 acknowledgement_about m x to p collects ready l (there _ _ i) = elim i [ ]
 
@@ -176,7 +176,7 @@ refuses_proposal s n k x p cause ready =
     (λ _. cut_tells s n k (letter m p.requester (ONack x p.stamp cause) ∷ []) ready.live (advice_letter m p.requester x p.stamp cause))
     (λ _. cut_none s n m k (still_reaches s n))
 
-collector-requester : (m : Node) (p : Proposal) (other : ℕ) → has p.requester m.members ≡ true → collector m p other ≡ p.requester
+pub collector-requester : (m : Node) (p : Proposal) (other : ℕ) → has p.requester m.members ≡ true → collector m p other ≡ p.requester
 unfolding collector
 collector-requester m p other h = cond-true (has p.requester m.members) p.requester other h
 
