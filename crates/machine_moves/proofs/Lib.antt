@@ -12,3 +12,6 @@ pub mod Decisions
 pub mod Receiving
 pub mod Trying
 pub mod Ticking
+pub mod Steps
+pub mod Start
+pub mod Runs
