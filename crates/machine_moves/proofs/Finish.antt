@@ -48,7 +48,7 @@ outside-cases : (member : Bool) (a b : List Stream) (t : Stream) → In t (if me
 outside-cases true a b t m = inr m
 outside-cases false a b t m = elim (In-append t a b m) [ inl l ↦ inl (refl, l) | inr r ↦ inr r ]
 
-streams_outside-node : (members is ms : List ℕ) (t : Stream) → In t (streams_outside members is ms) → has t.node members ≡ false
+pub streams_outside-node : (members is ms : List ℕ) (t : Stream) → In t (streams_outside members is ms) → has t.node members ≡ false
 unfolding streams_outside
 streams_outside-node members is [] t m = elim m [ ]
 streams_outside-node members is (k ∷ ks) t m =

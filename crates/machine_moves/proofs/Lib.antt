@@ -6,3 +6,12 @@ pub mod Reach
 pub mod Passing
 pub mod Finish
 pub mod Entries
+pub mod Causes
+pub mod Proposals
+pub mod Decisions
+pub mod Receiving
+pub mod Trying
+pub mod Ticking
+pub mod Steps
+pub mod Start
+pub mod Runs

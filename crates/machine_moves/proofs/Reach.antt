@@ -111,7 +111,7 @@ pub record IsReady (s : Scene) (n : ℕ) : Type 0 where
 pub known : (s : Scene) (n : ℕ) → IsReady s n → IsKnown s.config s.views n (s.node n)
 known s n r = let h = r.steady in h.nodes n r.live
 
-Same-refl : (s : Scene) → Same s s
+pub Same-refl : (s : Scene) → Same s s
 Same-refl s =
     record { config = refl; views = refl; nodes = λ k. refl; sends = record { stay = λ l i. i; only = λ l i. inl i } }
 
