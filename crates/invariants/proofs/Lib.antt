@@ -8,3 +8,4 @@ pub mod AboutLines
 pub mod LineMoves
 pub mod LineSeen
 pub mod LineEntries
+pub mod LineKeeps
