@@ -90,7 +90,7 @@ stores-alive old new passed n x r s =
 
 -- a live node that keeps an entry that has passed had it from a letter
 passed-repeated : (l : Line) (passed n k : ℕ) (x : Entry) → Replicated l passed → IsLive l n → Has l n k → k < passed → x ≡ entry_of (kept_at l n k)
-    → (f g b c : ℕ) × In (Stores f g b k c x) l.letters
+    → (sender receiver epoch done : ℕ) × In (Stores sender receiver epoch k done x) l.letters
 passed-repeated l passed n k x r live h below is =
     let foreign : n ≢ l.home = λ own. let first : passed ≡ l.done l.home = r.own_first (rw own at live) in omega (arith, h.0, ap l.done own) in
     let o = r.from_letters n k h foreign in
@@ -98,7 +98,7 @@ passed-repeated l passed n k x r live h below is =
 
 -- a letter with an entry that has passed says what an earlier letter said
 pub tells-repeats : (old new : Line) (passed n from to e k d : ℕ) (x : Entry) → Replicated old passed → Tells old new n → In (Stores from to e k d x) new.letters → k < passed
-    → (f g b c : ℕ) × In (Stores f g b k c x) old.letters
+    → (sender receiver epoch done : ℕ) × In (Stores sender receiver epoch k done x) old.letters
 tells-repeats old new passed n from to e k d x r s m below =
     elim (s.sends.only (Stores from to e k d x) m) [
       | inl before ↦ (from, to, e, d, before)

@@ -73,7 +73,7 @@ pub fn what_moves_add()
     ensures commits { (old new : Line) (x : Entry) → Commits old new x → entry new (end old) ≡ x }
     ensures stores_unpassed { (old new : Line) (passed n : ℕ) (x : Entry) → Replicated old passed → StoresNext old new n x → passed ≤ top old n }
     ensures stores_entry { (old new : Line) (passed n : ℕ) (x : Entry) → Replicated old passed → StoresNext old new n x → x ≡ entry old (top old n) }
-    ensures repeats { (old new : Line) (passed n from to e k d : ℕ) (x : Entry) → Replicated old passed → Tells old new n → In (Stores from to e k d x) new.letters → k < passed → (f g b c : ℕ) × In (Stores f g b k c x) old.letters }
+    ensures repeats { (old new : Line) (passed n from to e k d : ℕ) (x : Entry) → Replicated old passed → Tells old new n → In (Stores from to e k d x) new.letters → k < passed → (sender receiver epoch done : ℕ) × In (Stores sender receiver epoch k done x) old.letters }
 {}
 
 /// What follows at one moment: a live node lacks no entry that lives below one that it keeps, what passed is not stored again,
