@@ -74,12 +74,12 @@ pub sends_line : (old new : Scene) (t : Stream) (allowed : Letter → Type 0) (h
 unfolding line
 sends_line old new t allowed heard sends hears = record {
   stay = λ m i.
-    let found : (l : Letter) × In l old.letters × In m (says t l) = about-from t m old.letters i in
-    about-in t m found.0 new.letters (sends.stay found.0 found.1) found.2;
+      let found : (l : Letter) × In l old.letters × In m (says t l) = about-from t m old.letters i in
+      about-in t m found.0 new.letters (sends.stay found.0 found.1) found.2;
   only = λ m i.
-    let found : (l : Letter) × In l new.letters × In m (says t l) = about-from t m new.letters i in
-    elim (sends.only found.0 found.1) [
-      | inl before ↦ inl (about-in t m found.0 old.letters before found.2)
-      | inr new_one ↦ inr (hears found.0 m new_one found.2)
-    ];
+      let found : (l : Letter) × In l new.letters × In m (says t l) = about-from t m new.letters i in
+      elim (sends.only found.0 found.1) [
+        | inl before ↦ inl (about-in t m found.0 old.letters before found.2)
+        | inr new_one ↦ inr (hears found.0 m new_one found.2)
+      ];
 }

@@ -139,12 +139,12 @@ pub sends_object : (old new : Scene) (x : ℕ) (allowed : Letter → Type 0) (he
 unfolding object
 sends_object old new x allowed heard sends hears = record {
   kept = λ m i.
-    let found : (l : Letter) × In l old.letters × In m (says x l) = about-from x m old.letters i in
-    about-in x m found.0 new.letters (sends.stay found.0 found.1) found.2;
+      let found : (l : Letter) × In l old.letters × In m (says x l) = about-from x m old.letters i in
+      about-in x m found.0 new.letters (sends.stay found.0 found.1) found.2;
   only = λ m i.
-    let found : (l : Letter) × In l new.letters × In m (says x l) = about-from x m new.letters i in
-    elim (sends.only found.0 found.1) [
-      | inl before ↦ inl (about-in x m found.0 old.letters before found.2)
-      | inr new_one ↦ inr (hears found.0 m new_one found.2)
-    ];
+      let found : (l : Letter) × In l new.letters × In m (says x l) = about-from x m new.letters i in
+      elim (sends.only found.0 found.1) [
+        | inl before ↦ inl (about-in x m found.0 old.letters before found.2)
+        | inr new_one ↦ inr (hears found.0 m new_one found.2)
+      ];
 }

@@ -98,7 +98,7 @@ sees_raise old new t s n d passed l replicated foreign r is above c =
       | inr other ↦
           let st = raise-standing (old.node n) s d in
           sees_nothing old new t n passed (raise (old.node n) s d) c
-              (logs-quiet (old.node n) (raise (old.node n) s d) t n st.0.stopped st.0.epoch st.0.reported st.1 (raise-other (old.node n) s t d other))
+          (logs-quiet (old.node n) (raise (old.node n) s d) t n st.0.stopped st.0.epoch st.0.reported st.1 (raise-other (old.node n) s t d other))
       | inl same ↦ subst (λ (u : Stream). Seen (line old u) (line new u) passed) same
           (raised n d (raise_here old new s n d passed l (subst (λ (u : Stream). Replicated (line old u) passed) (sym same) replicated) foreign r.2 is above c))
     ]
@@ -113,7 +113,7 @@ stored_letter : (old : Scene) (n : ℕ) (r : Invalidation) (l : Letter) → l.bo
 unfolding line
 stored_letter old n r l body g =
     let says_it : In (Stores l.from l.to l.epoch r.number r.done record { followers = r.followers; writes = r.writes }) (says r.stream l) =
-        rw body (says-rinv r.stream l.from l.to l.epoch r refl) in
+    rw body (says-rinv r.stream l.from l.to l.epoch r refl) in
     let said = about-in r.stream (Stores l.from l.to l.epoch r.number r.done record { followers = r.followers; writes = r.writes }) l old.letters g.2 says_it in
     rw (← g.1, ← g.0) said
 
@@ -131,12 +131,16 @@ store_here old new n r l foreign g body low number c = record {
   where
     away : n ≢ r.stream.node
     away = λ e. foreign (sym e)
+
     entry_log : StreamLog
     entry_log = record { done = (log (old.node n) r.stream).done; kept = (log (old.node n) r.stream).kept ++ record { followers = r.followers; writes = r.writes; acks = [] } ∷ [] }
+
     logged : log (store (old.node n) r) r.stream ≡ entry_log
     logged = with_log-same (with_copies (old.node n) (each_write applied (old.node n).copies r.writes)) r.stream entry_log
+
     top_is : r.number ≡ top (line old r.stream) n
     top_is = number ∙ rw (log_done_is old r.stream n away, log_kept_is old r.stream n away) refl
+
     sent_top : In (Stores l.from n ((line old r.stream).epoch n) (top (line old r.stream) n) r.done record { followers = r.followers; writes = r.writes }) (line old r.stream).letters
     sent_top = subst (λ (k : ℕ). In (Stores l.from n ((line old r.stream).epoch n) k r.done record { followers = r.followers; writes = r.writes }) (line old r.stream).letters)
         top_is (stored_letter old n r l body g)
@@ -148,9 +152,9 @@ sees_store old new t n passed r l foreign g body low number c =
     elim (stream_cases r.stream t) [
       | inr other ↦
           sees_nothing old new t n passed (store (old.node n) r) c
-              (logs-quiet (old.node n) (store (old.node n) r) t n refl refl refl refl
-                  (with_log-other (with_copies (old.node n) (each_write applied (old.node n).copies r.writes)) r.stream t
-                      record { done = (log (old.node n) r.stream).done; kept = (log (old.node n) r.stream).kept ++ record { followers = r.followers; writes = r.writes; acks = [] } ∷ [] } other))
+          (logs-quiet (old.node n) (store (old.node n) r) t n refl refl refl refl
+          (with_log-other (with_copies (old.node n) (each_write applied (old.node n).copies r.writes)) r.stream t
+          record { done = (log (old.node n) r.stream).done; kept = (log (old.node n) r.stream).kept ++ record { followers = r.followers; writes = r.writes; acks = [] } ∷ [] } other))
       | inl same ↦ subst (λ (u : Stream). Seen (line old u) (line new u) passed) same
           (stored_next n record { followers = r.followers; writes = r.writes } (store_here old new n r l foreign g body low number c))
     ]
@@ -218,10 +222,13 @@ note_own_here old new n s i from l t home at_slot g sender body within c = recor
   where
     after : Node
     after = noting_own (old.node n) s i from
+
     done_is : (line old t).done n ≡ (slot (old.node n) s).done
     done_is = own_done_is old t n home ∙ ap (λ (k : ℕ). (slot (old.node n) k).done) (sym at_slot)
+
     kept_is : (line old t).kept n ≡ map as_kept (slot (old.node n) s).pending
     kept_is = own_kept_is old t n home ∙ ap (λ (k : ℕ). map as_kept (slot (old.node n) k).pending) (sym at_slot)
+
     slotted : slot (noting_own (old.node n) s i from) s ≡ record {
       current = (slot (old.node n) s).current;
       done = (slot (old.node n) s).done;
@@ -237,9 +244,9 @@ note_own_here old new n s i from l t home at_slot g sender body within c = recor
 other_slot : (n : Node) (t : Stream) (me s : ℕ) (l : Slot) → record { node = me; slot = s } ≢ t → IsQuiet n (with_slot n s l) t me
 other_slot n t me s l ne =
     slots-quiet n (with_slot n s l) t me refl refl refl refl
-        (λ home.
-          let away : s ≢ t.slot = λ e. ne (ap (λ (k : ℕ). stream_at k s) home ∙ ap (λ (k : ℕ). stream_at t.node k) e) in
-          (ap (λ (k : Slot). k.done) (with_slot-other n s t.slot l away), ap (λ (k : Slot). k.pending) (with_slot-other n s t.slot l away)))
+    (λ home.
+    let away : s ≢ t.slot = λ e. ne (ap (λ (k : ℕ). stream_at k s) home ∙ ap (λ (k : ℕ). stream_at t.node k) e) in
+    (ap (λ (k : Slot). k.done) (with_slot-other n s t.slot l away), ap (λ (k : Slot). k.pending) (with_slot-other n s t.slot l away)))
   where
     stream_at : ℕ → ℕ → Stream
     stream_at k j = record { node = k; slot = j }
@@ -250,13 +257,13 @@ pub sees_note_own : (old new : Scene) (t : Stream) (n s i from passed : ℕ) (l 
 sees_note_own old new t n s i from passed l g sender body within c =
     elim (stream_cases record { node = n; slot = s } t) [
       | inr other ↦ sees_nothing old new t n passed (noting_own (old.node n) s i from) c
-            (other_slot (old.node n) t n s record {
-              current = (slot (old.node n) s).current;
-              done = (slot (old.node n) s).done;
-              pending = put no_pending (slot (old.node n) s).pending i (acked_pending (nth no_pending (slot (old.node n) s).pending i) from);
-            } other)
+          (other_slot (old.node n) t n s record {
+            current = (slot (old.node n) s).current;
+            done = (slot (old.node n) s).done;
+            pending = put no_pending (slot (old.node n) s).pending i (acked_pending (nth no_pending (slot (old.node n) s).pending i) from);
+          } other)
       | inl same ↦ subst (λ (u : Stream). Seen (line old u) (line new u) passed) same
-            (noted n ((slot (old.node n) s).done + i) from (note_own_here old new n s i from l record { node = n; slot = s } refl refl g sender body within c))
+          (noted n ((slot (old.node n) s).done + i) from (note_own_here old new n s i from l record { node = n; slot = s } refl refl g sender body within c))
     ]
 
 note_kept_here : (old new : Scene) (s : Stream) (n i from : ℕ) (l : Letter) → s.node ≢ n → IsReceivable old n l → l.from ≡ from
@@ -273,8 +280,10 @@ note_kept_here old new s n i from l foreign g sender body within c = record {
   where
     away : n ≢ s.node
     away = λ e. foreign (sym e)
+
     after : Node
     after = noting_kept (old.node n) s i from
+
     logged : log (noting_kept (old.node n) s i from) s ≡ record {
       done = (log (old.node n) s).done;
       kept = put no_kept (log (old.node n) s).kept i (acked_kept (nth no_kept (log (old.node n) s).kept i) from);
@@ -290,13 +299,13 @@ pub sees_note_kept : (old new : Scene) (t s : Stream) (n i from passed : ℕ) (l
 sees_note_kept old new t s n i from passed l foreign g sender body within c =
     elim (stream_cases s t) [
       | inr other ↦ sees_nothing old new t n passed (noting_kept (old.node n) s i from) c
-            (logs-quiet (old.node n) (noting_kept (old.node n) s i from) t n refl refl refl refl
-                (with_log-other (old.node n) s t record {
-                  done = (log (old.node n) s).done;
-                  kept = put no_kept (log (old.node n) s).kept i (acked_kept (nth no_kept (log (old.node n) s).kept i) from);
-                } other))
+          (logs-quiet (old.node n) (noting_kept (old.node n) s i from) t n refl refl refl refl
+          (with_log-other (old.node n) s t record {
+            done = (log (old.node n) s).done;
+            kept = put no_kept (log (old.node n) s).kept i (acked_kept (nth no_kept (log (old.node n) s).kept i) from);
+          } other))
       | inl same ↦ subst (λ (u : Stream). Seen (line old u) (line new u) passed) same
-            (noted n ((log (old.node n) s).done + i) from (note_kept_here old new s n i from l foreign g sender body within c))
+          (noted n ((log (old.node n) s).done + i) from (note_kept_here old new s n i from l foreign g sender body within c))
     ]
 
 -- ---- an entry passes
@@ -340,11 +349,14 @@ pass_own_here old new n s t numbered home at_slot some ok c = record {
   where
     done_is : (line old t).done n ≡ (slot (old.node n) s).done
     done_is = own_done_is old t n home ∙ ap (λ (k : ℕ). (slot (old.node n) k).done) (sym at_slot)
+
     kept_is : (line old t).kept n ≡ map as_kept (slot (old.node n) s).pending
     kept_is = own_kept_is old t n home ∙ ap (λ (k : ℕ). map as_kept (slot (old.node n) k).pending) (sym at_slot)
+
     slotted : slot (pass_own (old.node n) s 1) s ≡ record { current = (slot (old.node n) s).current; done = (slot (old.node n) s).done + 1; pending = drop 1 (slot (old.node n) s).pending }
     slotted = with_slot-same (after_passing (old.node n) (take 1 (map as_kept (slot (old.node n) s).pending))) s
         record { current = (slot (old.node n) s).current; done = (slot (old.node n) s).done + 1; pending = drop 1 (slot (old.node n) s).pending }
+
     add_one : (k : ℕ) → k + 1 ≡ suc k
     add_one k = omega arith
 
@@ -354,14 +366,14 @@ pub sees_pass_own : (old new : Scene) (t : Stream) (n s passed : ℕ) → IsNumb
 sees_pass_own old new t n s passed numbered some ok c =
     elim (stream_cases record { node = n; slot = s } t) [
       | inr other ↦ sees_nothing old new t n passed (pass_own (old.node n) s 1) c
-            (slots-quiet (old.node n) (pass_own (old.node n) s 1) t n refl refl refl refl
-                (λ home.
-                  let away : s ≢ t.slot = λ e. other (ap (λ (k : ℕ). stream_at k s) home ∙ ap (λ (k : ℕ). stream_at t.node k) e) in
-                  let same = with_slot-other (after_passing (old.node n) (take 1 (map as_kept (slot (old.node n) s).pending))) s t.slot
-                      record { current = (slot (old.node n) s).current; done = (slot (old.node n) s).done + 1; pending = drop 1 (slot (old.node n) s).pending } away in
-                  (ap (λ (k : Slot). k.done) same, ap (λ (k : Slot). k.pending) same)))
+          (slots-quiet (old.node n) (pass_own (old.node n) s 1) t n refl refl refl refl
+          (λ home.
+          let away : s ≢ t.slot = λ e. other (ap (λ (k : ℕ). stream_at k s) home ∙ ap (λ (k : ℕ). stream_at t.node k) e) in
+          let same = with_slot-other (after_passing (old.node n) (take 1 (map as_kept (slot (old.node n) s).pending))) s t.slot
+          record { current = (slot (old.node n) s).current; done = (slot (old.node n) s).done + 1; pending = drop 1 (slot (old.node n) s).pending } away in
+          (ap (λ (k : Slot). k.done) same, ap (λ (k : Slot). k.pending) same)))
       | inl same ↦ subst (λ (u : Stream). Seen (line old u) (line new u) passed) same
-            (passed_first n (pass_own_here old new n s record { node = n; slot = s } numbered refl refl some ok c))
+          (passed_first n (pass_own_here old new n s record { node = n; slot = s } numbered refl refl some ok c))
     ]
   where
     stream_at : ℕ → ℕ → Stream
@@ -384,8 +396,10 @@ pass_kept_here old new s n numbered out foreign some ok c = record {
   where
     away : n ≢ s.node
     away = λ e. foreign (sym e)
+
     logged : log (pass_kept (old.node n) s 1) s ≡ record { done = (log (old.node n) s).done + 1; kept = drop 1 (log (old.node n) s).kept }
     logged = with_log-same (after_passing (old.node n) (take 1 (log (old.node n) s).kept)) s record { done = (log (old.node n) s).done + 1; kept = drop 1 (log (old.node n) s).kept }
+
     add_one : (k : ℕ) → k + 1 ≡ suc k
     add_one k = omega arith
 
@@ -395,11 +409,11 @@ pub sees_pass_kept : (old new : Scene) (t s : Stream) (n passed : ℕ) → IsNum
 sees_pass_kept old new t s n passed numbered out foreign some ok c =
     elim (stream_cases s t) [
       | inr other ↦ sees_nothing old new t n passed (pass_kept (old.node n) s 1) c
-            (logs-quiet (old.node n) (pass_kept (old.node n) s 1) t n refl refl refl refl
-                (with_log-other (after_passing (old.node n) (take 1 (log (old.node n) s).kept)) s t
-                    record { done = (log (old.node n) s).done + 1; kept = drop 1 (log (old.node n) s).kept } other))
+          (logs-quiet (old.node n) (pass_kept (old.node n) s 1) t n refl refl refl refl
+          (with_log-other (after_passing (old.node n) (take 1 (log (old.node n) s).kept)) s t
+          record { done = (log (old.node n) s).done + 1; kept = drop 1 (log (old.node n) s).kept } other))
       | inl same ↦ subst (λ (u : Stream). Seen (line old u) (line new u) passed) same
-            (passed_first n (pass_kept_here old new s n numbered out foreign some ok c))
+          (passed_first n (pass_kept_here old new s n numbered out foreign some ok c))
     ]
 
 -- ---- a transaction is committed
@@ -440,12 +454,16 @@ commit_here : (old new : Scene) (n s passed : ℕ) (c : Current) (t : Stream) �
 unfolding own_kept write_cause
 commit_here old new n s passed c t replicated home at_slot free change =
     let made : Pending = record {
-      id = c.id; reply = (run_here (old.node n) c.tx).reply; named = named c.tx;
-      followers = (entry_made (old.node n) n c).followers; writes = (entry_made (old.node n) n c).writes; acks = [];
+      id = c.id;
+      reply = (run_here (old.node n) c.tx).reply;
+      named = named c.tx;
+      followers = (entry_made (old.node n) n c).followers;
+      writes = (entry_made (old.node n) n c).writes;
+      acks = [];
     } in
     let slotted : slot (committing (old.node n) n s c) s ≡ record { current = None; done = (slot (old.node n) s).done; pending = (slot (old.node n) s).pending ++ made ∷ [] } =
-        with_slot-same (with_copies (old.node n) (each_write rewritten_copy (old.node n).copies (entry_made (old.node n) n c).writes)) s
-            record { current = None; done = (slot (old.node n) s).done; pending = (slot (old.node n) s).pending ++ made ∷ [] } in
+    with_slot-same (with_copies (old.node n) (each_write rewritten_copy (old.node n).copies (entry_made (old.node n) n c).writes)) s
+    record { current = None; done = (slot (old.node n) s).done; pending = (slot (old.node n) s).pending ++ made ∷ [] } in
     let done_is : (line old t).done n ≡ (slot (old.node n) s).done = own_done_is old t n home ∙ ap (λ (k : ℕ). (slot (old.node n) k).done) (sym at_slot) in
     let kept_is : (line old t).kept n ≡ map as_kept (slot (old.node n) s).pending = own_kept_is old t n home ∙ ap (λ (k : ℕ). map as_kept (slot (old.node n) k).pending) (sym at_slot) in
     let not_full : length (slot (old.node n) s).pending ≢ 16 = commit_room (slot (old.node n) s) _ free in
@@ -453,23 +471,23 @@ commit_here old new n s passed c t replicated home at_slot free change =
     let count : length ((line old t).kept n) ≡ length (slot (old.node n) s).pending = ap (λ (ks : List Kept). length ks) kept_is ∙ length-map (slot (old.node n) s).pending as_kept in
     let room : length ((line old t).kept n) < 16 = below_sixteen (length ((line old t).kept n)) size (λ e. not_full (sym count ∙ e)) in
     commits_at (line old t) (line new t) (entry_made (old.node n) n c) n (home ∙ sym (line-home old t))
-        (on_kept old new t n (committing (old.node n) n s c) change (same_standing (old.node n) (committing (old.node n) n s c) refl refl refl))
-        room (has-without_same n (replicas_of (old.node n) (new_writes (old.node n) (run_here (old.node n) c.tx).writes)))
-        ((after_fields old new t n (committing (old.node n) n s c) change.node).3 ∙ own-done (committing (old.node n) n s c) t n home
-            ∙ ap (λ (k : ℕ). (slot (committing (old.node n) n s c) k).done) (sym at_slot) ∙ ap (λ (k : Slot). k.done) slotted ∙ sym done_is)
-        ((after_fields old new t n (committing (old.node n) n s c) change.node).4 ∙ own-kept (committing (old.node n) n s c) t n home
-            ∙ ap (λ (k : ℕ). map as_kept (slot (committing (old.node n) n s c) k).pending) (sym at_slot) ∙ ap (λ (k : Slot). map as_kept k.pending) slotted
-            ∙ map-append_one (slot (old.node n) s).pending made
-            ∙ ap (λ (ks : List Kept). ks ++ record { followers = (entry_made (old.node n) n c).followers; writes = (entry_made (old.node n) n c).writes; acks = [] } ∷ []) (sym kept_is))
+    (on_kept old new t n (committing (old.node n) n s c) change (same_standing (old.node n) (committing (old.node n) n s c) refl refl refl))
+    room (has-without_same n (replicas_of (old.node n) (new_writes (old.node n) (run_here (old.node n) c.tx).writes)))
+    ((after_fields old new t n (committing (old.node n) n s c) change.node).3 ∙ own-done (committing (old.node n) n s c) t n home
+    ∙ ap (λ (k : ℕ). (slot (committing (old.node n) n s c) k).done) (sym at_slot) ∙ ap (λ (k : Slot). k.done) slotted ∙ sym done_is)
+    ((after_fields old new t n (committing (old.node n) n s c) change.node).4 ∙ own-kept (committing (old.node n) n s c) t n home
+    ∙ ap (λ (k : ℕ). map as_kept (slot (committing (old.node n) n s c) k).pending) (sym at_slot) ∙ ap (λ (k : Slot). map as_kept k.pending) slotted
+    ∙ map-append_one (slot (old.node n) s).pending made
+    ∙ ap (λ (ks : List Kept). ks ++ record { followers = (entry_made (old.node n) n c).followers; writes = (entry_made (old.node n) n c).writes; acks = [] } ∷ []) (sym kept_is))
 
 -- a commit in one slot is quiet for the streams of the others
 commit_quiet : (n : Node) (t : Stream) (me s : ℕ) (c : Current) → record { node = me; slot = s } ≢ t → IsQuiet n (committing n me s c) t me
 commit_quiet n t me s c ne =
     slots-quiet n (committing n me s c) t me refl refl refl refl
-        (λ home.
-          let away : s ≢ t.slot = λ e. ne (ap (λ (k : ℕ). stream_at k s) home ∙ ap (λ (k : ℕ). stream_at t.node k) e) in
-          let same : slot (committing n me s c) t.slot ≡ slot n t.slot = nth-put_other no_slot n.slots s t.slot _ away in
-          (ap (λ (k : Slot). k.done) same, ap (λ (k : Slot). k.pending) same))
+    (λ home.
+    let away : s ≢ t.slot = λ e. ne (ap (λ (k : ℕ). stream_at k s) home ∙ ap (λ (k : ℕ). stream_at t.node k) e) in
+    let same : slot (committing n me s c) t.slot ≡ slot n t.slot = nth-put_other no_slot n.slots s t.slot _ away in
+    (ap (λ (k : Slot). k.done) same, ap (λ (k : Slot). k.pending) same))
   where
     stream_at : ℕ → ℕ → Stream
     stream_at k j = record { node = k; slot = j }
@@ -480,6 +498,6 @@ sees_commit old new t n s passed c replicated free change =
     elim (stream_cases record { node = n; slot = s } t) [
       | inr other ↦ sees_nothing old new t n passed (committing (old.node n) n s c) change (commit_quiet (old.node n) t n s c other)
       | inl same ↦ subst (λ (u : Stream). Seen (line old u) (line new u) passed) same
-            (committed_by (entry_made (old.node n) n c)
-                (commit_here old new n s passed c record { node = n; slot = s } (subst (λ (u : Stream). Replicated (line old u) passed) (sym same) replicated) refl refl free change))
+          (committed_by (entry_made (old.node n) n c)
+          (commit_here old new n s passed c record { node = n; slot = s } (subst (λ (u : Stream). Replicated (line old u) passed) (sym same) replicated) refl refl free change))
     ]

@@ -68,16 +68,17 @@ quiet-then a b c t k f g =
 turn_still : (n : Node) (s k : ℕ) (c : Option Current) (t : Stream) → IsQuiet n (with_current n s c) t k
 turn_still n s k c t =
     slots-quiet n (with_current n s c) t k refl refl refl refl
-        (λ home. elim (same_or_not s t.slot) [
-          | inl same ↦
-              let at : slot (with_current n s c) t.slot ≡ record { current = c; done = (slot n s).done; pending = (slot n s).pending } =
-                  ap (λ (j : ℕ). slot (with_current n s c) j) (sym same) ∙ with_slot-same n s record { current = c; done = (slot n s).done; pending = (slot n s).pending } in
-              (ap (λ (l : Slot). l.done) at ∙ ap (λ (j : ℕ). (slot n j).done) same,
-               ap (λ (l : Slot). l.pending) at ∙ ap (λ (j : ℕ). (slot n j).pending) same)
-          | inr other ↦
-              let at : slot (with_current n s c) t.slot ≡ slot n t.slot = with_slot-other n s t.slot record { current = c; done = (slot n s).done; pending = (slot n s).pending } other in
-              (ap (λ (l : Slot). l.done) at, ap (λ (l : Slot). l.pending) at)
-        ])
+    (λ home. elim (same_or_not s t.slot) [
+      | inl same ↦
+          let at : slot (with_current n s c) t.slot ≡ record { current = c; done = (slot n s).done; pending = (slot n s).pending } =
+          ap (λ (j : ℕ). slot (with_current n s c) j) (sym same) ∙ with_slot-same n s record { current = c; done = (slot n s).done; pending = (slot n s).pending } in (
+            ap (λ (l : Slot). l.done) at ∙ ap (λ (j : ℕ). (slot n j).done) same,
+            ap (λ (l : Slot). l.pending) at ∙ ap (λ (j : ℕ). (slot n j).pending) same,
+          )
+      | inr other ↦
+          let at : slot (with_current n s c) t.slot ≡ slot n t.slot = with_slot-other n s t.slot record { current = c; done = (slot n s).done; pending = (slot n s).pending } other in
+          (ap (λ (l : Slot). l.done) at, ap (λ (l : Slot). l.pending) at)
+    ])
 
 -- each stream sees one of its moves
 pub sees_move : (old new : Scene) (t : Stream) (passed : ℕ) → IsNumbered old → Replicated (line old t) passed → Move old new → Seen (line old t) (line new t) passed
@@ -86,13 +87,13 @@ sees_move old new t passed numbered replicated (stops n c) = sees_stop old new t
 sees_move old new t passed numbered replicated (installs n e later within c) = sees_install old new t n e passed later within c
 sees_move old new t passed numbered replicated (tells n c) =
     told n (tells_line old new t n (old.node n) (IsTellable (old.node n)) c (still (old.node n) (old.node n) t n refl refl refl refl refl)
-        (λ l m allowed i. tellable-line old t n l m numbered c.live (own_member old t n passed numbered replicated c.live) allowed i))
+    (λ l m allowed i. tellable-line old t n l m numbered c.live (own_member old t n passed numbered replicated c.live) allowed i))
 sees_move old new t passed numbered replicated (turns n s cu c) = sees_nothing old new t n passed (with_current (old.node n) s cu) c (turn_still (old.node n) s n cu t)
 sees_move old new t passed numbered replicated (settles n y stamp place l r s above c) =
     sees_nothing old new t n passed (settle (old.node n) y stamp place) c (settle_still (old.node n) y stamp place t n)
 sees_move old new t passed numbered replicated (drives n y requester want may c acked) =
     sees_proposal old new t n y passed (driven (old.node n) y requester want) (holding (old.node n) y (driven (old.node n) y requester want)) c
-        (still (old.node n) (holding (old.node n) y (driven (old.node n) y requester want)) t n refl refl refl refl refl)
+    (still (old.node n) (holding (old.node n) y (driven (old.node n) y requester want)) t n refl refl refl refl refl)
 sees_move old new t passed numbered replicated (accepts n y p may c acked) =
     sees_proposal old new t n y passed p (holding (old.node n) y p) c (still (old.node n) (holding (old.node n) y p) t n refl refl refl refl refl)
 sees_move old new t passed numbered replicated (redrives n y p held opened sourced c) =
@@ -101,9 +102,9 @@ sees_move old new t passed numbered replicated (gathers n y from p co l body sen
     sees_nothing old new t n passed _ c (still (old.node n) _ t n refl refl refl refl refl)
 sees_move old new t passed numbered replicated (decides n y g co gathered decidable content c) =
     sees_nothing old new t n passed (bring (settle (old.node n) y g.proposal.stamp (new_place g.proposal)) y g.proposal co) c
-        (quiet-then (old.node n) (settle (old.node n) y g.proposal.stamp (new_place g.proposal)) _ t n
-            (settle_still (old.node n) y g.proposal.stamp (new_place g.proposal) t n)
-            (bring_still (settle (old.node n) y g.proposal.stamp (new_place g.proposal)) y g.proposal co t n))
+    (quiet-then (old.node n) (settle (old.node n) y g.proposal.stamp (new_place g.proposal)) _ t n
+    (settle_still (old.node n) y g.proposal.stamp (new_place g.proposal) t n)
+    (bring_still (settle (old.node n) y g.proposal.stamp (new_place g.proposal)) y g.proposal co t n))
 sees_move old new t passed numbered replicated (raises n d s l foreign r is above c) = sees_raise old new t s n d passed l replicated foreign r is above c
 sees_move old new t passed numbered replicated (stores n r l foreign g body low number room c) = sees_store old new t n passed r l foreign g body low number c
 sees_move old new t passed numbered replicated (notes_own n s i from l r sender body within c) = sees_note_own old new t n s i from passed l r sender body within c
@@ -148,23 +149,25 @@ outside_stopped s t numbered = line-stopped s t s.config.nodes ∙ elim (cases_B
 
 pub scene-same-replicates : (old new : Scene) (t : Stream) → IsNumbered old → Same old new → IsKept (line old t) → IsKept (line new t)
 scene-same-replicates old new t numbered s before =
-    let m : ℕ = old.config.nodes in
-    (before.0, keeps_Stops (line old t) (line new t) before.0 m before.1 record {
-      setting = same_setting old new t s.views;
-      others = record {
-        stopped = λ k ne. (same_fields old new t k (s.nodes k)).0;
-        epoch = λ k ne. (same_fields old new t k (s.nodes k)).1;
-        reported = λ k ne. (same_fields old new t k (s.nodes k)).2;
-        done = λ k ne. (same_fields old new t k (s.nodes k)).3;
-        kept = λ k ne. (same_fields old new t k (s.nodes k)).4;
-      };
-      stopped = (same_fields old new t m (s.nodes m)).0 ∙ outside_stopped old t numbered;
-      epoch = (same_fields old new t m (s.nodes m)).1;
-      reported = (same_fields old new t m (s.nodes m)).2;
-      done = (same_fields old new t m (s.nodes m)).3;
-      kept = (same_fields old new t m (s.nodes m)).4;
-      sends = sends_line old new t nothing moves.nothing s.sends (λ l k none_at i. none_at);
-    })
+    let m : ℕ = old.config.nodes in (
+      before.0,
+      keeps_Stops (line old t) (line new t) before.0 m before.1 record {
+        setting = same_setting old new t s.views;
+        others = record {
+          stopped = λ k ne. (same_fields old new t k (s.nodes k)).0;
+          epoch = λ k ne. (same_fields old new t k (s.nodes k)).1;
+          reported = λ k ne. (same_fields old new t k (s.nodes k)).2;
+          done = λ k ne. (same_fields old new t k (s.nodes k)).3;
+          kept = λ k ne. (same_fields old new t k (s.nodes k)).4;
+        };
+        stopped = (same_fields old new t m (s.nodes m)).0 ∙ outside_stopped old t numbered;
+        epoch = (same_fields old new t m (s.nodes m)).1;
+        reported = (same_fields old new t m (s.nodes m)).2;
+        done = (same_fields old new t m (s.nodes m)).3;
+        kept = (same_fields old new t m (s.nodes m)).4;
+        sends = sends_line old new t nothing moves.nothing s.sends (λ l k none_at i. none_at);
+      },
+    )
 
 -- moves one after another keep every stream replicated
 pub moves-replicate : (old new : Scene) (t : Stream) → IsSteady old → IsKept (line old t) → Moves old new → IsKept (line new t)

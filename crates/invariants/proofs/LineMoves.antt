@@ -118,15 +118,19 @@ unfolding own_kept
 slots-quiet n m t me stop epoch reported logs slots =
     elim (same_or_not me t.node) [
       | inl own ↦ record {
-          stopped = stop; epoch = epoch; reported = reported;
-          done = own-done m t me own ∙ (slots own).0 ∙ sym (own-done n t me own);
-          kept = own-kept m t me own ∙ ap (λ (ps : List Rattle.zeus_model.specs.declared.state.Pending.Pending). map Rattle.zeus_model.specs.Commit.as_kept ps) (slots own).1 ∙ sym (own-kept n t me own);
-        }
+        stopped = stop;
+        epoch = epoch;
+        reported = reported;
+        done = own-done m t me own ∙ (slots own).0 ∙ sym (own-done n t me own);
+        kept = own-kept m t me own ∙ ap (λ (ps : List Rattle.zeus_model.specs.declared.state.Pending.Pending). map Rattle.zeus_model.specs.Commit.as_kept ps) (slots own).1 ∙ sym (own-kept n t me own);
+      }
       | inr foreign ↦ record {
-          stopped = stop; epoch = epoch; reported = reported;
-          done = log-done m t me foreign ∙ ap (λ (ls : List (List StreamLog)). (nth no_log (nth [] ls t.node) t.slot).done) logs ∙ sym (log-done n t me foreign);
-          kept = log-kept m t me foreign ∙ ap (λ (ls : List (List StreamLog)). (nth no_log (nth [] ls t.node) t.slot).kept) logs ∙ sym (log-kept n t me foreign);
-        }
+        stopped = stop;
+        epoch = epoch;
+        reported = reported;
+        done = log-done m t me foreign ∙ ap (λ (ls : List (List StreamLog)). (nth no_log (nth [] ls t.node) t.slot).done) logs ∙ sym (log-done n t me foreign);
+        kept = log-kept m t me foreign ∙ ap (λ (ls : List (List StreamLog)). (nth no_log (nth [] ls t.node) t.slot).kept) logs ∙ sym (log-kept n t me foreign);
+      }
     ]
 
 -- a change of the logs that leaves one of them
@@ -136,15 +140,19 @@ unfolding own_kept
 logs-quiet n m t me stop epoch reported slots logs =
     elim (same_or_not me t.node) [
       | inl own ↦ record {
-          stopped = stop; epoch = epoch; reported = reported;
-          done = own-done m t me own ∙ ap (λ (ss : List Slot). (nth no_slot ss t.slot).done) slots ∙ sym (own-done n t me own);
-          kept = own-kept m t me own ∙ ap (λ (ss : List Slot). map Rattle.zeus_model.specs.Commit.as_kept (nth no_slot ss t.slot).pending) slots ∙ sym (own-kept n t me own);
-        }
+        stopped = stop;
+        epoch = epoch;
+        reported = reported;
+        done = own-done m t me own ∙ ap (λ (ss : List Slot). (nth no_slot ss t.slot).done) slots ∙ sym (own-done n t me own);
+        kept = own-kept m t me own ∙ ap (λ (ss : List Slot). map Rattle.zeus_model.specs.Commit.as_kept (nth no_slot ss t.slot).pending) slots ∙ sym (own-kept n t me own);
+      }
       | inr foreign ↦ record {
-          stopped = stop; epoch = epoch; reported = reported;
-          done = log-done m t me foreign ∙ ap (λ (l : StreamLog). l.done) logs ∙ sym (log-done n t me foreign);
-          kept = log-kept m t me foreign ∙ ap (λ (l : StreamLog). l.kept) logs ∙ sym (log-kept n t me foreign);
-        }
+        stopped = stop;
+        epoch = epoch;
+        reported = reported;
+        done = log-done m t me foreign ∙ ap (λ (l : StreamLog). l.done) logs ∙ sym (log-done n t me foreign);
+        kept = log-kept m t me foreign ∙ ap (λ (l : StreamLog). l.kept) logs ∙ sym (log-kept n t me foreign);
+      }
     ]
 
 -- ---- one log, one slot
@@ -152,7 +160,7 @@ logs-quiet n m t me stop epoch reported slots logs =
 pub with_log-same : (n : Node) (s : Stream) (l : StreamLog) → log (with_log n s l) s ≡ l
 with_log-same n s l =
     ap (λ (ls : List StreamLog). nth no_log ls s.slot) (nth-put_same [] n.logs s.node (put no_log (nth [] n.logs s.node) s.slot l))
-        ∙ nth-put_same no_log (nth [] n.logs s.node) s.slot l
+    ∙ nth-put_same no_log (nth [] n.logs s.node) s.slot l
 
 pub with_log-other : (n : Node) (s t : Stream) (l : StreamLog) → s ≢ t → log (with_log n s l) t ≡ log n t
 with_log-other n s t l ne =
@@ -160,16 +168,17 @@ with_log-other n s t l ne =
       | inl same ↦
           let slots : s.slot ≢ t.slot = λ e. ne (stream_eq s t same e) in
           ap (λ (ls : List StreamLog). nth no_log ls t.slot)
-              (ap (λ (k : ℕ). nth [] (put [] n.logs s.node (put no_log (nth [] n.logs s.node) s.slot l)) k) (sym same)
-                  ∙ nth-put_same [] n.logs s.node (put no_log (nth [] n.logs s.node) s.slot l))
-              ∙ nth-put_other no_log (nth [] n.logs s.node) s.slot t.slot l slots
-              ∙ ap (λ (k : ℕ). nth no_log (nth [] n.logs k) t.slot) same
+          (ap (λ (k : ℕ). nth [] (put [] n.logs s.node (put no_log (nth [] n.logs s.node) s.slot l)) k) (sym same)
+          ∙ nth-put_same [] n.logs s.node (put no_log (nth [] n.logs s.node) s.slot l))
+          ∙ nth-put_other no_log (nth [] n.logs s.node) s.slot t.slot l slots
+          ∙ ap (λ (k : ℕ). nth no_log (nth [] n.logs k) t.slot) same
       | inr other ↦
           ap (λ (ls : List StreamLog). nth no_log ls t.slot) (nth-put_other [] n.logs s.node t.node (put no_log (nth [] n.logs s.node) s.slot l) other)
     ]
   where
     stream_of : ℕ → ℕ → Stream
     stream_of k l = record { node = k; slot = l }
+
     stream_eq : (s t : Stream) → s.node ≡ t.node → s.slot ≡ t.slot → s ≡ t
     stream_eq s t a b = ap (λ (k : ℕ). stream_of k s.slot) a ∙ ap (λ (k : ℕ). stream_of t.node k) b
 

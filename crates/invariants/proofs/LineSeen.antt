@@ -108,9 +108,9 @@ may_entry o n to from e k d ks done_is kept_is epoch_is from_is within follower 
     let back : o.done n + k - o.done n ≡ k = omega arith in
     let follower_at : has to (kept_at o n (o.done n + k)).followers ≡ true = rw back follower' in
     let told_it : moves.IsTellable o n (Stores n to (o.epoch n) (o.done n + k) (o.done n) (entry_of (kept_at o n (o.done n + k)))) =
-        moves.entry to (o.done n + k) (omega arith, omega arith) may follower_at member other in
+    moves.entry to (o.done n + k) (omega arith, omega arith) may follower_at member other in
     let told_k : moves.IsTellable o n (Stores n to (o.epoch n) (o.done n + k) (o.done n) (entry_of (nth no_kept (o.kept n) k))) =
-        subst (λ (j : ℕ). moves.IsTellable o n (Stores n to (o.epoch n) (o.done n + k) (o.done n) (entry_of (nth no_kept (o.kept n) j)))) back told_it in
+    subst (λ (j : ℕ). moves.IsTellable o n (Stores n to (o.epoch n) (o.done n + k) (o.done n) (entry_of (nth no_kept (o.kept n) j)))) back told_it in
     rw (from_is, ← done_is, ← kept_is, ← epoch_is) told_k
 
 -- what a node tells without a change of its state is what a stream's node may tell
@@ -131,53 +131,53 @@ tellable-line old t n l m numbered live own_member (own_entry to s k within foll
     let a : IsActor old u n = actor old u n numbered live in
     let home : n ≡ (line old u).home = sym a.me ∙ sym (line-home old u) in
     subst (λ (v : Stream). moves.IsTellable (line old v) n m) found.0
-        (rw found.1 (may_entry (line old u) n to (old.node n).me (old.node n).epoch k (slot (old.node n) s).done (own_kept (old.node n) s)
-            (own_done_is old u n (sym a.me)) (own_kept_is old u n (sym a.me)) a.epoch a.me (own_length (old.node n) s k within) follower (rw (← a.members) member)
-            (λ e. other (e ∙ sym a.me)) (inl home)))
+    (rw found.1 (may_entry (line old u) n to (old.node n).me (old.node n).epoch k (slot (old.node n) s).done (own_kept (old.node n) s)
+    (own_done_is old u n (sym a.me)) (own_kept_is old u n (sym a.me)) a.epoch a.me (own_length (old.node n) s k within) follower (rw (← a.members) member)
+    (λ e. other (e ∙ sym a.me)) (inl home)))
 tellable-line old t n l m numbered live own_member (kept_entry to k s out within follower member other) i =
     let found = only_of-from t s m (Stores (old.node n).me to (old.node n).epoch ((log (old.node n) s).done + k) (log (old.node n) s).done (entry_of (nth no_kept (log (old.node n) s).kept k))) i in
     let a : IsActor old s n = actor old s n numbered live in
     let away : n ≢ s.node = outsider n s.node (old.node n).members own_member out in
     let out_now : IsOut (line old s) ((line old s).epoch n) (line old s).home = rw (line-home old s, ← a.members) out in
     subst (λ (v : Stream). moves.IsTellable (line old v) n m) found.0
-        (rw found.1 (may_entry (line old s) n to (old.node n).me (old.node n).epoch k (log (old.node n) s).done (log (old.node n) s).kept
-            (log_done_is old s n away) (log_kept_is old s n away) a.epoch a.me within follower (rw (← a.members) member)
-            (λ e. other (e ∙ sym a.me)) (inr out_now)))
+    (rw found.1 (may_entry (line old s) n to (old.node n).me (old.node n).epoch k (log (old.node n) s).done (log (old.node n) s).kept
+    (log_done_is old s n away) (log_kept_is old s n away) a.epoch a.me within follower (rw (← a.members) member)
+    (λ e. other (e ∙ sym a.me)) (inr out_now)))
 tellable-line old t n l m numbered live own_member (stored to k s foreign below) i =
     let found = only_of-from t s m (Stored (old.node n).me k) i in
     let a : IsActor old s n = actor old s n numbered live in
     let away : n ≢ s.node = λ e. foreign (sym e ∙ sym a.me) in
     let below_top : k < top (line old s) n = rw (log_done_is old s n away, log_kept_is old s n away) below in
     subst (λ (v : Stream). moves.IsTellable (line old v) n m) found.0
-        (rw (found.1, a.me) (moves.stored k (λ e. away (e ∙ line-home old s)) below_top))
+    (rw (found.1, a.me) (moves.stored k (λ e. away (e ∙ line-home old s)) below_top))
 tellable-line old t n l m numbered live own_member (own_passed to s d low other) i =
     let u : Stream = own_stream (old.node n) s in
     let found = only_of-from t u m (Passes to d) i in
     let a : IsActor old u n = actor old u n numbered live in
     let low' : d ≤ (line old u).done n = rw (own_done_is old u n (sym a.me)) low in
     subst (λ (v : Stream). moves.IsTellable (line old v) n m) found.0
-        (rw found.1 (moves.passed to d low' (λ e. other (e ∙ line-home old u))))
+    (rw found.1 (moves.passed to d low' (λ e. other (e ∙ line-home old u))))
 tellable-line old t n l m numbered live own_member (kept_passed to d s foreign low other) i =
     let found = only_of-from t s m (Passes to d) i in
     let a : IsActor old s n = actor old s n numbered live in
     let away : n ≢ s.node = λ e. foreign (sym e ∙ sym a.me) in
     let low' : d ≤ (line old s).done n = rw (log_done_is old s n away) low in
     subst (λ (v : Stream). moves.IsTellable (line old v) n m) found.0
-        (rw found.1 (moves.passed to d low' (λ e. other (e ∙ line-home old s))))
+    (rw found.1 (moves.passed to d low' (λ e. other (e ∙ line-home old s))))
 
 -- ---- views, stops and installs
 
 pub same_fields : (old new : Scene) (t : Stream) (m : ℕ) → new.node m ≡ old.node m
     → ((line new t).stopped m ≡ (line old t).stopped m) × ((line new t).epoch m ≡ (line old t).epoch m) × ((line new t).reported m ≡ (line old t).reported m)
-        × ((line new t).done m ≡ (line old t).done m) × ((line new t).kept m ≡ (line old t).kept m)
+    × ((line new t).done m ≡ (line old t).done m) × ((line new t).kept m ≡ (line old t).kept m)
 unfolding line
 same_fields old new t m e =
     (ap (λ (k : Node). k.stopped) e, ap (λ (k : Node). k.epoch) e, ap (λ (k : Node). k.reported) e, ap (λ (k : Node). done_of k t m) e, ap (λ (k : Node). kept_of k t m) e)
 
 view_facts : (old new : Scene) (t : Stream) (set : List ℕ) → NewView old new set
     → ((line new t).home ≡ (line old t).home) × ((line new t).views ≡ (line old t).views ++ set ∷ [])
-        × (is_subset set (Rattle.replication_safety.specs.Line.view (line old t) (length (line old t).views)) ≡ true)
-        × ((n : ℕ) → (line old t).stopped n ≡ false → has n set ≡ true)
+    × (is_subset set (Rattle.replication_safety.specs.Line.view (line old t) (length (line old t).views)) ≡ true)
+    × ((n : ℕ) → (line old t).stopped n ≡ false → has n set ≡ true)
 unfolding line
 view_facts old new t set v = (refl, v.views, v.subset, v.live)
 
@@ -201,14 +201,14 @@ quiet_sends old new t n after c = sends_line old new t nothing moves.nothing c.s
 -- the fields of the node that acted
 pub after_fields : (old new : Scene) (t : Stream) (n : ℕ) (after : Node) → new.node n ≡ after
     → ((line new t).stopped n ≡ after.stopped) × ((line new t).epoch n ≡ after.epoch) × ((line new t).reported n ≡ after.reported)
-        × ((line new t).done n ≡ done_of after t n) × ((line new t).kept n ≡ kept_of after t n)
+    × ((line new t).done n ≡ done_of after t n) × ((line new t).kept n ≡ kept_of after t n)
 unfolding line
 after_fields old new t n after e =
     (ap (λ (k : Node). k.stopped) e, ap (λ (k : Node). k.epoch) e, ap (λ (k : Node). k.reported) e, ap (λ (k : Node). done_of k t n) e, ap (λ (k : Node). kept_of k t n) e)
 
 pub before_fields : (old : Scene) (t : Stream) (n : ℕ)
     → ((line old t).stopped n ≡ (old.node n).stopped) × ((line old t).epoch n ≡ (old.node n).epoch) × ((line old t).reported n ≡ (old.node n).reported)
-        × ((line old t).done n ≡ done_of (old.node n) t n) × ((line old t).kept n ≡ kept_of (old.node n) t n)
+    × ((line old t).done n ≡ done_of (old.node n) t n) × ((line old t).kept n ≡ kept_of (old.node n) t n)
 unfolding line
 before_fields old t n = (refl, refl, refl, refl, refl)
 
@@ -275,9 +275,9 @@ sees_report old new t n passed numbered own_member empty c =
     reports_itself n record {
       acts = acts_line old new t n after nothing c refl refl;
       empty = λ out.
-        let gone : has t.node (old.node n).members ≡ false = rw (actor old t n numbered c.live).members (rw (line-home old t) at out) in
-        let away : n ≢ t.node = outsider n t.node (old.node n).members own_member gone in
-        log_kept_is old t n away ∙ empty t gone;
+          let gone : has t.node (old.node n).members ≡ false = rw (actor old t n numbered c.live).members (rw (line-home old t) at out) in
+          let away : n ≢ t.node = outsider n t.node (old.node n).members own_member gone in
+          log_kept_is old t n away ∙ empty t gone;
       reported = f.2 ∙ ap (λ (r : List ℕ). with_node n r) (sym b.2);
       done = f.3 ∙ same.0 ∙ sym b.3;
       kept = f.4 ∙ same.1 ∙ sym b.4;

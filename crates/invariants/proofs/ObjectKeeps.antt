@@ -82,9 +82,9 @@ same-orders old new setting stop epoch entries gathered sends before =
     let others : moves.SameOthers old new 0 = record { stopped = λ m ne. stop m; epoch = λ m ne. epoch m; entry = λ m ne. entries m; gather = λ m ne. gathered m } in
     let back : (l : Said) → In l new.letters → In l old.letters = nothing-only old new sends in
     let quiet : Quiet old new =
-        quiet-node old new 0 setting others (λ h. stop 0 ∙ h) (omega (arith, epoch 0))
-            (rw (entries 0) (is_below-irrefl (rank old 0))) (rw (entries 0) (is_below-irrefl (old.entry 0).stamp)) sends.kept
-            (λ from to e p i. back (Invalidates from to e p) i) (λ from to e p c i. back (Acknowledges from to e p c) i) in
+    quiet-node old new 0 setting others (λ h. stop 0 ∙ h) (omega (arith, epoch 0))
+    (rw (entries 0) (is_below-irrefl (rank old 0))) (rw (entries 0) (is_below-irrefl (old.entry 0).stamp)) sends.kept
+    (λ from to e p i. back (Invalidates from to e p) i) (λ from to e p c i. back (Acknowledges from to e p c) i) in
     let was : IsViewed old = before.1.viewed in
     let is : IsViewed new = record {
       rising = λ e. rw setting.views (was.rising e);
@@ -93,19 +93,21 @@ same-orders old new setting stop epoch entries gathered sends before =
       epochs = λ n h. rw (epoch n, setting.views) (was.epochs n (sym (stop n) ∙ h));
       invalidations = λ from to e p i. rw (epoch from, setting.views) (was.invalidations from to e p (back (Invalidates from to e p) i));
       acknowledgements = λ from to e p c i. rw (epoch from, setting.views) (was.acknowledgements from to e p c (back (Acknowledges from to e p c) i));
-    } in
-    (before.0, entries-ordered old new before.0 before.1 quiet is entries
-        (λ m g h. gather-grows old new quiet.grows m (ap (λ (e : Entry). e.stamp) (entries m)) (epoch m) g (before.1.gathers m g (sym (gathered m) ∙ h)))
-        (λ t place i. told-kept old new before.0 before.1 quiet.grows sends t place i))
+    } in (
+      before.0,
+      entries-ordered old new before.0 before.1 quiet is entries
+          (λ m g h. gather-grows old new quiet.grows m (ap (λ (e : Entry). e.stamp) (entries m)) (epoch m) g (before.1.gathers m g (sym (gathered m) ∙ h)))
+          (λ t place i. told-kept old new before.0 before.1 quiet.grows sends t place i),
+    )
 
 pub scene-same-orders : (old new : Scene) (x : ℕ) → Same old new → IsInOrder (object old x) → IsInOrder (object new x)
 scene-same-orders old new x s before =
     same-orders (object old x) (object new x) (same_setting old new x s.config s.views)
-        (λ m. same_stopped old new x m (ap (λ (k : Node). k.stopped) (s.nodes m)))
-        (λ m. same_epoch old new x m (ap (λ (k : Node). k.epoch) (s.nodes m)))
-        (λ m. same_entry_as old new x m s.config (s.nodes m))
-        (λ m. same_gather_as old new x m s.config (s.nodes m))
-        (sends_object old new x nothing moves.nothing s.sends (λ l m none i. none)) before
+    (λ m. same_stopped old new x m (ap (λ (k : Node). k.stopped) (s.nodes m)))
+    (λ m. same_epoch old new x m (ap (λ (k : Node). k.epoch) (s.nodes m)))
+    (λ m. same_entry_as old new x m s.config (s.nodes m))
+    (λ m. same_gather_as old new x m s.config (s.nodes m))
+    (sends_object old new x nothing moves.nothing s.sends (λ l m none i. none)) before
 
 -- moves one after another keep every object in order
 pub moves-order : (old new : Scene) (x : ℕ) → IsSteady old → IsInOrder (object old x) → Moves old new → IsInOrder (object new x)

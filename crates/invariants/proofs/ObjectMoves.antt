@@ -122,9 +122,9 @@ tells_object old new x n after allowed numbered c stop epoch same_entry same_gat
   entry = entry_after old new x n after allowed c numbered ∙ same_entry ∙ sym (entry_before old new x n after allowed c numbered);
   gather = gather_after old new x n after allowed c numbered ∙ same_gather ∙ sym (gather_before old new x n after allowed c numbered);
   sends =
-    let sent : moves.Sends (object old x) (object new x) (TellsPlace (old.node n) x) =
-        sends_object old new x allowed (TellsPlace (old.node n) x) c.sends hears in
-    rw (entry_before old new x n after allowed c numbered) sent;
+      let sent : moves.Sends (object old x) (object new x) (TellsPlace (old.node n) x) =
+      sends_object old new x allowed (TellsPlace (old.node n) x) c.sends hears in
+      rw (entry_before old new x n after allowed c numbered) sent;
 }
 
 -- a node that changes nothing of the object and sends nothing

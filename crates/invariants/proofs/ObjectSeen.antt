@@ -64,7 +64,7 @@ pub sees_other : (old new : Scene) (x y n : ℕ) (p : Proposal) (after : Node) (
     → Changes old new n after (IsAboutProposal (old.node n) y p) → IsQuiet (old.node n) after x → Seen (object old x) (object new x) chain
 sees_other old new x y n p after chain numbered ne c q =
     told n (tells_object old new x n after (IsAboutProposal (old.node n) y p) numbered c q.stopped q.epoch q.entry q.gather
-        (λ l m about i. absurd (about_proposal-other (old.node n) y x p l m ne about i)))
+    (λ l m about i. absurd (about_proposal-other (old.node n) y x p l m ne about i)))
 
 view_sends : (old new : Scene) (x : ℕ) (set : List ℕ) → NewView old new set → moves.Sends (object old x) (object new x) moves.nothing
 view_sends old new x set v = sends_object old new x nothing moves.nothing v.sends (λ l m none i. none)
@@ -126,7 +126,7 @@ pub sees_install : (old new : Scene) (x n e : ℕ) (chain : List Proposal) → I
     → Changes old new n (installed_node old n e) nothing → Seen (object old x) (object new x) chain
 sees_install old new x n e chain numbered later within c =
     let epochs : ((object old x).epoch n < e) × (e ≤ length (object old x).views) × ((object new x).epoch n ≡ e) =
-        install_epochs old new x n e later within c.node in
+    install_epochs old new x n e later within c.node in
     installed n e record {
       setting = same_setting old new x c.config c.views;
       others = same_others old new x n c.config c.others;
@@ -166,8 +166,10 @@ settled_seen old new x n chain stamp place numbered is above c = record {
   where
     before : (object old x).entry n ≡ entry (old.node n) x
     before = entry_before old new x n (settle (old.node n) x stamp place) nothing c numbered
+
     gathered : (object old x).gather n ≡ gather (old.node n) x
     gathered = gather_before old new x n (settle (old.node n) x stamp place) nothing c numbered
+
     later : (t s : Stamp) (chain : List Proposal) → s ≡ chain_stamp chain s.ver → is_below t s ≡ true → 1 ≤ s.ver
     later t s chain e h = nonzero s.ver (λ z. above-first t s h (e ∙ ap (λ (v : ℕ). chain_stamp chain v) z ∙ chain_stamp-zero chain))
 
@@ -216,10 +218,13 @@ drive_here old new n x requester want numbered may c acked = record {
   where
     p : Proposal
     p = driven (old.node n) x requester want
+
     after : Node
     after = holding (old.node n) x (driven (old.node n) x requester want)
+
     before : (object old x).entry n ≡ entry (old.node n) x
     before = entry_before old new x n (holding (old.node n) x (driven (old.node n) x requester want)) (IsAboutProposal (old.node n) x (driven (old.node n) x requester want)) c numbered
+
     stamp_of : ℕ → ℕ → Stamp
     stamp_of v d = record { ver = v; driver = d }
 
@@ -229,9 +234,9 @@ pub sees_drive : (old new : Scene) (x n y requester : ℕ) (want : Want) (chain 
 sees_drive old new x n y requester want chain numbered may c acked =
     elim (same_or_not y x) [
       | inr other ↦ sees_other old new x y n (driven (old.node n) y requester want) (holding (old.node n) y (driven (old.node n) y requester want)) chain numbered other c
-            (holding-other (old.node n) y x (driven (old.node n) y requester want) other)
+          (holding-other (old.node n) y x (driven (old.node n) y requester want) other)
       | inl same ↦ subst (λ (k : ℕ). Seen (object old k) (object new k) chain) same
-            (driven_by n (driven (old.node n) y requester want) (drive_here old new n y requester want numbered may c acked))
+          (driven_by n (driven (old.node n) y requester want) (drive_here old new n y requester want numbered may c acked))
     ]
 
 greater_cause-none : (t : Stamp) (q : Proposal) (o : Option Proposal) → o ≡ Some q → greater_cause t o ≡ None → is_below t q.stamp ≡ false
@@ -255,7 +260,7 @@ accept_arbiter old x n chain p numbered live ordered (inl listed) =
 accept_arbiter old x n chain p numbered live ordered (inr is) =
     let found : source p.base_place (old.node n).members ≡ Some (old.node n).me = is_node-some (source p.base_place (old.node n).members) (old.node n).me is in
     let here : source p.base_place (object_view old x n) ≡ Some n =
-        rw (← (actor old x n numbered live).members) (found ∙ ap (λ (k : ℕ). Some k) (actor old x n numbered live).me) in
+    rw (← (actor old x n numbered live).members) (found ∙ ap (λ (k : ℕ). Some k) (actor old x n numbered live).me) in
     arbiters-source p.base_place (object_view old x n) (object old x).directory n here
 
 accept_said : (old : Scene) (x n : ℕ) (p : Proposal) (l : Letter) → l.body ≡ OInv x p → IsReceivable old n l → IsSaid (object old x) p ((object old x).epoch n)
@@ -264,7 +269,7 @@ accept_said old x n p l body r =
     let says_it : In (Invalidates l.from l.to l.epoch p) (says x l) = rw body (says-oinv x l.from l.to l.epoch p) in
     let said : In (Invalidates l.from l.to l.epoch p) (about x old.letters) = about-in x (Invalidates l.from l.to l.epoch p) l old.letters r.2 says_it in
     let now : In (Invalidates l.from l.to (old.node n).epoch p) (about x old.letters) =
-        subst (λ (e : ℕ). In (Invalidates l.from l.to e p) (about x old.letters)) r.1 said in
+    subst (λ (e : ℕ). In (Invalidates l.from l.to e p) (about x old.letters)) r.1 said in
     inl (l.from, l.to, now)
 
 accept_here : (old new : Scene) (n x : ℕ) (p : Proposal) (chain : List Proposal) → IsNumbered old → Ordered (object old x) chain → MayAccept old n x p
@@ -295,7 +300,7 @@ sees_accept old new x n y p chain numbered ordered may c acked =
     elim (same_or_not y x) [
       | inr other ↦ sees_other old new x y n p (holding (old.node n) y p) chain numbered other c (holding-other (old.node n) y x p other)
       | inl same ↦ subst (λ (k : ℕ). Seen (object old k) (object new k) chain) same
-            (accepted n p (accept_here old new n y p chain numbered (subst (λ (k : ℕ). Ordered (object old k) chain) (sym same) ordered) may c acked))
+          (accepted n p (accept_here old new n y p chain numbered (subst (λ (k : ℕ). Ordered (object old k) chain) (sym same) ordered) may c acked))
     ]
 
 redrive_here : (old new : Scene) (n x : ℕ) (p : Proposal) → IsNumbered old → (entry (old.node n) x).proposal ≡ Some p
@@ -324,9 +329,9 @@ gather_said old x n from p co l body sender r =
     let says_it : In (Acknowledges l.from l.to l.epoch p co) (says x l) = rw body (says-oack x l.from l.to l.epoch p co) in
     let said : In (Acknowledges l.from l.to l.epoch p co) (about x old.letters) = about-in x (Acknowledges l.from l.to l.epoch p co) l old.letters r.2 says_it in
     let now : In (Acknowledges l.from l.to (old.node n).epoch p co) (about x old.letters) =
-        subst (λ (e : ℕ). In (Acknowledges l.from l.to e p co) (about x old.letters)) r.1 said in
+    subst (λ (e : ℕ). In (Acknowledges l.from l.to e p co) (about x old.letters)) r.1 said in
     let to_node : In (Acknowledges l.from n (old.node n).epoch p co) (about x old.letters) =
-        subst (λ (k : ℕ). In (Acknowledges l.from k (old.node n).epoch p co) (about x old.letters)) r.0 now in
+    subst (λ (k : ℕ). In (Acknowledges l.from k (old.node n).epoch p co) (about x old.letters)) r.0 now in
     subst (λ (k : ℕ). In (Acknowledges k n (old.node n).epoch p co) (about x old.letters)) sender to_node
 
 abbrev pub noting : Scene → ℕ → ℕ → ℕ → Proposal → Option Content → Node
@@ -355,9 +360,9 @@ pub sees_gather : (old new : Scene) (x n y from : ℕ) (p : Proposal) (co : Opti
 sees_gather old new x n y from p co l chain numbered body sender r below greatest c =
     elim (same_or_not y x) [
       | inr other ↦ sees_nothing old new x n (noting old n y from p co) chain numbered c
-            (with_gather-other (old.node n) y x (Some (noted (gather_for p (gather (old.node n) y)) from co)) other)
+          (with_gather-other (old.node n) y x (Some (noted (gather_for p (gather (old.node n) y)) from co)) other)
       | inl same ↦ subst (λ (k : ℕ). Seen (object old k) (object new k) chain) same
-            (noted_by n p from co (gather_here old new n y from p co l numbered body sender r below greatest c))
+          (noted_by n p from co (gather_here old new n y from p co l numbered body sender r below greatest c))
     ]
 
 both_true : {a b : Bool} → (a && b) ≡ true → (a ≡ true) × (b ≡ true)
@@ -421,12 +426,16 @@ decide_here old new n x g co chain numbered ordered gathered decidable content c
   where
     quiet : IsQuiet (settle (old.node n) x g.proposal.stamp (new_place g.proposal)) (deciding old n x g co) x
     quiet = bring-quiet (settle (old.node n) x g.proposal.stamp (new_place g.proposal)) x x g.proposal co
+
     complete : IsComplete (old.node n) g
     complete = decidable-complete (old.node n) g decidable
+
     entry_is : (object old x).entry n ≡ entry (old.node n) x
     entry_is = entry_before old new x n (deciding old n x g co) nothing c numbered
+
     gather_is : (object old x).gather n ≡ gather (old.node n) x
     gather_is = gather_before old new x n (deciding old n x g co) nothing c numbered
+
     above : is_below (entry (old.node n) x).stamp g.proposal.stamp ≡ true
     above = rw (← entry_is) (ordered.gathers n g (gather_is ∙ gathered)).above
 
@@ -436,9 +445,9 @@ pub sees_decide : (old new : Scene) (x n y : ℕ) (g : Gather) (co : Content) (c
 sees_decide old new x n y g co chain numbered ordered gathered decidable content c =
     elim (same_or_not y x) [
       | inr other ↦ sees_nothing old new x n (deciding old n y g co) chain numbered c
-            (quiet-then (old.node n) (settle (old.node n) y g.proposal.stamp (new_place g.proposal)) (deciding old n y g co) x
-                (settle-away (old.node n) y x g.proposal.stamp (new_place g.proposal) other)
-                (bring-quiet (settle (old.node n) y g.proposal.stamp (new_place g.proposal)) y x g.proposal co))
+          (quiet-then (old.node n) (settle (old.node n) y g.proposal.stamp (new_place g.proposal)) (deciding old n y g co) x
+          (settle-away (old.node n) y x g.proposal.stamp (new_place g.proposal) other)
+          (bring-quiet (settle (old.node n) y g.proposal.stamp (new_place g.proposal)) y x g.proposal co))
       | inl same ↦ subst (λ (k : ℕ). Seen (object old k) (object new k) chain) same
-            (decided n g (decide_here old new n y g co chain numbered (subst (λ (k : ℕ). Ordered (object old k) chain) (sym same) ordered) gathered decidable content c))
+          (decided n g (decide_here old new n y g co chain numbered (subst (λ (k : ℕ). Ordered (object old k) chain) (sym same) ordered) gathered decidable content c))
     ]

@@ -56,7 +56,7 @@ about_proposal-other n x y p l m ne (to_arbiter to h) i =
     let found : (x ≡ y) × (m ≡ Invalidates n.me to n.epoch p) = only_about-from y x m (Invalidates n.me to n.epoch p) i in ne found.0
 about_proposal-other n x y p l m ne (to_collector to h r) i =
     let found : (x ≡ y) × (m ≡ Acknowledges n.me to n.epoch p (own_content n x p.base_place)) =
-        only_about-from y x m (Acknowledges n.me to n.epoch p (own_content n x p.base_place)) i in
+    only_about-from y x m (Acknowledges n.me to n.epoch p (own_content n x p.base_place)) i in
     ne found.0
 
 pub is_node-some : (o : Option ℕ) (n : ℕ) → is_node o n ≡ true → o ≡ Some n
@@ -83,11 +83,13 @@ unfolding own_content unready_cause
 content-as_source n x place ready =
     elim (cases_Bool (is_source n place)) [
       | inl is ↦ (
-          λ h. is_node-some (source place n.members) n.me is,
-          λ h. rw is (ready-copy (copy n x) (held_cause (holder n x)) (state_cause (copy n x)) (ready is)))
+        λ h. is_node-some (source place n.members) n.me is,
+        λ h. rw is (ready-copy (copy n x) (held_cause (holder n x)) (state_cause (copy n x)) (ready is)),
+      )
       | inr not_source ↦ (
-          λ h. absurd (none_some (rw not_source at h)),
-          λ h. let is : is_source n place ≡ true = some-is_node (source place n.members) n.me h in cc)
+        λ h. absurd (none_some (rw not_source at h)),
+        λ h. let is : is_source n place ≡ true = some-is_node (source place n.members) n.me h in cc,
+      )
     ]
 
 -- what is known of the node that acts
@@ -118,7 +120,7 @@ about_proposal-heard old x n p l m numbered live (to_arbiter to h) i =
     let a : IsActor old x n = actor old x n numbered live in
     let found : (x ≡ x) × (m ≡ Invalidates (old.node n).me to (old.node n).epoch p) = only_about-from x x m (Invalidates (old.node n).me to (old.node n).epoch p) i in
     let same : Invalidates (old.node n).me to (old.node n).epoch p ≡ Invalidates n to ((object old x).epoch n) p =
-        ap (λ (k : ℕ). Invalidates k to (old.node n).epoch p) a.me ∙ ap (λ (k : ℕ). Invalidates n to k p) (sym a.epoch) in
+    ap (λ (k : ℕ). Invalidates k to (old.node n).epoch p) a.me ∙ ap (λ (k : ℕ). Invalidates n to k p) (sym a.epoch) in
     let arbiter : has to (arbiters p.base_place (object_view old x n) (object old x).directory) ≡ true = rw (← a.directory, ← a.members) h in
     rw (found.1, same) (inl (moves.to_arbiter to arbiter))
 about_proposal-heard old x n p l m numbered live (to_collector to h ready) i =
@@ -126,10 +128,10 @@ about_proposal-heard old x n p l m numbered live (to_collector to h ready) i =
     let c : Option Content = own_content (old.node n) x p.base_place in
     let found : (x ≡ x) × (m ≡ Acknowledges (old.node n).me to (old.node n).epoch p c) = only_about-from x x m (Acknowledges (old.node n).me to (old.node n).epoch p c) i in
     let same : Acknowledges (old.node n).me to (old.node n).epoch p c ≡ Acknowledges n to ((object old x).epoch n) p c =
-        ap (λ (k : ℕ). Acknowledges k to (old.node n).epoch p c) a.me ∙ ap (λ (k : ℕ). Acknowledges n to k p c) (sym a.epoch) in
+    ap (λ (k : ℕ). Acknowledges k to (old.node n).epoch p c) a.me ∙ ap (λ (k : ℕ). Acknowledges n to k p c) (sym a.epoch) in
     let requester : has p.requester (object_view old x n) ≡ true → to ≡ p.requester = λ r. h (rw a.members r) in
     let content : (is_some c ≡ true) ↔ (source p.base_place (object_view old x n) ≡ Some n) =
-        rw (← a.members) (subst (λ (k : ℕ). (is_some c ≡ true) ↔ (source p.base_place (old.node n).members ≡ Some k)) a.me (content-as_source (old.node n) x p.base_place ready)) in
+    rw (← a.members) (subst (λ (k : ℕ). (is_some c ≡ true) ↔ (source p.base_place (old.node n).members ≡ Some k)) a.me (content-as_source (old.node n) x p.base_place ready)) in
     rw (found.1, same) (inr (moves.to_collector to c requester content))
 
 -- the acknowledgement is among the letters about the object
@@ -139,8 +141,8 @@ unfolding object
 acked-heard old new x n p numbered live acked =
     let c : Option Content = own_content (old.node n) x p.base_place in
     let said : In (Acknowledges (old.node n).me acked.0 (old.node n).epoch p c) (about x new.letters) =
-        about-in x (Acknowledges (old.node n).me acked.0 (old.node n).epoch p c) (letter (old.node n) acked.0 (OAck x p c)) new.letters acked.1
-            (says-oack x (old.node n).me acked.0 (old.node n).epoch p c) in
+    about-in x (Acknowledges (old.node n).me acked.0 (old.node n).epoch p c) (letter (old.node n) acked.0 (OAck x p c)) new.letters acked.1
+    (says-oack x (old.node n).me acked.0 (old.node n).epoch p c) in
     (acked.0, c, subst (λ (k : ℕ). In (Acknowledges k acked.0 (old.node n).epoch p c) (about x new.letters)) (numbered.me n live) said)
 
 -- ---- settling

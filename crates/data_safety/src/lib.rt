@@ -1,0 +1,2 @@
+//! The data are safe: copies, contents and replies are those of one serial history.
+#![tactic(auto)]
