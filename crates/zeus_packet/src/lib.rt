@@ -4,6 +4,8 @@
 mod letter;
 mod place;
 mod ranges;
+#[cfg(test)]
+mod tests;
 mod write;
 
 pub use letter::{Body, Cause, Letter, Packet, RInv, State};
