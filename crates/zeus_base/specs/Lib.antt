@@ -1,9 +1,10 @@
 pub mod Bits
-pub mod NodeBits
+pub mod Limits
 pub mod NodeLaws
 pub mod Nodes
 pub mod Order
 pub mod OrderLaws
+pub mod TableLaws
 pub mod Tables
 pub mod Texts
 pub mod ValueLaws

@@ -1,0 +1,3 @@
+pub mod Object
+pub mod Moves
+pub mod Ordered
