@@ -1,2 +1,4 @@
-pub mod Rests
 pub mod NamedLemmas
+pub mod Rests
+pub mod RunLemmas
+pub mod WriteLemmas

@@ -2,4 +2,5 @@ pub mod Map
 pub mod OpLaws
 pub mod Ops
 pub mod Run
+pub mod RunLaws
 pub mod Tx

@@ -1,5 +1,6 @@
 //! Short lists kept inline, each seen as a list.
-ghost use Rattle.std.specs.Prelude.{◌≡◌, ◌<◌, ◌≤◌, ◌↔◌, ◌∷◌, ◌++◌, [], IsTrue, length, option_copied, slice_get};
+ghost use Rattle.std.specs.Prelude.{◌≡◌, ◌==◌, position, ◌<◌, ◌≤◌, ◌↔◌, ◌∷◌, ◌++◌, [], IsTrue, length, option_copied, slice_get};
+ghost use Rattle.zeus_txn.specs.Run.{latest, rewritten};
 
 use smallvec::SmallVec;
 use std::alloc::Global;
@@ -217,6 +218,30 @@ impl NewValues {
         self.as_slice().get(place)
     }
 
+    /// The last value that was written to the object, else the other one.
+    pub fn latest(&self, obj: ObjId, found: Value) -> Value
+        ensures { result ≡ latest self.now obj found }
+    {
+        let writes = self.as_slice();
+        for write in writes {
+            if obj == write.0 {
+                return write.1;
+            }
+        }
+        found
+    }
+
+    /// Writes the object: in its place, or at the end where it is new.
+    pub fn store(&mut self, obj: ObjId, value: Value)
+        requires { length (rewritten self.old obj value) ≤ 8 }
+        ensures { self.new ≡ rewritten self.old obj value }
+    {
+        match place_of(obj, self.as_slice()) {
+            Some(place) => self.items.as_mut_slice()[place] = (obj, value),
+            None => self.push(obj, value),
+        }
+    }
+
     /// The same list once more, without memory.
     pub fn duplicate(&self) -> NewValues
         ensures { result ≡ self.now }
@@ -225,4 +250,11 @@ impl NewValues {
             items: SmallVec::from_slice(*self.items.allocator(), self.items.as_slice()).unwrap(),
         }
     }
+}
+
+// The place of the object among the writes.
+fn place_of(obj: ObjId, writes: &[(ObjId, Value)]) -> Option<usize>
+    ensures { result ≡ position (λ w. obj == w.0) writes.now }
+{
+    writes.iter().position(|write| obj == write.0)
 }

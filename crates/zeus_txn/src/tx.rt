@@ -75,6 +75,11 @@ impl Tx {
         named(*self.ops.allocator(), self.ops.as_slice()).unwrap()
     }
 
+    // The allocator that its lists are made with.
+    pub(crate) fn allocator(&self) -> Global {
+        *self.ops.allocator()
+    }
+
     /// The same transaction once more, without memory.
     pub fn duplicate(&self) -> Tx
         ensures { result ≡ self.now }
