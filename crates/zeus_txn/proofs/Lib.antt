@@ -1,3 +1,5 @@
+pub mod ByIndex
+pub mod MapRun
 pub mod NamedLemmas
 pub mod Rests
 pub mod RunLemmas

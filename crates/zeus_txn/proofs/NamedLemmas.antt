@@ -1,8 +1,8 @@
 -- What a walk over operations knows of the objects that they name.
 use Rattle.std.proofs.Common.{ℕ, true, false, ◌≡◌, ◌+◌, ◌<◌, ◌≤◌, List, [], ◌∷◌, ◌++◌, length, drop, get_or, nat_lt, refl, sym, ◌∙◌, ap, arith, length-append}
-use Rattle.std.proofs.lemmas.Bool.{lt-ltb, le-ltb}
+use Rattle.std.proofs.lemmas.Bool.{lt-ltb}
 use Rattle.zeus_txn.specs.Ops.{object_of, mentions, mentioned, named_after, named}
-use Rattle.zeus_txn.specs.OpLaws.{mentioned-new, mentioned-old, length-named_after}
+use Rattle.zeus_txn.specs.OpLaws.{mentioned-new, length-named_after}
 use Rattle.zeus_txn.specs.declared.ops.Op.{Op}
 use Rattle.zeus_txn.proofs.Rests.{drop-here, drop-end}
 

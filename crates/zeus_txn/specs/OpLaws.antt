@@ -1,10 +1,10 @@
 -- Laws of what operations name and write.
-use Rattle.std.specs.Prelude.{ℕ, suc, Bool, true, false, ◌||◌, ◌==◌, ◌≡◌, ◌+◌, ◌≤◌, ◌<◌, List, [], ◌∷◌, ◌++◌, length, All, refl}
+use Rattle.std.specs.Prelude.{ℕ, true, false, ◌||◌, ◌==◌, ◌≡◌, ◌≤◌, List, [], ◌∷◌, ◌++◌, length, refl}
 use Rattle.std.specs.List.{list_any}
-use Rattle.std.proofs.Common.{arith, sym, ap, ◌∙◌, length-append}
-use Rattle.std.proofs.lemmas.Bool.{eq-eqb, cond_both}
+use Rattle.std.proofs.Common.{arith, ap, length-append}
+use Rattle.std.proofs.lemmas.Bool.{cond_both}
 use Rattle.std.proofs.lemmas.Bool.Decides.{nat_tests}
-use Rattle.zeus_txn.specs.Ops.{object_of, stores, mentions, mentioned, named_after, named, is_write, written_after, written}
+use Rattle.zeus_txn.specs.Ops.{object_of, stores, mentions, mentioned, named_after, named, is_write}
 use Rattle.zeus_txn.specs.declared.ops.Op.{Op}
 
 pub is_write-any : (ops : List Op) → is_write ops ≡ list_any stores ops

@@ -1,5 +1,5 @@
 -- What a transaction replies and writes, from the values that it finds.
-use Rattle.std.specs.Prelude.{ℕ, suc, ◌+◌, ◌%◌, ◌^◌, Bool, true, false, ◌&&◌, ◌==◌, nat_lt, List, [], ◌∷◌, ◌++◌, Option, Some, None, if◌then◌else◌}
+use Rattle.std.specs.Prelude.{ℕ, suc, ◌+◌, ◌%◌, ◌^◌, Bool, true, false, ◌==◌, nat_lt, List, [], ◌∷◌, ◌++◌, Option, Some, None, if◌then◌else◌}
 use Rattle.zeus_base.specs.Values.{same_value}
 use Rattle.zeus_base.specs.declared.value.Value.{Value}
 use Rattle.zeus_base.specs.declared.value.Value.TheVariants.{Num, Text}

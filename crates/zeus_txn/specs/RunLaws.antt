@@ -1,5 +1,5 @@
 -- Laws of running operations: what one step does, that only the values of the named objects count, and what is written.
-use Rattle.std.specs.Prelude.{ℕ, suc, Bool, true, false, ◌&&◌, ◌||◌, ◌==◌, ◌≡◌, ◌+◌, ◌≤◌, ◌<◌, List, [], ◌∷◌, ◌++◌, length, map, Option, Some, None, refl, if◌then◌else◌}
+use Rattle.std.specs.Prelude.{ℕ, suc, true, false, ◌||◌, ◌==◌, ◌≡◌, ◌+◌, ◌≤◌, List, [], ◌∷◌, ◌++◌, length, map, Option, Some, None, refl, if◌then◌else◌}
 use Rattle.std.proofs.Common.{arith, sym, ap, ◌∙◌, length-append}
 use Rattle.std.proofs.lemmas.Bool.{eqb-true}
 use Rattle.std.proofs.lemmas.Bool.Decides.{nat_tests}
@@ -8,8 +8,8 @@ use Rattle.zeus_txn.specs.declared.ops.Op.{Op}
 use Rattle.zeus_txn.specs.declared.reply.Ran.{Ran}
 use Rattle.zeus_txn.specs.declared.run.Effect.{Effect}
 use Rattle.zeus_txn.specs.Ops.{object_of, mentions, mentioned, named}
-use Rattle.zeus_txn.specs.OpLaws.{AllIn, mentions-mentioned, mentioned-new, mentioned-old, named-all}
-use Rattle.zeus_txn.specs.Run.{effect, given, latest, rewritten, stored, fails_at, succeeds, run_from, run, value_at}
+use Rattle.zeus_txn.specs.OpLaws.{AllIn, mentions-append, mentions-one, mentions-mentioned, mentioned-new, mentioned-old, named-all}
+use Rattle.zeus_txn.specs.Run.{effect, given, latest, rewritten, stored, fails_at, run_from, run, value_at}
 
 -- ---- one operation after another
 
@@ -129,3 +129,63 @@ HasRoom-stored ws x (Some v) ns h g = rw keys-rewritten (HasRoom-mentioned x (ke
 pub HasRoom-length : (ws : List (ℕ × Value)) (ns : List ℕ) → HasRoom (keys ws) ns → length ws ≤ length ns
 unfolding HasRoom
 HasRoom-length ws ns h = omega (arith, length-keys ws)
+
+-- no object stands twice
+unfoldable pub AreDistinct : List ℕ → Type 0
+AreDistinct [] = Unit {0}
+AreDistinct (k ∷ ks) = (mentions k ks ≡ false) × AreDistinct ks
+
+distinct-append : (x : ℕ) (ks : List ℕ) → AreDistinct ks → mentions x ks ≡ false → AreDistinct (ks ++ x ∷ [])
+unfolding AreDistinct mentions
+distinct-append x [] d h = (refl, tt)
+distinct-append x (k ∷ ks) d h =
+    (grind (arith, nat_tests, d.0, mentions-append k ks (x ∷ []), mentions-one k x), distinct-append x ks d.1 (grind (arith, nat_tests)))
+
+distinct-mentioned : (x : ℕ) (ks : List ℕ) → AreDistinct ks → AreDistinct (mentioned ks x)
+distinct-mentioned x ks d =
+    elim (mentions x ks) as (λ b. mentions x ks ≡ b → AreDistinct (mentioned ks x)) [
+      | true ↦ λ old. rw (mentioned-old x ks old) d
+      | false ↦ λ new. rw (mentioned-new x ks new) (distinct-append x ks d new)
+    ] refl
+
+-- writes are of different objects, each one of those that are named
+pub record AreOf (ns : List ℕ) (ws : List (ℕ × Value)) : Type 0 where
+  pub distinct : AreDistinct (keys ws)
+  pub named : (x : ℕ) → mentions x (keys ws) ≡ true → mentions x ns ≡ true
+
+AreOf-none : (ns : List ℕ) → AreOf ns []
+unfolding AreDistinct keys mentions
+AreOf-none ns = record { distinct = tt; named = λ x h. absurd cc }
+
+AreOf-rewritten : (ns : List ℕ) (ws : List (ℕ × Value)) (x : ℕ) (v : Value) → AreOf ns ws → mentions x ns ≡ true → AreOf ns (rewritten ws x v)
+AreOf-rewritten ns ws x v are h =
+    record {
+      distinct = rw keys-rewritten (distinct-mentioned x (keys ws) are.distinct);
+      named = λ y g.
+          let either : ((y == x) || mentions y (keys ws)) ≡ true = sym (mentions-mentioned y x (keys ws)) ∙ (ap (λ ks. mentions y ks) (sym (keys-rewritten ws x v)) ∙ g) in
+          elim (y == x) as (λ b. (y == x) ≡ b → (b || mentions y (keys ws)) ≡ true → mentions y ns ≡ true) [
+            | true ↦ λ is _. rw (eqb-true y x is) h
+            | false ↦ λ _ old. are.named y old
+          ] refl either;
+    }
+
+AreOf-stored : (ns : List ℕ) (ws : List (ℕ × Value)) (x : ℕ) (o : Option Value) → AreOf ns ws → mentions x ns ≡ true → AreOf ns (stored ws x o)
+unfolding stored
+AreOf-stored ns ws x None are h = are
+AreOf-stored ns ws x (Some v) are h = AreOf-rewritten ns ws x v are h
+
+either_way : (P : Ran → Type 0) (o : Option Effect) (a : Ran) (f : Effect → Ran) → P a → ((e : Effect) → P (f e)) → P (elim o [ None ↦ a | Some e ↦ f e ])
+either_way P None a f h g = h
+either_way P (Some e) a f h g = g e
+
+run_from-are_of : (found : ℕ → Value) (ns : List ℕ) (place : ℕ) (vs : List Value) (ws : List (ℕ × Value)) (ops : List Op) → AllIn ns ops → AreOf ns ws → AreOf ns (run_from found place vs ws ops).writes
+unfolding run_from AllIn
+run_from-are_of found ns place vs ws [] all are = are
+run_from-are_of found ns place vs ws (op ∷ ops) all are =
+    let x = object_of op in
+    either_way (λ r. AreOf ns r.writes) (effect op (latest ws x (found x))) (fails_at place vs) (λ e. run_from found (suc place) (given vs e.gives) (stored ws x e.stores) ops) (AreOf-none ns) (λ e. run_from-are_of found ns (suc place) (given vs e.gives) (stored ws x e.stores) ops all.1 (AreOf-stored ns ws x e.stores are all.0))
+
+-- what operations write are different objects that they name
+pub run-are_of : (found : ℕ → Value) (ops : List Op) → AreOf (named ops) (run found ops).writes
+unfolding run
+run-are_of found ops = run_from-are_of found (named ops) 0 [] [] ops (named-all ops) (AreOf-none (named ops))

@@ -44,7 +44,8 @@ impl Values {
 
     /// All as a slice.
     pub fn as_slice(&self) -> &[Value]
-        ensures { result.now ≡ self.now }
+        ensures list { result.now ≡ self.now }
+        ensures few { length self.now ≤ 16 }
     {
         self.items.as_slice()
     }
@@ -117,7 +118,8 @@ impl Named {
 
     /// All as a slice.
     pub fn as_slice(&self) -> &[ObjId]
-        ensures { result.now ≡ self.now }
+        ensures list { result.now ≡ self.now }
+        ensures few { length self.now ≤ 8 }
     {
         self.items.as_slice()
     }
@@ -191,7 +193,8 @@ impl NewValues {
 
     /// All as a slice.
     pub fn as_slice(&self) -> &[(ObjId, Value)]
-        ensures { result.now ≡ self.now }
+        ensures list { result.now ≡ self.now }
+        ensures few { length self.now ≤ 8 }
     {
         self.items.as_slice()
     }

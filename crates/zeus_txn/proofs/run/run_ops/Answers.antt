@@ -1,8 +1,7 @@
-use Rattle.std.proofs.Common.{ℕ, ◌≡◌, ◌<◌, ◌≤◌, ◌∙◌, true, Option, Some, None, length, refl, sym, ap, arith}
-use Rattle.zeus_base.specs.declared.value.Value.{Value}
+use Rattle.std.proofs.Common.{◌≡◌, ◌≤◌, ◌∙◌, true, length, refl, sym, ap, arith}
 use Rattle.zeus_txn.specs.Ops.{object_of, mentions, named}
-use Rattle.zeus_txn.specs.Run.{given, run, stored, value_at, fails_at, succeeds}
-use Rattle.zeus_txn.specs.RunLaws.{keys, HasRoom, HasRoom-none, HasRoom-stored, HasRoom-length}
+use Rattle.zeus_txn.specs.Run.{run, stored, value_at}
+use Rattle.zeus_txn.specs.RunLaws.{keys, HasRoom-none, HasRoom-stored, HasRoom-length}
 use Rattle.zeus_txn.proofs.RunLemmas.{named-at, length-given, performed, run-step, run-fail, run-end}
 use Rattle.zeus_txn.proofs.run.run_ops.Goals as goal
 
@@ -19,7 +18,7 @@ pub returns-in-None : goal.returns-in-None
 returns-in-None c =
     let ops = c.ops-ops.result.now in
     let op = c.index-ops-place.result in
-    let names : c.as_slice.result.now ≡ named ops = c.as_slice.ensures ∙ (c.named-named.ensures ∙ ap named (sym c.ops-ops.ensures.list)) in
+    let names : c.as_slice.result.now ≡ named ops = c.as_slice.ensures.list ∙ (c.named-named.ensures ∙ ap named (sym c.ops-ops.ensures.list)) in
     let done = performed ops c.args.values.now c.loop-place.writes op c.as_slice.result.now c.object-obj.result c.value_at-found.result c.latest.result c.perform.result names c.object-obj.ensures c.value_at-found.ensures c.latest.ensures c.perform.ensures in
     let ended = run-fail (value_at (named ops) c.args.values.now) ops c.loop-place.place c.loop-place.given c.loop-place.writes op (run (value_at (named ops) c.args.values.now) ops) c.loop-place-test.true c.index-ops-place.is (done ∙ c.in-None.is) c.loop-place.invariant.ran in
     rw (← c.ops-ops.ensures.list, c.new.ensures) ended
@@ -38,7 +37,7 @@ loop-place-preserved c =
     let op = c.index-ops-place.result in
     let found = value_at (named ops) c.args.values.now in
     let obj : c.object-obj.result ≡ object_of op = c.object-obj.ensures in
-    let names : c.as_slice.result.now ≡ named ops = c.as_slice.ensures ∙ (c.named-named.ensures ∙ ap named (sym c.ops-ops.ensures.list)) in
+    let names : c.as_slice.result.now ≡ named ops = c.as_slice.ensures.list ∙ (c.named-named.ensures ∙ ap named (sym c.ops-ops.ensures.list)) in
     let done = performed ops c.args.values.now c.loop-place.writes op c.as_slice.result.now c.object-obj.result c.value_at-found.result c.latest.result c.perform.result names c.object-obj.ensures c.value_at-found.ensures c.latest.ensures c.perform.ensures in
     let next = run-step found ops c.loop-place.place c.loop-place.given c.loop-place.writes op c.in-Some.effect (run found ops) c.loop-place-test.true c.index-ops-place.is (done ∙ c.in-Some.is) c.loop-place.invariant.ran in
     let in_names : mentions c.object-obj.result (named ops) ≡ true = rw c.object-obj.ensures (named-at ops c.loop-place.place op c.loop-place-test.true c.index-ops-place.is) in

@@ -1,5 +1,4 @@
-use Rattle.std.proofs.Common.{◌≡◌, ◌==◌, ◌<◌, ◌∙◌, false, length, get_or, refl, sym, arith}
-use Rattle.zeus_base.specs.declared.value.Value.TheVariants.{Num}
+use Rattle.std.proofs.Common.{◌≡◌, ◌==◌, ◌<◌, ◌∙◌, false, length, sym, arith}
 use Rattle.zeus_txn.proofs.WriteLemmas.{value_at-skip}
 use Rattle.zeus_txn.proofs.run.value_at.Goals as goal
 
