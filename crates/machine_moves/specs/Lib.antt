@@ -1,2 +1,3 @@
 pub mod Scene
 pub mod Move
+pub mod Fits

@@ -160,7 +160,7 @@ pub data Move (old new : Scene) : Type 0 where
       → Changes old new n (record (old.node n) { reported = with_node n (old.node n).reported }) nothing → Move old new
   hears : (n m : ℕ) (l : Letter) → l.body ≡ Recovered → l.from ≡ m → IsReceivable old n l
       → Changes old new n (record (old.node n) { reported = with_node m (old.node n).reported }) nothing → Move old new
-  commits : (n s : ℕ) (c : Current) → (slot (old.node n) s).current ≡ Some c → write_cause (old.node n) s c.tx ≡ None
+  commits : (n s : ℕ) (c : Current) → s < old.config.slots → (slot (old.node n) s).current ≡ Some c → write_cause (old.node n) s c.tx ≡ None
       → Changes old new n (committed (old.node n) s c (run_here (old.node n) c.tx)
       (without n (replicas_of (old.node n) (new_writes (old.node n) (run_here (old.node n) c.tx).writes)))
       (new_writes (old.node n) (run_here (old.node n) c.tx).writes)) nothing → Move old new

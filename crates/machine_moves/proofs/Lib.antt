@@ -1,0 +1,17 @@
+pub mod Lists
+pub mod Links
+pub mod Within
+pub mod Steady
+pub mod Reach
+pub mod Passing
+pub mod Finish
+pub mod Entries
+pub mod Causes
+pub mod Proposals
+pub mod Decisions
+pub mod Receiving
+pub mod Trying
+pub mod Ticking
+pub mod Steps
+pub mod Start
+pub mod Runs

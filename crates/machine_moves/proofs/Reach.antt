@@ -1,0 +1,203 @@
+-- From one scene to another by moves of one node, which ends as a certain node and has sent certain letters.
+use Rattle.std.specs.Prelude.{ℕ, zero, suc, ◌≡◌, ◌≢◌, ◌+◌, ◌-◌, ◌<◌, ◌≤◌, Bool, true, false, ◌==◌, List, [], ◌∷◌, ◌++◌, length, take, Option, Some, None, ◌⊎◌, if◌then◌else◌}
+use Rattle.std.proofs.Common.{arith, refl, sym, ap, ◌∙◌, inl, inr, eq-eqb, subst}
+use Rattle.std.proofs.lemmas.Bool.{cases_eq, ne_eqb}
+use Rattle.zeus_packet.specs.declared.letter.Letter.{Letter}
+use Rattle.zeus_model.specs.In.{In}
+use Rattle.zeus_model.specs.State.{Node}
+use Rattle.zeus_model.specs.Act.{Act, Did, joined, did_joined}
+use Rattle.machine_moves.specs.Scene.{Scene, IsLive, Changes, Same, Sends, nothing}
+use Rattle.machine_moves.specs.Move.{Move, Moves, none, next, IsTellable, tells}
+use Rattle.machine_moves.proofs.Lists.{In-nothing, In-append, In-append_left, In-append_right, In-take, take-append, take-none}
+use Rattle.machine_moves.proofs.Within.{Keeps, Keeps-refl, Keeps-trans}
+use Rattle.machine_moves.proofs.Steady.{IsSteady, IsKnown, moves_keep}
+
+-- the node has become another, and just these letters were sent
+pub record Became (s t : Scene) (n : ℕ) (after : Node) (sent : List Letter) : Type 0 where
+  pub config : t.config ≡ s.config
+  pub views : t.views ≡ s.views
+  pub node : t.node n ≡ after
+  pub others : (k : ℕ) → k ≢ n → t.node k ≡ s.node k
+  pub stay : (l : Letter) → In l s.letters → In l t.letters
+  pub new : (l : Letter) → In l sent → In l t.letters
+  pub only : (l : Letter) → In l t.letters → In l s.letters ⊎ In l sent
+
+-- the scene with another node, and with more letters
+unfoldable pub changed : Scene → ℕ → Node → List Letter → Scene
+changed s n after sent =
+    record { config = s.config; views = s.views; node = λ k. if k == n then after else s.node k; letters = s.letters ++ sent }
+
+pub Became-changed : (s : Scene) (n : ℕ) (after : Node) (sent : List Letter) → Became s (changed s n after sent) n after sent
+unfolding changed
+Became-changed s n after sent =
+    record {
+      config = refl;
+      views = refl;
+      node = rw (eq-eqb n n refl) refl;
+      others = λ k ne. rw (ne_eqb k n ne) refl;
+      stay = λ l m. In-append_left l s.letters sent m;
+      new = λ l m. In-append_right l s.letters sent m;
+      only = λ l m. In-append l s.letters sent m;
+    }
+
+pub Became-refl : (s : Scene) (n : ℕ) → Became s s n (s.node n) []
+Became-refl s n =
+    record { config = refl; views = refl; node = refl; others = λ k ne. refl; stay = λ l m. m; new = λ l m. In-nothing l m; only = λ l m. inl m }
+
+pub Became-trans : (s t u : Scene) (n : ℕ) (m after : Node) (a b : List Letter) → Became s t n m a → Became t u n after b → Became s u n after (a ++ b)
+Became-trans s t u n m after a b p q =
+    record {
+      config = q.config ∙ p.config;
+      views = q.views ∙ p.views;
+      node = q.node;
+      others = λ k ne. q.others k ne ∙ p.others k ne;
+      stay = λ l i. q.stay l (p.stay l i);
+      new = λ l i. elim (In-append l a b i) [ inl left ↦ q.stay l (p.new l left) | inr right ↦ q.new l right ];
+      only = λ l i. elim (q.only l i) [
+        | inl older ↦ elim (p.only l older) [ inl oldest ↦ inl oldest | inr left ↦ inr (In-append_left l a b left) ]
+        | inr right ↦ inr (In-append_right l a b right)
+      ];
+    }
+
+-- two scenes that a node became alike are the same
+pub Same-became : (s t u : Scene) (n : ℕ) (after : Node) (sent : List Letter) → Became s t n after sent → Became s u n after sent → Same t u
+Same-became s t u n after sent p q =
+    record {
+      config = q.config ∙ sym p.config;
+      views = q.views ∙ sym p.views;
+      nodes = λ k. elim (cases_eq k n) [
+        | inl same ↦ rw same (q.node ∙ sym p.node)
+        | inr other ↦ q.others k other ∙ sym (p.others k other)
+      ];
+      sends = record {
+        stay = λ l i. elim (p.only l i) [ inl older ↦ q.stay l older | inr newer ↦ q.new l newer ];
+        only = λ l i. elim (q.only l i) [ inl older ↦ inl (p.stay l older) | inr newer ↦ inl (p.new l newer) ];
+      };
+    }
+
+-- what became of a node is a change where it is allowed
+pub Changes-became : (s t : Scene) (n : ℕ) (after : Node) (sent : List Letter) (allowed : Letter → Type 0) → IsLive s n → Became s t n after sent → ((l : Letter) → In l sent → allowed l) → Changes s t n after allowed
+Changes-became s t n after sent allowed live b fair =
+    record {
+      live = live;
+      config = b.config;
+      views = b.views;
+      node = b.node;
+      others = b.others;
+      sends = record {
+        stay = b.stay;
+        only = λ l i. elim (b.only l i) [ inl older ↦ inl older | inr newer ↦ inr (fair l newer) ];
+      };
+    }
+
+-- ---- by moves
+
+-- moves lead from one scene to another
+pub record Leads (s t : Scene) : Type 0 where
+  pub on : (u : Scene) → Moves t u → Moves s u
+
+-- moves of the node, which keeps what it is, lead to a scene where it has become another and has sent these letters
+pub record Reaches (s : Scene) (n : ℕ) (after : Node) (sent : List Letter) : Type 0 where
+  pub scene : Scene
+  pub became : Became s scene n after sent
+  pub leads : Leads s scene
+  pub keeps : Keeps (s.node n) after
+
+-- where a node acts: all is as it is at every moment, and the node is live
+pub record IsReady (s : Scene) (n : ℕ) : Type 0 where
+  pub steady : IsSteady s
+  pub live : IsLive s n
+
+pub known : (s : Scene) (n : ℕ) → IsReady s n → IsKnown s.config s.views n (s.node n)
+known s n r = let h = r.steady in h.nodes n r.live
+
+pub Same-refl : (s : Scene) → Same s s
+Same-refl s =
+    record { config = refl; views = refl; nodes = λ k. refl; sends = record { stay = λ l i. i; only = λ l i. inl i } }
+
+pub Moves-leads : (s t : Scene) → Leads s t → Moves s t
+Moves-leads s t l = l.on t (none t t (Same-refl t))
+
+-- moves lead to each scene that is as the one that was reached
+pub Moves-reaches : (s t : Scene) (n : ℕ) (after : Node) (sent : List Letter) → Reaches s n after sent → Became s t n after sent → Moves s t
+Moves-reaches s t n after sent r b =
+    let l = r.leads in
+    l.on t (none r.scene t (Same-became s r.scene t n after sent r.became b))
+
+-- after moves of a node that keeps what it is, it is ready again
+pub ready_after : (s t : Scene) (n : ℕ) (after : Node) (sent : List Letter) → IsReady s n → Became s t n after sent → Leads s t → Keeps (s.node n) after → IsReady t n
+ready_after s t n after sent r b l k =
+    record { steady = moves_keep s t (Moves-leads s t l) r.steady; live = rw (b.node) (k.stopped ∙ r.live) }
+
+-- nothing is done
+pub still_reaches : (s : Scene) (n : ℕ) → Reaches s n (s.node n) []
+still_reaches s n = record { scene = s; became = Became-refl s n; leads = record { on = λ u ms. ms }; keeps = Keeps-refl (s.node n) }
+
+-- one move
+pub move_reaches : (s : Scene) (n : ℕ) (after : Node) (sent : List Letter) → Keeps (s.node n) after → Move s (changed s n after sent) → Reaches s n after sent
+move_reaches s n after sent k m =
+    record { scene = changed s n after sent; became = Became-changed s n after sent; leads = record { on = λ u ms. next s (changed s n after sent) u m ms }; keeps = k }
+
+-- a move that sends nothing
+pub quiet_reaches : (s : Scene) (n : ℕ) (after : Node) → IsLive s n → Keeps (s.node n) after → (Changes s (changed s n after []) n after nothing → Move s (changed s n after [])) → Reaches s n after []
+quiet_reaches s n after live k move =
+    move_reaches s n after [] k (move (Changes-became s (changed s n after []) n after [] nothing live (Became-changed s n after []) (λ l i. In-nothing l i)))
+
+-- letters that the node may send without a change of its state
+pub tells_reaches : (s : Scene) (n : ℕ) (sent : List Letter) → IsLive s n → ((l : Letter) → In l sent → IsTellable (s.node n) l) → Reaches s n (s.node n) sent
+tells_reaches s n sent live fair =
+    move_reaches s n (s.node n) sent (Keeps-refl (s.node n))
+    (tells n (Changes-became s (changed s n (s.node n) sent) n (s.node n) sent (IsTellable (s.node n)) live (Became-changed s n (s.node n) sent) fair))
+
+pub then_reaches : (s : Scene) (n : ℕ) (m after : Node) (a b : List Letter) → IsReady s n → Reaches s n m a → ((t : Scene) → IsReady t n → Became s t n m a → Reaches t n after b) → Reaches s n after (a ++ b)
+then_reaches s n m after a b ready r on =
+    let second = on r.scene (ready_after s r.scene n m a ready r.became r.leads r.keeps) r.became in
+    let first_leads = r.leads in
+    let second_leads = second.leads in
+    record {
+      scene = second.scene;
+      became = Became-trans s r.scene second.scene n m after a b r.became second.became;
+      leads = record { on = λ u ms. first_leads.on u (second_leads.on u ms) };
+      keeps = Keeps-trans (s.node n) m after r.keeps (let b = r.became in rw (b.node) at second.keeps);
+    }
+
+-- ---- what an act reaches, of whose letters at most so many are sent
+
+abbrev pub Reached : Scene → ℕ → ℕ → Act → Type 0
+Reached s n k a = Reaches s n a.node (take k a.sent)
+
+abbrev pub Answered : {A : Type 0} → Scene → ℕ → ℕ → Did A → Type 0
+Answered s n k d = Reaches s n d.node (take k d.sent)
+
+pub cut_none : (s : Scene) (n : ℕ) (after : Node) (k : ℕ) → Reaches s n after [] → Reaches s n after (take k [])
+cut_none s n after k r = rw (take-none {A = Letter} k) r
+
+pub cut_tells : (s : Scene) (n k : ℕ) (sent : List Letter) → IsLive s n → ((l : Letter) → In l sent → IsTellable (s.node n) l) → Reaches s n (s.node n) (take k sent)
+cut_tells s n k sent live fair = tells_reaches s n (take k sent) live (λ l i. fair l (In-take l k sent i))
+
+-- the second act begins where the first has ended
+pub cut_then : (s : Scene) (n k : ℕ) (m after : Node) (a b : List Letter) → IsReady s n → Reaches s n m (take k a) → ((t : Scene) (j : ℕ) → IsReady t n → Became s t n m (take k a) → Reaches t n after (take j b)) → Reaches s n after (take k (a ++ b))
+cut_then s n k m after a b ready r on =
+    rw (take-append k a b) (then_reaches s n m after (take k a) (take (k - length a) b) ready r (λ t rt b. on t (k - length a) rt b))
+
+-- a node's letters at a scene where it is known what it has become
+pub tells_at : (t : Scene) (n k : ℕ) (m : Node) (sent : List Letter) → IsLive t n → t.node n ≡ m → ((l : Letter) → In l sent → IsTellable m l) → Reaches t n m (take k sent)
+tells_at t n k m sent live is fair =
+    (subst (λ (x : Node). ((l : Letter) → In l sent → IsTellable x l) → Reaches t n x (take k sent)) is (λ f. cut_tells t n k sent live f)) fair
+
+-- quiet moves, and then letters
+pub quiet_then_tells : (s : Scene) (n k : ℕ) (m : Node) (sent : List Letter) → IsReady s n → Reaches s n m [] → ((l : Letter) → In l sent → IsTellable m l) → Reaches s n m (take k sent)
+quiet_then_tells s n k m sent ready r fair =
+    then_reaches s n m m [] (take k sent) ready r (λ t rt b. tells_at t n k m sent rt.live b.node fair)
+
+-- one act, and then another
+pub act_then : (s : Scene) (n k : ℕ) (a : Act) (g : Node → Act) → IsReady s n → Reached s n k a → ((t : Scene) (j : ℕ) → IsReady t n → Keeps (s.node n) (t.node n) → Reached t n j (g (t.node n))) → Reached s n k (joined a (g a.node))
+act_then s n k a g ready r on =
+    cut_then s n k a.node (g a.node).node a.sent (g a.node).sent ready r
+    (λ t j rt b. subst (λ (m : Node). Reaches t n (g m).node (take j (g m).sent)) b.node (on t j rt (let keeps = r.keeps in rw (b.node) keeps)))
+
+-- an answer, and then an act
+pub did_then_reaches : {A : Type 0} (s : Scene) (n k : ℕ) (d : Did A) (g : Node → Act) → IsReady s n → Answered s n k d → ((t : Scene) (j : ℕ) → IsReady t n → Reached t n j (g (t.node n))) → Answered s n k (did_joined d (g d.node))
+did_then_reaches s n k d g ready r on =
+    cut_then s n k d.node (g d.node).node d.sent (g d.node).sent ready r
+    (λ t j rt b. subst (λ (m : Node). Reaches t n (g m).node (take j (g m).sent)) b.node (on t j rt))
