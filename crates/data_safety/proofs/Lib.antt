@@ -1,1 +1,3 @@
 pub mod SerialContents
+pub mod SerialRun
+pub mod Booking
