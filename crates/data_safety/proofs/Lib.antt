@@ -1,2 +1,3 @@
 pub mod Names
 pub mod Consequences
+pub mod Running

@@ -1,7 +1,8 @@
 -- A transaction writes only what it names.
-use Rattle.std.specs.Prelude.{ℕ, zero, suc, ◌≡◌, ◌+◌, ◌==◌, Bool, true, false, ◌||◌, List, [], ◌∷◌, ◌++◌, Option, Some, None, ◌⊎◌, if◌then◌else◌}
+use Rattle.std.specs.Prelude.{ℕ, zero, suc, ◌≡◌, ◌≢◌, ◌+◌, ◌==◌, Bool, true, false, ◌||◌, List, [], ◌∷◌, ◌++◌, Option, Some, None, ◌⊎◌, if◌then◌else◌}
 use Rattle.std.proofs.Common.{arith, refl, sym, ap, ◌∙◌, inl, inr}
 use Rattle.std.proofs.lemmas.Bool.{cases_Bool, eq-eqb}
+use Rattle.std.proofs.lemmas.Bool.Decides.{nat_tests}
 use Rattle.zeus_base.specs.declared.value.Value.{Value}
 use Rattle.zeus_packet.specs.declared.write.Content.{Content}
 use Rattle.zeus_packet.specs.declared.write.Write.{Write}
@@ -11,6 +12,12 @@ use Rattle.zeus_txn.specs.Ops.{object_of, mentions, mentioned, named, named_afte
 use Rattle.zeus_txn.specs.Run.{Effect, effect, given, present, rewritten, stored, run_from, run}
 use Rattle.zeus_model.specs.In.{In, here, there}
 use Rattle.data_safety.specs.Faithful.{raised}
+
+eq_from : (a b : ℕ) → (a == b) ≡ true → a ≡ b
+eq_from a b h = grind (arith, nat_tests)
+
+ne_from : (a b : ℕ) → (a == b) ≡ false → a ≢ b
+ne_from a b h e = grind (arith, nat_tests)
 
 -- ---- names
 
@@ -104,3 +111,53 @@ unfolding raised
 raised-from found [] w i = elim i [ ]
 raised-from found (k ∷ ks) w (here _ _ e) = rw e (here k ks refl, refl)
 raised-from found (k ∷ ks) w (there _ _ i) = let rest = raised-from found ks w i in (there k ks rest.0, rest.1)
+
+-- ---- no object is written twice
+
+-- each object is written once
+unfoldable pub IsOnce : List Write → Type 0
+IsOnce [] = Unit {0}
+IsOnce (w ∷ ws) = ((v : Write) → In v ws → v.obj ≢ w.obj) × IsOnce ws
+
+-- so it is with writes that have no version yet
+unfoldable pub AreOnce : List (ℕ × Value) → Type 0
+AreOnce [] = Unit {0}
+AreOnce (w ∷ ws) = ((v : ℕ × Value) → In v ws → v.0 ≢ w.0) × AreOnce ws
+
+rewritten-once : (ws : List (ℕ × Value)) (x : ℕ) (v : Value) → AreOnce ws → AreOnce (rewritten ws x v)
+unfolding rewritten AreOnce
+rewritten-once [] x v once = (λ w i. elim i [ ], tt)
+rewritten-once (k ∷ ks) x v once = elim (cases_Bool (x == k.0)) [
+  | inl same ↦ rw same (λ w i is. once.0 w i (is ∙ eq_from x k.0 same), once.1)
+  | inr other ↦ rw other (
+    λ w i is. elim (rewritten-in w ks x v i) [
+      | inl before ↦ once.0 w before is
+      | inr now ↦ ne_from x k.0 other (sym now ∙ is)
+    ],
+    rewritten-once ks x v once.1,
+  )
+]
+
+stored-once : (ws : List (ℕ × Value)) (x : ℕ) (o : Option Value) → AreOnce ws → AreOnce (stored ws x o)
+unfolding stored
+stored-once ws x None once = once
+stored-once ws x (Some v) once = rewritten-once ws x v once
+
+run_from-once : (found : ℕ → Value) (place : ℕ) (vs : List Value) (ws : List (ℕ × Value)) (ops : List Op) → AreOnce ws → AreOnce (run_from found place vs ws ops).writes
+unfolding run_from AreOnce
+run_from-once found place vs ws [] once = once
+run_from-once found place vs ws (op ∷ ops) once = by_effect (effect op (present found ws (object_of op))) (λ f. run_from-once found (suc place) (given vs f.gives) (stored ws (object_of op) f.stores) ops (stored-once ws (object_of op) f.stores once))
+  where
+    by_effect : (e : Option Effect) → ((f : Effect) → AreOnce (run_from found (suc place) (given vs f.gives) (stored ws (object_of op) f.stores) ops).writes) → AreOnce (elim e as (λ (z : Option Effect). Ran) [ | None ↦ record { reply = record { values = vs; failed = Some place }; writes = [] } | Some f ↦ run_from found (suc place) (given vs f.gives) (stored ws (object_of op) f.stores) ops ]).writes
+    by_effect None rest = tt
+    by_effect (Some f) rest = rest f
+
+-- a transaction writes each object once
+pub run-once : (found : ℕ → Value) (ops : List Op) → AreOnce (run found ops).writes
+unfolding run AreOnce
+run-once found ops = run_from-once found 0 [] [] ops tt
+
+pub raised-once : (found : ℕ → Content) (ws : List (ℕ × Value)) → AreOnce ws → IsOnce (raised found ws)
+unfolding raised IsOnce AreOnce
+raised-once found [] once = tt
+raised-once found (w ∷ ws) once = (λ v i is. once.0 (v.obj, v.value) (raised-from found ws v i).0 is, raised-once found ws once.1)
