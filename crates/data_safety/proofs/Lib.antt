@@ -4,3 +4,4 @@ pub mod Running
 pub mod SerialContents
 pub mod SerialRun
 pub mod Booking
+pub mod PassValidated
