@@ -5,3 +5,5 @@ pub mod SerialContents
 pub mod SerialRun
 pub mod Booking
 pub mod PassValidated
+pub mod PassThins
+pub mod PassCopies
