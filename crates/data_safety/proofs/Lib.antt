@@ -7,3 +7,4 @@ pub mod Booking
 pub mod PassValidated
 pub mod PassThins
 pub mod PassCopies
+pub mod PassLeft

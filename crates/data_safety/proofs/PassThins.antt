@@ -121,7 +121,7 @@ pub record Thins (y z : Story) (u v : Truth) : Type 0 where
   pub owning : (n x : ℕ) → owns (z.scene.node n) x ≡ owns (y.scene.node n) x
   pub objects : StillObjects y.scene z.scene u v
   pub lines : (t : Stream) → ThinLine (line y.scene t) (line z.scene t) (u.passed t) (v.passed t)
-  pub entry : (t : Stream) (k : ℕ) → Lives z v t k → pending_at z t k ≡ pending_at y t k
+  pub entry : (t : Stream) (k : ℕ) → v.passed t ≤ k → pending_at z t k ≡ pending_at y t k
   pub was : (n s i : ℕ) → i < length (slot (z.scene.node n) s).pending
       → (j : ℕ) × (j < length (slot (y.scene.node n) s).pending) × (nth no_pending (slot (z.scene.node n) s).pending i ≡ nth no_pending (slot (y.scene.node n) s).pending j)
 
@@ -132,9 +132,13 @@ pub record ThinsLeft (y z : Story) (u v : Truth) : Type 0 where
   pub low : (t : Stream) (from to e k d : ℕ) (i : Entry) (w : Write) → In (Stores from to e k d i) (line y.scene t).letters → k < v.passed t
       → In w i.writes → w.ver ≤ (left z w.obj).ver
 
+pub lives-above : (z : Story) (v : Truth) (t : Stream) (k : ℕ) → Lives z v t k → v.passed t ≤ k
+unfolding IsAlive
+lives-above z v t k alive = alive.0
+
 pub thins-clean : (y z : Story) (u v : Truth) (x : ℕ) → Thins y z u v → IsClean y u x → IsClean z v x
 unfolding IsClean
-thins-clean y z u v x s clean t k alive m = clean t k ((s.lines t).alive k alive) (rw (← s.entry t k alive) m)
+thins-clean y z u v x s clean t k alive m = clean t k ((s.lines t).alive k alive) (rw (← s.entry t k (lives-above z v t k alive)) m)
 
 pub thins-entered : (y z : Story) (u v : Truth) → Faithful y u → Thins y z u v → ThinsLeft y z u v → IsEntered z v
 thins-entered y z u v f s l =
@@ -143,14 +147,14 @@ thins-entered y z u v f s l =
           let w = s.was t.node t.slot i inside in
           ap (λ (vs : List (List ℕ)). has t.node (nth [] vs 0)) s.views ∙ f.entered.home t w.0 w.1;
       owner = λ t k x alive m.
-          f.entered.owner t k x ((s.lines t).alive k alive) (rw (← s.entry t k alive) m) ∙ ap (λ (p : Place). p.owner) (sym (s.objects.place x));
+          f.entered.owner t k x ((s.lines t).alive k alive) (rw (← s.entry t k (lives-above z v t k alive)) m) ∙ ap (λ (p : Place). p.owner) (sym (s.objects.place x));
       followed = λ t k g w alive i h.
-          let e : pending_at z t k ≡ pending_at y t k = s.entry t k alive in
+          let e : pending_at z t k ≡ pending_at y t k = s.entry t k (lives-above z v t k alive) in
           let before = f.entered.followed t k g w ((s.lines t).alive k alive) (rw (← e) i) (ap (λ (p : Place). has g p.replicas) (sym (s.objects.place w.obj)) ∙ h) in
           elim before [ | inl follows ↦ inl (ap (λ (p : Pending). has g p.followers) e ∙ follows) | inr own ↦ inr own ];
       serial = λ t k alive.
           let old_alive : Lives y u t k = (s.lines t).alive k alive in
-          IsRun-agree y z u v t k (s.entry t k alive) s.txs
+          IsRun-agree y z u v t k (s.entry t k (lives-above z v t k alive)) s.txs
           (λ x m. l.found t k x alive (rw (lives-named y u f t k old_alive) m)) (f.entered.serial t k old_alive);
       apart = λ n a b i j x ne one two m g.
           let p = s.was n a i one in
