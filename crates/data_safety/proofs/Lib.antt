@@ -8,3 +8,4 @@ pub mod PassValidated
 pub mod PassThins
 pub mod PassCopies
 pub mod PassLeft
+pub mod PassBooked

@@ -124,6 +124,9 @@ pub record Thins (y z : Story) (u v : Truth) : Type 0 where
   pub entry : (t : Stream) (k : ℕ) → v.passed t ≤ k → pending_at z t k ≡ pending_at y t k
   pub was : (n s i : ℕ) → i < length (slot (z.scene.node n) s).pending
       → (j : ℕ) × (j < length (slot (y.scene.node n) s).pending) × (nth no_pending (slot (z.scene.node n) s).pending i ≡ nth no_pending (slot (y.scene.node n) s).pending j)
+      × ((slot (z.scene.node n) s).done + i ≡ (slot (y.scene.node n) s).done + j)
+  pub current : (n s : ℕ) → (slot (z.scene.node n) s).current ≡ (slot (y.scene.node n) s).current
+  pub ends : (t : Stream) → end (line z.scene t) ≡ end (line y.scene t)
 
 -- what such a move owes for the contents
 pub record ThinsLeft (y z : Story) (u v : Truth) : Type 0 where
