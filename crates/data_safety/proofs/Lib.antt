@@ -9,3 +9,4 @@ pub mod PassThins
 pub mod PassCopies
 pub mod PassLeft
 pub mod PassBooked
+pub mod PassMoves
