@@ -10,3 +10,4 @@ pub mod PassCopies
 pub mod PassLeft
 pub mod PassBooked
 pub mod PassMoves
+pub mod PassOwn
