@@ -11,3 +11,4 @@ pub mod PassLeft
 pub mod PassBooked
 pub mod PassMoves
 pub mod PassOwn
+pub mod PassLogs
