@@ -12,3 +12,5 @@ pub mod PassBooked
 pub mod PassMoves
 pub mod PassOwn
 pub mod PassLogs
+pub mod PassKept
+pub mod Raise
