@@ -100,7 +100,7 @@ module _ (y z : Story) (u : Truth) (f : Faithful y u) (n : ℕ) (s : Stream) (ou
     ]
 
     first_thins : Thins y z u (passed_on u s)
-    first_thins = thins-logs y z u (passed_on u s).passed n (pass_kept (y.scene.node n) s 1) f c slots_stay txs first_line
+    first_thins = thins-logs y z u (passed_on u s).passed n (pass_kept (y.scene.node n) s 1) f c slots_stay txs (λ t. (first_line t).goes)
 
     alive : Lives y u s (log (y.scene.node n) s).done
     alive = kept-lives y u f s n (log (y.scene.node n) s).done c.live has_first (omega (arith, first))
@@ -143,7 +143,7 @@ module _ (y z : Story) (u : Truth) (f : Faithful y u) (n : ℕ) (s : Stream) (ou
           done_kept = λ is. ap (λ (l : Slot). l.done) (slots s.node s.slot);
           unacked = unacked;
         } in
-        pass-first y z u (passed_on u s) f steady_after first_thins n k id s false
+        pass-first y z u (passed_on u s) f steady_after first_thins first_line n k id s false
         (subst (λ (ws : List Write). Revalidates y z n ws) same_writes revalidates) point alive stored
         (running.home-has y u f s k (omega (arith, first)) (kept-committed (line y.scene s) (u.passed s) n k (f.replicated s) has_first))
 
@@ -165,7 +165,7 @@ module _ (y z : Story) (u : Truth) (f : Faithful y u) (n : ℕ) (s : Stream) (ou
         let e = f.booked.entry s k (kept-committed (line y.scene s) (u.passed s) n k (f.replicated s) has_first) in
         let pointed = some_from (record_of y.book e.0).point ((f.booked.passed e.0 record { stream = s; number = k } e.1).1 later) in
         let same : z.book ≡ y.book = pass_tx-again y.book z.book (tx_of y.book s k) e.0 pointed.0 (tx_of-found y.book s k e.0 f.booked.one_entry e.1) pointed.1 book in
-        pass-again y z u u f steady_after (thins-logs y z u u.passed n (pass_kept (y.scene.node n) s 1) f c slots_stay txs again_line)
+        pass-again y z u u f steady_after (thins-logs y z u u.passed n (pass_kept (y.scene.node n) s 1) f c slots_stay txs (λ t. (again_line t).goes)) again_line
         n (kept_at (line y.scene s) n k).writes revalidates (λ w i. kept-low y u s n k w f has_first away later i) same (λ t. refl)
         (λ m r. ap (λ (l : Slot). l.done) (kept-slots y.scene z.scene n m r (pass_kept (y.scene.node n) s 1) c slots_stay))
       where

@@ -21,7 +21,7 @@ use Rattle.invariants.proofs.ObjectSeen.{same_or_not}
 use Rattle.data_safety.specs.Story.{Story, Truth, pending_at}
 use Rattle.data_safety.specs.Faithful.{Faithful, left}
 use Rattle.data_safety.proofs.Consequences.{home-end}
-use Rattle.data_safety.proofs.PassThins.{Thins, ThinLine, still-objects}
+use Rattle.data_safety.proofs.PassThins.{Thins, LineGoes, still-objects}
 
 -- a change of a node that leaves its slots and placements
 pub record KeepsSlots (before after : Node) : Type 0 where
@@ -59,7 +59,7 @@ kept-end old new n after t c k =
     home-end new t ∙ ap (λ (l : Slot). l.done + length l.pending) (kept-slots old new n t.node t.slot after c k) ∙ sym (home-end old t)
 
 pub thins-logs : (y z : Story) (u : Truth) (passed : Stream → ℕ) (n : ℕ) (after : Node) → Faithful y u → Changes y.scene z.scene n after nothing → KeepsSlots (y.scene.node n) after
-    → z.txs ≡ y.txs → ((t : Stream) → ThinLine (line y.scene t) (line z.scene t) (u.passed t) (passed t)) → Thins y z u record { chain = u.chain; passed = passed }
+    → z.txs ≡ y.txs → ((t : Stream) → LineGoes (line y.scene t) (line z.scene t) (u.passed t) (passed t)) → Thins y z u record { chain = u.chain; passed = passed }
 thins-logs y z u passed n after f c k txs lines = record {
   config = c.config;
   views = c.views;

@@ -84,6 +84,6 @@ module _ (y z : Story) (u : Truth) (f : Faithful y u) (n d : ℕ) (s : Stream) (
   keeps_raise book =
       let k : KeepsSlots (y.scene.node n) (raise (y.scene.node n) s d) = raise-keeps (y.scene.node n) s d above in
       pass-again y z u u f (move_keep y.scene z.scene (raises n d s l foreign r is above c) f.steady)
-      (thins-logs y z u u.passed n (raise (y.scene.node n) s d) f c k txs thin_line)
+      (thins-logs y z u u.passed n (raise (y.scene.node n) s d) f c k txs (λ t. (thin_line t).goes)) thin_line
       n (writes_of (take (d - (log (y.scene.node n) s).done) (log (y.scene.node n) s).kept)) revalidates low book (λ t. refl)
       (λ m q. ap (λ (b : Slot). b.done) (kept-slots y.scene z.scene n m q (raise (y.scene.node n) s d) c k))
