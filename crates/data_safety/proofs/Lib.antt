@@ -14,3 +14,4 @@ pub mod PassOwn
 pub mod PassLogs
 pub mod PassKept
 pub mod Raise
+pub mod StoreApplied
