@@ -15,3 +15,4 @@ pub mod PassLogs
 pub mod PassKept
 pub mod Raise
 pub mod StoreApplied
+pub mod Store
