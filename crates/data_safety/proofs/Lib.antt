@@ -16,3 +16,5 @@ pub mod PassKept
 pub mod Raise
 pub mod StoreApplied
 pub mod Store
+pub mod CommitCauses
+pub mod CommitRewritten
