@@ -18,3 +18,4 @@ pub mod StoreApplied
 pub mod Store
 pub mod CommitCauses
 pub mod CommitRewritten
+pub mod CommitSlots
