@@ -19,3 +19,4 @@ pub mod Store
 pub mod CommitCauses
 pub mod CommitRewritten
 pub mod CommitSlots
+pub mod CommitBooked
