@@ -20,3 +20,4 @@ pub mod CommitCauses
 pub mod CommitRewritten
 pub mod CommitSlots
 pub mod CommitBooked
+pub mod CommitFound
