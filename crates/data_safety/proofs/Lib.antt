@@ -21,3 +21,4 @@ pub mod CommitRewritten
 pub mod CommitSlots
 pub mod CommitBooked
 pub mod CommitFound
+pub mod CommitLines
