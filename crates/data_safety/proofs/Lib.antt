@@ -22,3 +22,4 @@ pub mod CommitSlots
 pub mod CommitBooked
 pub mod CommitFound
 pub mod CommitLines
+pub mod Commit
