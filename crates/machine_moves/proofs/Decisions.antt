@@ -104,9 +104,9 @@ takes_ack s n from k x p c ready got below none =
     then_reaches s n after (decide x after).node [] (take k (decide x after).sent) ready
     (quiet_reaches s n after ready.live (Keeps-with_gather m x (Some g)) (λ ch. gathers n x from p c got.letter got.is got.by got.at below none ch))
     (λ t rt b.
-      subst (λ (y : Node). gather y x ≡ Some g → is_below (entry y x).stamp g.proposal.stamp ≡ true → Reached t n k (decide x y)) b.node
-      (λ is higher. decide-reached t n k x g rt is higher)
-      (nth-put_same None m.gathers x (Some g)) above)
+    subst (λ (y : Node). gather y x ≡ Some g → is_below (entry y x).stamp g.proposal.stamp ≡ true → Reached t n k (decide x y)) b.node
+    (λ is higher. decide-reached t n k x g rt is higher)
+    (nth-put_same None m.gathers x (Some g)) above)
 
 gather_or_older-answered : (older : Option Stamp) (s : Scene) (n from k x : ℕ) (p : Proposal) (c : Option Content) → IsReady s n → Received s n from (OAck x p c) → is_below (entry (s.node n) x).stamp p.stamp ≡ true → greater_gather p.stamp (gather (s.node n) x) ≡ older → Answered s n k (gather_or_older (s.node n) from x p c older)
 unfolding gather_or_older
@@ -126,9 +126,9 @@ oack_on_base-answered (Some m) s n from k x p c ready got r =
     let first = r.reaches in
     then_reaches s n m _ [] _ ready first
     (λ t rt b.
-      subst (λ (y : Node). is_below (entry y x).stamp p.stamp ≡ true → Answered t n k (collect_or_refuse y from x p c (collect_cause y x p))) b.node
-      (λ below. collect_or_refuse-answered (collect_cause (t.node n) x p) t n from k x p c rt (received_after s t n from (OAck x p c) m [] got b (let keeps = first.keeps in rw (b.node) keeps)) below)
-      r.below)
+    subst (λ (y : Node). is_below (entry y x).stamp p.stamp ≡ true → Answered t n k (collect_or_refuse y from x p c (collect_cause y x p))) b.node
+    (λ below. collect_or_refuse-answered (collect_cause (t.node n) x p) t n from k x p c rt (received_after s t n from (OAck x p c) m [] got b (let keeps = first.keeps in rw (b.node) keeps)) below)
+    r.below)
 
 settling_acknowledgement : (l : Letter) (x : ℕ) (p : Proposal) (c : Option Content) → l.body ≡ OAck x p c → IsSettling x p.base p.base_place l
 settling_acknowledgement l x p c is =
@@ -160,9 +160,9 @@ on_oval-answered s n from k x stamp place ready got =
     let higher : Did Outcome = if takes_over m x place then refused else taken in
     cond_both (is_below (entry m x).stamp stamp) higher (just m Again) (λ (d : Did Outcome). Answered s n k d)
     (λ below. cond_both (takes_over m x place) refused taken (λ (d : Did Outcome). Answered s n k d)
-      (λ _. cut_none s n m k (still_reaches s n))
-      (λ _. cut_none s n (settle m x stamp place) k
-        (quiet_reaches s n (settle m x stamp place) ready.live (Keeps-settle m x stamp place) (λ ch. settles n x stamp place got.letter got.at (settling_decision got.letter x stamp place got.is) below ch))))
+    (λ _. cut_none s n m k (still_reaches s n))
+    (λ _. cut_none s n (settle m x stamp place) k
+    (quiet_reaches s n (settle m x stamp place) ready.live (Keeps-settle m x stamp place) (λ ch. settles n x stamp place got.letter got.at (settling_decision got.letter x stamp place got.is) below ch))))
     (λ _. cut_none s n m k (still_reaches s n))
 
 -- ---- a node has reported

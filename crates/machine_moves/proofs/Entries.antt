@@ -107,10 +107,10 @@ stored_rinv-answered s n from k r ready got foreign done =
     cond_both (nat_lt r.number next) (sends m Again say) gap (λ (d : Did Outcome). Answered s n k d)
     (λ less. again_stored s n from k r ready foreign (ltb-true r.number next less))
     (λ not_less. cond_both (nat_lt next r.number) (just m (Gap next)) room (λ (d : Did Outcome). Answered s n k d)
-      (λ _. cut_none s n m k (still_reaches s n))
-      (λ not_more. cond_both (length (log m r.stream).kept == 16) window store_it (λ (d : Did Outcome). Answered s n k d)
-        (λ _. cut_none s n m k (still_reaches s n))
-        (λ roomy. stores_entry s n from k r ready got foreign done (omega (arith, ltb-false r.number next not_less, ltb-false next r.number not_more)) (eqb-false (length (log m r.stream).kept) 16 roomy))))
+    (λ _. cut_none s n m k (still_reaches s n))
+    (λ not_more. cond_both (length (log m r.stream).kept == 16) window store_it (λ (d : Did Outcome). Answered s n k d)
+    (λ _. cut_none s n m k (still_reaches s n))
+    (λ roomy. stores_entry s n from k r ready got foreign done (omega (arith, ltb-false r.number next not_less, ltb-false next r.number not_more)) (eqb-false (length (log m r.stream).kept) 16 roomy))))
 
 pub on_rinv-answered : (s : Scene) (n from k : ℕ) (r : Invalidation) → IsReady s n → Received s n from (RInv r) → Answered s n k (on_rinv (s.node n) from r)
 unfolding on_rinv
@@ -121,13 +121,13 @@ on_rinv-answered s n from k r ready got =
     cond_both (r.stream.node == m.me) (just m (Refused OwnStream)) (stored_rinv after from r) (λ (d : Did Outcome). Answered s n k d)
     (λ _. cut_none s n m k (still_reaches s n))
     (λ other.
-      let foreign : r.stream.node ≢ n = rw (me.me) at (eqb-false r.stream.node m.me other) in
-      let first = raised s n r.stream r.done got.letter ready foreign got.at (raising_entry got.letter r got.is) in
-      then_reaches s n after _ [] _ ready first
-      (λ t rt b.
-        subst (λ (x : Node). r.done ≤ (log x r.stream).done → Answered t n k (stored_rinv x from r)) b.node
-        (stored_rinv-answered t n from k r rt (received_after s t n from (RInv r) after [] got b (let keeps = first.keeps in rw (b.node) keeps)) foreign)
-        (raise-done m r.stream r.done)))
+    let foreign : r.stream.node ≢ n = rw (me.me) at (eqb-false r.stream.node m.me other) in
+    let first = raised s n r.stream r.done got.letter ready foreign got.at (raising_entry got.letter r got.is) in
+    then_reaches s n after _ [] _ ready first
+    (λ t rt b.
+    subst (λ (x : Node). r.done ≤ (log x r.stream).done → Answered t n k (stored_rinv x from r)) b.node
+    (stored_rinv-answered t n from k r rt (received_after s t n from (RInv r) after [] got b (let keeps = first.keeps in rw (b.node) keeps)) foreign)
+    (raise-done m r.stream r.done)))
 
 -- ---- an acknowledgement
 
@@ -149,10 +149,10 @@ on_own_rack-answered s n from k i number ready got =
     let fresh = not (has from (nth no_pending l.pending place).acks) in
     cond_both (is_within number l.done (length l.pending) && fresh) (just after Taken) (just m Again) (λ (d : Did Outcome). Answered s n k d)
     (λ h.
-      let within = within-parts number l.done (length l.pending) (and_parts (is_within number l.done (length l.pending)) fresh h).0 in
-      cut_none s n after k
-      (quiet_reaches s n after ready.live (Keeps-with_slot m i _)
-      (λ ch. notes_own n i place from got.letter got.at got.by (got.is ∙ ap (λ (j : ℕ). RAck record { node = n; slot = i } j) within.0) within.1 ch)))
+    let within = within-parts number l.done (length l.pending) (and_parts (is_within number l.done (length l.pending)) fresh h).0 in
+    cut_none s n after k
+    (quiet_reaches s n after ready.live (Keeps-with_slot m i _)
+    (λ ch. notes_own n i place from got.letter got.at got.by (got.is ∙ ap (λ (j : ℕ). RAck record { node = n; slot = i } j) within.0) within.1 ch)))
     (λ _. cut_none s n m k (still_reaches s n))
 
 on_kept_rack-answered : (s : Scene) (n from k : ℕ) (t : Stream) (number : ℕ) → IsReady s n → t.node ≢ n → Received s n from (RAck t number) → Answered s n k (on_kept_rack (s.node n) from t number)
@@ -165,10 +165,10 @@ on_kept_rack-answered s n from k t number ready foreign got =
     let fresh = not (has from (nth no_kept l.kept place).acks) in
     cond_both (is_within number l.done (length l.kept) && fresh) (just after Taken) (just m Again) (λ (d : Did Outcome). Answered s n k d)
     (λ h.
-      let within = within-parts number l.done (length l.kept) (and_parts (is_within number l.done (length l.kept)) fresh h).0 in
-      cut_none s n after k
-      (quiet_reaches s n after ready.live (Keeps-with_log m t _)
-      (λ ch. notes_kept n place from t got.letter foreign got.at got.by (got.is ∙ ap (λ (j : ℕ). RAck t j) within.0) within.1 ch)))
+    let within = within-parts number l.done (length l.kept) (and_parts (is_within number l.done (length l.kept)) fresh h).0 in
+    cut_none s n after k
+    (quiet_reaches s n after ready.live (Keeps-with_log m t _)
+    (λ ch. notes_kept n place from t got.letter foreign got.at got.by (got.is ∙ ap (λ (j : ℕ). RAck t j) within.0) within.1 ch)))
     (λ _. cut_none s n m k (still_reaches s n))
 
 received_as : (s : Scene) (n from : ℕ) (a b : Body) → a ≡ b → Received s n from a → Received s n from b
@@ -181,8 +181,8 @@ on_rack-answered s n from k t number ready got =
     let me = known s n ready in
     cond_both (t.node == m.me) (on_own_rack m from t.slot number) (on_kept_rack m from t number) (λ (d : Did Outcome). Answered s n k d)
     (λ same.
-      let own : t.node ≡ n = eqb-true t.node m.me same ∙ me.me in
-      on_own_rack-answered s n from k t.slot number ready (received_as s n from (RAck t number) (RAck record { node = n; slot = t.slot } number) (λ j. RAck record { node = own j; slot = t.slot } number) got))
+    let own : t.node ≡ n = eqb-true t.node m.me same ∙ me.me in
+    on_own_rack-answered s n from k t.slot number ready (received_as s n from (RAck t number) (RAck record { node = n; slot = t.slot } number) (λ j. RAck record { node = own j; slot = t.slot } number) got))
     (λ other. on_kept_rack-answered s n from k t number ready (rw (me.me) at (eqb-false t.node m.me other)) got)
 
 -- ---- the word that entries have passed
@@ -196,5 +196,5 @@ on_rval-answered s n from k t d ready got =
     cond_both (t.node == m.me) (just m (Refused OwnStream)) higher (λ (x : Did Outcome). Answered s n k x)
     (λ _. cut_none s n m k (still_reaches s n))
     (λ other. cond_both (nat_lt (log m t).done d) (just (raise m t d) Taken) (just m Again) (λ (x : Did Outcome). Answered s n k x)
-      (λ _. cut_none s n (raise m t d) k (raised s n t d got.letter ready (rw (me.me) at (eqb-false t.node m.me other)) got.at (raising_word got.letter t d got.is)))
-      (λ _. cut_none s n m k (still_reaches s n)))
+    (λ _. cut_none s n (raise m t d) k (raised s n t d got.letter ready (rw (me.me) at (eqb-false t.node m.me other)) got.at (raising_word got.letter t d got.is)))
+    (λ _. cut_none s n m k (still_reaches s n)))

@@ -78,8 +78,8 @@ streams_outside-In members slots i (suc c) t out slot le less =
     elim (cases_eq t.node i) [
       | inl same ↦ outside-from (has i members) a b t (inl (λ _. rw (← same) (streams_of-In t.node 0 slots t.slot (omega arith) (omega arith)))) (λ some. let none : has i members ≡ false = rw same at out in absurd cc)
       | inr other ↦
-        let rest = streams_outside-In members slots (suc i) c t out slot (omega arith) (omega arith) in
-        outside-from (has i members) a b t (inr rest) (λ _. rest)
+          let rest = streams_outside-In members slots (suc i) c t out slot (omega arith) (omega arith) in
+          outside-from (has i members) a b t (inr rest) (λ _. rest)
     ]
 
 length-none : {A : Type 0} (xs : List A) → length xs ≡ 0 → xs ≡ []
@@ -129,6 +129,6 @@ finish-reached s n k ready =
     let m = s.node n in
     act_then s n k (in_turn advance_own m (below (length m.slots))) (λ x. and_then (in_turn advance_kept x (outside x)) report) ready (own_in_turn (below (length m.slots)) s n k ready)
     (λ t j rt _.
-      act_then t n j (in_turn advance_kept (t.node n) (outside (t.node n))) report rt
-      (kept_in_turn (outside (t.node n)) t n j rt (λ u i. let x = t.node n in streams_outside-node x.members (below (length x.slots)) (below (length x.logs)) u i))
-      (λ u i ru _. report-reached u n i ru))
+    act_then t n j (in_turn advance_kept (t.node n) (outside (t.node n))) report rt
+    (kept_in_turn (outside (t.node n)) t n j rt (λ u i. let x = t.node n in streams_outside-node x.members (below (length x.slots)) (below (length x.logs)) u i))
+    (λ u i ru _. report-reached u n i ru))

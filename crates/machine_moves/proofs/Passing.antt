@@ -129,8 +129,8 @@ own_passes (suc c) s n i ready h =
     let m = s.node n in
     then_reaches s n (pass_own m i 1) (pass_own m i (suc (suc c))) [] [] ready (own_pass s n i ready (omega arith))
     (λ t rt b.
-      rw (← pass_own-more m i (suc c))
-      (subst (λ (x : Node). suc c ≤ front (passes x) (own_kept x i) → Reaches t n (pass_own x i (suc c)) []) b.node (own_passes c t n i rt) (own_front m i c h)))
+    rw (← pass_own-more m i (suc c))
+    (subst (λ (x : Node). suc c ≤ front (passes x) (own_kept x i) → Reaches t n (pass_own x i (suc c)) []) b.node (own_passes c t n i rt) (own_front m i c h)))
 
 length-take_most : {A : Type 0} (k : ℕ) (xs : List A) → length (take k xs) ≤ k
 length-take_most zero xs = omega arith
@@ -190,7 +190,7 @@ pass_kept_of m t l k =
     }
 
 logs-put : (logs : List (List StreamLog)) (node slot : ℕ) (a b : StreamLog) → put [] (put [] logs node (put no_log (nth [] logs node) slot a)) node (put no_log (nth [] (put [] logs node (put no_log (nth [] logs node) slot a)) node) slot b) ≡ put [] logs node (put no_log (nth [] logs node) slot b)
-logs-put logs node slot a b = rw (nth-put_same [] logs node (put no_log (nth [] logs node) slot a), put-put, put-put) refl
+logs-put logs node slot a b = rw (nth-put_same [] logs node (put no_log (nth [] logs node) slot a), put-put no_log (nth [] logs node) slot a b, put-put) refl
 
 log-more : (l : StreamLog) (k : ℕ) → ◌≡◌ {A = StreamLog} (record { done = l.done + 1 + k; kept = drop k (drop 1 l.kept) }) (record { done = l.done + suc k; kept = drop (suc k) l.kept })
 log-more l k = let sum : l.done + 1 + k ≡ l.done + suc k = omega arith in rw (sum, drop-more k l.kept) refl
@@ -234,8 +234,8 @@ kept_passes (suc c) s n t ready out h =
     let m = s.node n in
     then_reaches s n (pass_kept m t 1) (pass_kept m t (suc (suc c))) [] [] ready (kept_pass s n t ready out (omega arith))
     (λ u ru b.
-      rw (← pass_kept-more m t (suc c))
-      (subst (λ (x : Node). has t.node x.members ≡ false → suc c ≤ front (passes x) (log x t).kept → Reaches u n (pass_kept x t (suc c)) []) b.node (kept_passes c u n t ru) out (kept_front m t c h)))
+    rw (← pass_kept-more m t (suc c))
+    (subst (λ (x : Node). has t.node x.members ≡ false → suc c ≤ front (passes x) (log x t).kept → Reaches u n (pass_kept x t (suc c)) []) b.node (kept_passes c u n t ru) out (kept_front m t c h)))
 
 kept_telling : (m : Node) (t : Stream) (k : ℕ) → has t.node m.members ≡ false → t.node ≢ m.me → (l : Letter) → In l (told (pass_kept m t k) t (log m t).done (take k (log m t).kept)).sent → IsTellable (pass_kept m t k) l
 kept_telling m t k out foreign =

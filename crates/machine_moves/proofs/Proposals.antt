@@ -80,7 +80,7 @@ drives_request s n from k x want ready got opened few room none =
     let sent = take k (invalidations m x p ++ acknowledgement m from x p ∷ []) in
     let b = Became-changed s n (holding m x p) sent in
     let small : length (invalidations m x p) < k =
-        omega (arith, length-to_each m (without m.me (arbiters p.base_place m.members m.directory)) (OInv x p), arbiters-length m.me p.base_place m.members m.directory) in
+    omega (arith, length-to_each m (without m.me (arbiters p.base_place m.members m.directory)) (OInv x p), arbiters-length m.me p.base_place m.members m.directory) in
     let about = proposal_about m x from p (λ _. refl) may.ready in
     move_reaches s n (holding m x p) sent (Keeps-holding m x p)
     (drives n x from want record {
@@ -214,9 +214,9 @@ oinv_on_base-answered (Some m) s n from k x p ready got opened room r =
     let first = r.reaches in
     then_reaches s n m _ [] _ ready first
     (λ t rt b.
-      subst (λ (y : Node). is_open y ≡ true → is_below (entry y x).stamp p.base ≡ false → is_below (entry y x).stamp p.stamp ≡ true → Answered t n k (hold_or_refuse y from x p (hold_cause y x p))) b.node
-      (λ o nb be. hold_or_refuse-answered (hold_cause (t.node n) x p) t n from k x p rt (received_after s t n from (OInv x p) m [] got b (let keeps = first.keeps in rw (b.node) keeps)) o room nb be refl)
-      (r.opened ∙ opened) r.not_below r.below)
+    subst (λ (y : Node). is_open y ≡ true → is_below (entry y x).stamp p.base ≡ false → is_below (entry y x).stamp p.stamp ≡ true → Answered t n k (hold_or_refuse y from x p (hold_cause y x p))) b.node
+    (λ o nb be. hold_or_refuse-answered (hold_cause (t.node n) x p) t n from k x p rt (received_after s t n from (OInv x p) m [] got b (let keeps = first.keeps in rw (b.node) keeps)) o room nb be refl)
+    (r.opened ∙ opened) r.not_below r.below)
 
 pub on_oinv-answered : (s : Scene) (n from k x : ℕ) (p : Proposal) → IsReady s n → Received s n from (OInv x p) → is_open (s.node n) ≡ true → 10 ≤ k → Answered s n k (on_oinv (s.node n) from x p)
 unfolding on_oinv

@@ -78,9 +78,9 @@ start_live c txs n live =
     elim (cases_lt n c.nodes) [
       | inl less ↦ rw (nth-map_numbers no_node (start_node c) 0 c.nodes n less) (let at : 0 + n ≡ n = omega arith in rw at (start_known c n less))
       | inr past ↦
-        let none : nth no_node (map (start_node c) (below c.nodes)) n ≡ no_node = nth-past no_node (map (start_node c) (below c.nodes)) n (omega (arith, length-map_numbers (start_node c) 0 c.nodes)) in
-        let stopped : (nth no_node (map (start_node c) (below c.nodes)) n).stopped ≡ true = rw none refl in
-        absurd cc
+          let none : nth no_node (map (start_node c) (below c.nodes)) n ≡ no_node = nth-past no_node (map (start_node c) (below c.nodes)) n (omega (arith, length-map_numbers (start_node c) 0 c.nodes)) in
+          let stopped : (nth no_node (map (start_node c) (below c.nodes)) n).stopped ≡ true = rw none refl in
+          absurd cc
     ]
 
 -- ---- no letter was sent

@@ -240,8 +240,8 @@ view_keep : (old new : Scene) (set : List ℕ) → NewView old new set → IsSte
 view_keep old new set v h =
     record {
       nodes = λ k live.
-        let was : IsLive old k = rw (v.nodes k) at live in
-        moved old.config new.config (old.views ++ set ∷ []) new.views k (old.node k) (new.node k) v.config v.views (v.nodes k) (known_viewed old.config old.views set k (old.node k) (v.live k was) (h.nodes k was));
+          let was : IsLive old k = rw (v.nodes k) at live in
+          moved old.config new.config (old.views ++ set ∷ []) new.views k (old.node k) (new.node k) v.config v.views (v.nodes k) (known_viewed old.config old.views set k (old.node k) (v.live k was) (h.nodes k was));
       letters = λ l m. elim (v.sends.only l m) [
         | inl older ↦ fair_moved old.config new.config (old.views ++ set ∷ []) new.views l v.config v.views (fair_viewed old.config old.views set l (h.letters l older))
         | inr newer ↦ absurd newer

@@ -166,8 +166,8 @@ install_moves s t n e steady le =
     cond_both m.stopped (just m InstallStopped) later (λ (d : Did Installing). Became s t n d.node (take 64 d.sent) → Moves s t)
     (λ _ b. Moves-reaches s t n m [] (still_reaches s n) b)
     (λ live. cond_both (nat_lt m.epoch e) installed (just m (Old m.epoch)) (λ (d : Did Installing). Became s t n d.node (take 64 d.sent) → Moves s t)
-      (λ less b. installs_moves s t n e steady live (ltb-true m.epoch e less) le b)
-      (λ _ b. Moves-reaches s t n m [] (still_reaches s n) b))
+    (λ less b. installs_moves s t n e steady live (ltb-true m.epoch e less) le b)
+    (λ _ b. Moves-reaches s t n m [] (still_reaches s n) b))
 
 installed_step : (w : World) (n e : ℕ) → IsUsual w → e ≤ length w.views → IsStep w (installed_at w n (install (node w n) record { epoch = e; members = nth [] w.views (e - 1) })).world
 unfolding installed_at scene
@@ -222,7 +222,7 @@ makes_view-move w set u rising h =
     let second = or_else-none _ _ first.1 in
     let steady = u.steady in
     let members : (k : ℕ) → has k set ≡ true → has k (nth [] w.views (length w.views - 1)) ≡ true = λ k is.
-      rw (last_view-nth w.views) at (not-false (has k (last_view w.views)) (where_true-none _ _ (first_of-none _ set k second.0 is))) in
+    rw (last_view-nth w.views) at (not-false (has k (last_view w.views)) (where_true-none _ _ (first_of-none _ set k second.0 is))) in
     makes_view set record {
       config = refl;
       views = refl;
@@ -231,10 +231,10 @@ makes_view-move w set u rising h =
       rising = rising;
       subset = is_subset-from_members set (nth [] w.views (length w.views - 1)) members;
       live = λ n live.
-        let k = steady.nodes n live in
-        let last : has n (nth [] w.views (length w.views - 1)) ≡ true = k.everywhere (length w.views) (omega (arith, k.first, k.made)) (omega arith) in
-        let asked : has n (last_view w.views) ≡ true = rw (last_view-nth w.views) last in
-        kept_live (has n set) (node w n).stopped live (where_true-none _ _ (first_of-none _ (last_view w.views) n second.1 asked));
+          let k = steady.nodes n live in
+          let last : has n (nth [] w.views (length w.views - 1)) ≡ true = k.everywhere (length w.views) (omega (arith, k.first, k.made)) (omega arith) in
+          let asked : has n (last_view w.views) ≡ true = rw (last_view-nth w.views) last in
+          kept_live (has n set) (node w n).stopped live (where_true-none _ _ (first_of-none _ (last_view w.views) n second.1 asked));
     }
 
 view_or_not-step : (refused : Option Made) (w : World) (set : List ℕ) → IsUsual w → IsRising set → view_refused w set ≡ refused → IsStep w (view_or_not w set refused).world

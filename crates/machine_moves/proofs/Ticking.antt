@@ -133,8 +133,8 @@ requests_again (Some c) m l i =
     let own = requests m Own (not_owned m (named c.tx)) in
     let copies = requests m Read (not_copied m (named c.tx)) in
     (cond_both (is_write c.tx) own (if is_some m.degree then copies else []) (λ (ls : List Letter). In l ls → IsTellable m l)
-      (λ _. requests_telling m Own (not_owned m (named c.tx)) l)
-      (λ _ j. requests_telling m Read (not_copied m (named c.tx)) l (In-where (is_some m.degree) l copies j).1)) i
+    (λ _. requests_telling m Own (not_owned m (named c.tx)) l)
+    (λ _ j. requests_telling m Read (not_copied m (named c.tx)) l (In-where (is_some m.degree) l copies j).1)) i
 
 done_again : (m : Node) (i : ℕ) (l : Letter) → In l (repeat_done m i) → IsTellable m l
 unfolding repeat_done
@@ -164,8 +164,8 @@ own_acknowledgement_about m x p l i =
     let to = collector m p m.me in
     let say : List Letter = acknowledgement m to x p ∷ [] in
     (cond_both (is_source m p.base_place && is_some (unready_cause m x)) [] say (λ (ls : List Letter). In l ls → IsAboutProposal m x p l)
-      (λ _ j. elim j [ ])
-      (λ h. acknowledgement_about m x to p (collector-requester m p m.me) (ready_where (is_source m p.base_place) (unready_cause m x) h) l)) i
+    (λ _ j. elim j [ ])
+    (λ h. acknowledgement_about m x to p (collector-requester m p m.me) (ready_where (is_source m p.base_place) (unready_cause m x) h) l)) i
 
 redrive_at : (s : Scene) (n k x : ℕ) (p : Proposal) → IsReady s n → (entry (s.node n) x).proposal ≡ Some p → is_open (s.node n) ≡ true → Reaches s n (s.node n) (take k (repeat_proposal (s.node n) x (Some p)))
 unfolding repeat_proposal
@@ -180,8 +180,8 @@ redrive_at s n k x p ready held opened =
     cond_both (is_none (source p.base_place m.members)) [] all (λ (ls : List Letter). Reaches s n m (take k ls))
     (λ _. cut_none s n m k (still_reaches s n))
     (λ some. move_reaches s n m sent (Keeps-refl m)
-      (redrives n x p held opened (is_none-false (source p.base_place m.members) some)
-      (Changes-became s (changed s n m sent) n m sent (IsAboutProposal m x p) ready.live (Became-changed s n m sent) (λ l i. about l (In-take l k all i)))))
+    (redrives n x p held opened (is_none-false (source p.base_place m.members) some)
+    (Changes-became s (changed s n m sent) n m sent (IsAboutProposal m x p) ready.live (Became-changed s n m sent) (λ l i. about l (In-take l k all i)))))
 
 redrive_or_not : (held : Option Proposal) (n : ℕ) (m : Node) (x : ℕ) → (entry m x).proposal ≡ held → is_open m ≡ true → Speaks n m (repeat_proposal m x held)
 unfolding repeat_proposal
@@ -189,7 +189,7 @@ redrive_or_not None n m x is opened = Speaks-nothing n m
 redrive_or_not (Some p) n m x is opened =
     record {
       on = λ s k ready at.
-        (subst (λ (y : Node). (entry y x).proposal ≡ Some p → is_open y ≡ true → Reaches s n y (take k (repeat_proposal y x (Some p)))) at (redrive_at s n k x p ready)) is opened;
+          (subst (λ (y : Node). (entry y x).proposal ≡ Some p → is_open y ≡ true → Reaches s n y (take k (repeat_proposal y x (Some p)))) at (redrive_at s n k x p ready)) is opened;
     }
 
 proposals_again : (n : ℕ) (m : Node) → Speaks n m (repeat_proposals m)

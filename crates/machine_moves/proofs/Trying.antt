@@ -116,9 +116,9 @@ commit_telling m i c ran replicas writes =
     let first : (slot after i).done ≡ (slot m i).done = ap (λ (l : Slot). l.done) (committed-slot m i c ran followers writes) in
     to_each-each (IsTellable after) m (meet followers m.members) (RInv (invalidation m i followers writes))
     (λ to h.
-      let follower : has to followers ≡ true = meet-left to followers m.members h in
-      own_entry_at after to i (length (slot m i).pending) (next_number (slot m i)) (slot m i).done kept (committed-length m i c ran followers writes) (committed-entry m i c ran followers writes) first refl
-      follower (meet-right to followers m.members h) (without-other to m.me replicas follower))
+    let follower : has to followers ≡ true = meet-left to followers m.members h in
+    own_entry_at after to i (length (slot m i).pending) (next_number (slot m i)) (slot m i).done kept (committed-length m i c ran followers writes) (committed-entry m i c ran followers writes) first refl
+    follower (meet-right to followers m.members h) (without-other to m.me replicas follower))
 
 commits_reaches : (s : Scene) (n self i : ℕ) (c : Current) → self ≡ n → IsReady s n → i < s.config.slots → (slot (s.node n) i).current ≡ Some c → write_cause (s.node n) i c.tx ≡ None → Reaches s n (committed (s.node n) i c (run_here (s.node n) c.tx) (without self (replicas_of (s.node n) (new_writes (s.node n) (run_here (s.node n) c.tx).writes))) (new_writes (s.node n) (run_here (s.node n) c.tx).writes)) []
 commits_reaches s n self i c same ready within is none =

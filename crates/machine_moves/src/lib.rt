@@ -1,5 +1,6 @@
 //! Each step of the machine is a sequence of moves: small changes of one node, with what each needs and what it may send.
 #![tactic(auto)]
+
 ghost use Rattle.std.specs.Prelude.{All, List};
 ghost use Rattle.zeus_base.specs.Limits.{KeepsLimits};
 ghost use Rattle.zeus_base.specs.declared.config.Config.{Config};
@@ -15,5 +16,4 @@ ghost use Rattle.machine_moves.specs.Scene.{scene, IsNumbered};
 pub fn steps_are_moves()
     ensures moves { (c : Config) (txs : List TxDecl) (steps : List Step) (s : Step) → KeepsLimits c → All (StepFits c txs) steps → StepFits c txs s → Moves (scene (run (start c txs) steps)) (scene (stepped (run (start c txs) steps) s)) }
     ensures numbered { (c : Config) (txs : List TxDecl) (steps : List Step) → KeepsLimits c → All (StepFits c txs) steps → IsNumbered (scene (run (start c txs) steps)) }
-{
-}
+{}
