@@ -39,6 +39,14 @@ unfolding nth
 nth-last d [] y = refl
 nth-last d (x ∷ xs) y = nth-last d xs y
 
+-- what holds of each element and of the default holds with one more element, of which it holds too
+pub nth-append_each : {A : Type 0} (P : A → Type 0) (d : A) (xs : List A) (y : A) → P d → ((i : ℕ) → P (nth d xs i)) → P y → (i : ℕ) → P (nth d (xs ++ y ∷ []) i)
+unfolding nth
+nth-append_each P d [] y at_d at_xs at_y zero = at_y
+nth-append_each P d [] y at_d at_xs at_y (suc i) = at_d
+nth-append_each P d (x ∷ xs) y at_d at_xs at_y zero = at_xs zero
+nth-append_each P d (x ∷ xs) y at_d at_xs at_y (suc i) = nth-append_each P d xs y at_d (λ j. at_xs (suc j)) at_y i
+
 -- ---- ballots
 
 -- of two ballots of different stamps one is the lesser

@@ -3,3 +3,14 @@ pub mod Arbiters
 pub mod Chain
 pub mod Choice
 pub mod Owner
+pub mod Grows
+pub mod Letters
+pub mod Quiet
+pub mod Speaks
+pub mod KeepsViews
+pub mod KeepsSpeech
+pub mod KeepsGathers
+pub mod KeepsSettled
+pub mod Received
+pub mod Start
+pub mod Reached

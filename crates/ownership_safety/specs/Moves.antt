@@ -139,7 +139,7 @@ pub record Accepts (old new : Object) (n : ℕ) (p : Proposal) : Type 0 where
   pub greatest : (q : Proposal) → (old.entry n).proposal ≡ Some q → is_below p.stamp q.stamp ≡ false
   pub entry : new.entry n ≡ holds (old.entry n) p
   pub gather : new.gather n ≡ old.gather n
-  pub sends : Sends old new (IsAcknowledgement old n p)
+  pub sends : Sends old new (IsAboutProposal old n p)
   pub acked : (to : ℕ) × (c : Option Content) × In (Acknowledges n to (old.epoch n) p c) new.letters
 
 -- a live node says again what it holds

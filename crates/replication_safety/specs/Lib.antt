@@ -1,3 +1,5 @@
 pub mod Line
 pub mod Moves
 pub mod Replicated
+pub mod Start
+pub mod Rises

@@ -1,8 +1,9 @@
 -- Laws of sets of nodes: what each operation has as members, and that a rising list is known by its members.
-use Rattle.std.specs.Prelude.{ℕ, suc, true, false, not, ◌&&◌, ◌||◌, ◌==◌, ◌≡◌, ◌≢◌, ◌+◌, ◌<◌, ◌≤◌, List, [], ◌∷◌, length, Some, None, refl}
+use Rattle.std.specs.Prelude.{ℕ, suc, true, false, not, ◌&&◌, ◌||◌, ◌==◌, ◌≡◌, ◌≢◌, ◌+◌, ◌<◌, ◌≤◌, List, [], ◌∷◌, length, All, Some, None, refl}
 use Rattle.std.proofs.Common.{arith, sym, ap, ◌∙◌, inl, inr}
-use Rattle.std.proofs.lemmas.Bool.{cases_order, lt-ltb, le-ltb, eq-eqb, ne_eqb, cond_both}
+use Rattle.std.proofs.lemmas.Bool.{cases_order, or_cases, eqb-true, false≢true, lt-ltb, le-ltb, eq-eqb, ne_eqb, cond_both}
 use Rattle.std.proofs.lemmas.Bool.Decides.{nat_tests}
+use Rattle.std.proofs.lemmas.List.Elements.{All-head, All-tail, All-nil, All-cons}
 use Rattle.zeus_base.specs.Nodes.{has, with_node, without, meet, join, is_subset, least}
 
 -- the numbers rise from one to the next, and none is below the bound
@@ -286,3 +287,25 @@ pub length-with_node : (n : ℕ) (ms : List ℕ) → has n ms ≡ false → leng
 unfolding with_node has
 length-with_node n [] h = refl
 length-with_node n (m ∷ ms) h = grind (arith, nat_tests, length-with_node n ms)
+
+pub IsBelow-meet : (b : ℕ) (ms ns : List ℕ) → IsBelow b ms → IsBelow b (meet ms ns)
+IsBelow-meet b ms ns h = IsBelow-subset b (meet ms ns) ms (is_subset-meet_left ms ns) h
+
+pub IsBelow-without : (b n : ℕ) (ms : List ℕ) → IsBelow b ms → IsBelow b (without n ms)
+IsBelow-without b n ms h = IsBelow-subset b (without n ms) ms (is_subset-without n ms) h
+
+-- ---- what holds of each node of a set
+
+pub All-has : (P : ℕ → Type 0) (k : ℕ) (ms : List ℕ) → All P ms → has k ms ≡ true → P k
+unfolding has
+All-has P k [] a h = absurd (false≢true h)
+All-has P k (m ∷ ms) a h =
+    elim (or_cases (k == m) (has k ms) h) [
+      | inl same ↦ rw (eqb-true k m same) (All-head P m ms a)
+      | inr later ↦ All-has P k ms (All-tail P m ms a) later
+    ]
+
+pub All-from_members : (P : ℕ → Type 0) (ms : List ℕ) → ((k : ℕ) → has k ms ≡ true → P k) → All P ms
+All-from_members P [] h = All-nil P
+All-from_members P (m ∷ ms) h =
+    All-cons P m ms (h m (has-head m ms)) (All-from_members P ms (λ k g. h k (has-tail k m ms g)))

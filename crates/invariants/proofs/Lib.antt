@@ -1,0 +1,10 @@
+pub mod AboutObjects
+pub mod Frames
+pub mod ObjectMoves
+pub mod ObjectSteps
+pub mod ObjectSeen
+pub mod ObjectKeeps
+pub mod AboutLines
+pub mod LineMoves
+pub mod LineSeen
+pub mod LineEntries

@@ -1,0 +1,189 @@
+-- What every move leaves: epochs, ranks and settled stamps do not fall, letters stay, and who newly speaks is live and speaks in
+-- its epoch. Hence what holds of the letters that were there goes on to hold.
+use Rattle.std.specs.Prelude.{ℕ, zero, suc, ◌≡◌, ◌≢◌, ◌<◌, ◌≤◌, true, false, List, ◌++◌, length, Option, ◌⊎◌}
+use Rattle.std.proofs.Common.{arith, refl, sym, ap, subst, ◌∙◌, inl, inr, le_refl, length-append}
+use Rattle.std.proofs.lemmas.Bool.{cases_eq, true≢false}
+use Rattle.zeus_base.specs.Order.{is_below}
+use Rattle.zeus_base.specs.OrderLaws.{is_below-irrefl, is_below-trans_not_above, not_below-trans}
+use Rattle.zeus_base.specs.declared.order.Stamp.{Stamp}
+use Rattle.zeus_packet.specs.Place.{new_place}
+use Rattle.zeus_packet.specs.declared.place.Place.{Place}
+use Rattle.zeus_packet.specs.declared.place.Proposal.{Proposal}
+use Rattle.zeus_packet.specs.declared.write.Content.{Content}
+use Rattle.zeus_model.specs.Tables.{nth}
+use Rattle.ownership_safety.specs.Object.{Object, Invalidates, Acknowledges, IsView, IsMember, IsSource, IsArbiter, IsSaid, HasAcked, HasAckedStamp, IsChosen, IsBlocked, rank, no_proposal, chain_stamp, chain_place, place_at}
+use Rattle.ownership_safety.specs.Moves.{SameOthers}
+use Rattle.ownership_safety.specs.Ordered.{IsProposal, IsAck, IsLink, IsDecided}
+use Rattle.ownership_safety.specs.Kept.{Grows}
+use Rattle.ownership_safety.proofs.Basics.{nth-append}
+
+-- a chain that begins with the other
+pub record Extends (chain longer : List Proposal) : Type 0 where
+  pub at_least : length chain ≤ length longer
+  pub same : (v : ℕ) → v < length chain → nth no_proposal longer v ≡ nth no_proposal chain v
+
+pub Extends-refl : (chain : List Proposal) → Extends chain chain
+Extends-refl chain = record { at_least = le_refl (length chain); same = λ v h. refl }
+
+pub Extends-append : (chain more : List Proposal) → Extends chain (chain ++ more)
+Extends-append chain more =
+    record { at_least = simp length-append (omega arith); same = λ v h. nth-append no_proposal chain more v h }
+
+module _ (chain longer : List Proposal) (extends : Extends chain longer) where
+  pub chain_stamp-longer : (v : ℕ) → v ≤ length chain → chain_stamp longer v ≡ chain_stamp chain v
+  unfolding chain_stamp
+  chain_stamp-longer zero h = refl
+  chain_stamp-longer (suc v) h = ap (λ (p : Proposal). p.stamp) (extends.same v h)
+
+  pub chain_place-longer : (declared : Place) (v : ℕ) → v ≤ length chain → chain_place declared longer v ≡ chain_place declared chain v
+  unfolding chain_place
+  chain_place-longer declared zero h = refl
+  chain_place-longer declared (suc v) h = ap (λ (p : Proposal). new_place p) (extends.same v h)
+
+-- ---- one node after another
+
+pub each_node : (P : ℕ → Type 0) (n : ℕ) → P n → ((m : ℕ) → m ≢ n → P m) → (m : ℕ) → P m
+each_node P n here others m =
+    elim (cases_eq m n) [ inl same ↦ subst P (sym same) here | inr other ↦ others m other ]
+
+module _ (old new : Object) (n : ℕ) (others : SameOthers old new n) where
+  pub others-rank : (m : ℕ) → m ≢ n → rank new m ≡ rank old m
+  others-rank m other = rw (others.entry m other) refl
+
+  pub rank-not_below : is_below (rank new n) (rank old n) ≡ false → (m : ℕ) → is_below (rank new m) (rank old m) ≡ false
+  rank-not_below here =
+      each_node (λ m. is_below (rank new m) (rank old m) ≡ false) n here
+      (λ m other. rw (others-rank m other) (is_below-irrefl (rank old m)))
+
+  pub settled-not_below : is_below (new.entry n).stamp (old.entry n).stamp ≡ false → (m : ℕ) → is_below (new.entry m).stamp (old.entry m).stamp ≡ false
+  settled-not_below here =
+      each_node (λ m. is_below (new.entry m).stamp (old.entry m).stamp ≡ false) n here
+      (λ m other. rw (others.entry m other) (is_below-irrefl (old.entry m).stamp))
+
+  pub stopped-kept : (old.stopped n ≡ true → new.stopped n ≡ true) → (m : ℕ) → old.stopped m ≡ true → new.stopped m ≡ true
+  stopped-kept here =
+      each_node (λ m. old.stopped m ≡ true → new.stopped m ≡ true) n here (λ m other h. others.stopped m other ∙ h)
+
+  pub epoch-kept : old.epoch n ≤ new.epoch n → (m : ℕ) → old.epoch m ≤ new.epoch m
+  epoch-kept here =
+      each_node (λ m. old.epoch m ≤ new.epoch m) n here (λ m other. let same = others.epoch m other in omega arith)
+
+-- ---- what goes on to hold
+
+module _ (old new : Object) (grows : Grows old new) where
+  pub member-grows : (e n : ℕ) → IsView old e → IsMember old e n → IsMember new e n
+  member-grows e n v h = rw (grows.views e v) h
+
+  pub member-back : (e n : ℕ) → IsView old e → IsMember new e n → IsMember old e n
+  member-back e n v h = rw (← grows.views e v) h
+
+  pub source-grows : (e : ℕ) (place : Place) (n : ℕ) → IsView old e → IsSource old e place n → IsSource new e place n
+  source-grows e place n v h = rw (grows.views e v) h
+
+  pub source-back : (e : ℕ) (place : Place) (n : ℕ) → IsView old e → IsSource new e place n → IsSource old e place n
+  source-back e place n v h = rw (← grows.views e v) h
+
+  pub arbiter-grows : (e : ℕ) (place : Place) (n : ℕ) → IsView old e → IsArbiter old e place n → IsArbiter new e place n
+  arbiter-grows e place n v h = rw (grows.views e v, grows.directory) h
+
+  pub arbiter-back : (e : ℕ) (place : Place) (n : ℕ) → IsView old e → IsArbiter new e place n → IsArbiter old e place n
+  arbiter-back e place n v h = rw (← grows.views e v, ← grows.directory) h
+
+  pub acked-grows : (n : ℕ) (p : Proposal) (e : ℕ) → HasAcked old n p e → HasAcked new n p e
+  acked-grows n p e a = (a.0, a.1, grows.letters (Acknowledges n a.0 e p a.1) a.2)
+
+  pub said-grows : (p : Proposal) (e : ℕ) → IsSaid old p e → IsSaid new p e
+  said-grows p e (inl i) = inl (i.0, i.1, grows.letters (Invalidates i.0 i.1 e p) i.2)
+  said-grows p e (inr (n, a)) = inr (n, acked-grows n p e a)
+
+  pub chosen-grows : (p : Proposal) (e : ℕ) → IsChosen old p e → IsChosen new p e
+  chosen-grows p e c =
+      record {
+        viewed = grows.viewed e c.viewed;
+        directory = (c.directory.0, rw grows.directory c.directory.1, member-grows e c.directory.0 c.viewed c.directory.2);
+        source = (c.source.0, source-grows e p.base_place c.source.0 c.viewed c.source.1);
+        acked = λ a h. acked-grows a p e (c.acked a (arbiter-back e p.base_place a c.viewed h));
+      }
+
+  -- who has not acknowledged a stamp, and is stopped, past the epoch or above the stamp, does not do so now
+  not_acked : (a : ℕ) (t : Stamp) (e : ℕ) → (HasAckedStamp old a t e → ⊥) → (old.stopped a ≡ true) ⊎ ((e < old.epoch a) ⊎ (is_below t (rank old a) ≡ true)) → HasAckedStamp new a t e → ⊥
+  not_acked a t e never why (p, is, (to, c, m)) =
+      elim (grows.acks a to e p c m) [
+        | inl before ↦ never (p, is, (to, c, before))
+        | inr now ↦ elim why [
+          | inl stopped ↦ true≢false (sym stopped ∙ now.live)
+          | inr later ↦ elim later [
+            | inl past ↦ let same = now.epoch in omega arith
+            | inr above ↦ let none : is_below t (rank old a) ≡ false = rw (← is) now.rank in true≢false (sym above ∙ none)
+          ]
+        ]
+      ]
+
+  pub blocked-grows : (t : Stamp) (place : Place) (e : ℕ) → IsView old e → IsBlocked old t place e → IsBlocked new t place e
+  unfolding IsBlocked
+  blocked-grows t place e v (a, arbiter, (never, why)) = (
+    a,
+    arbiter-grows e place a v arbiter,
+    (
+      not_acked a t e never why,
+      elim why [
+        | inl stopped ↦ inl (grows.stopped a stopped)
+        | inr later ↦ elim later [
+          | inl past ↦ inr (inl (omega (arith, grows.epoch a)))
+          | inr above ↦ inr (inr (is_below-trans_not_above t (rank old a) (rank new a) above (grows.rank a)))
+        ]
+      ],
+    ),
+  )
+
+  module _ (chain longer : List Proposal) (extends : Extends chain longer) where
+    pub stamp_at-grows : (v : ℕ) → v ≤ length chain → chain_stamp chain v ≡ chain_stamp longer v
+    stamp_at-grows v h = sym (chain_stamp-longer chain longer extends v h)
+
+    pub place_at-grows : (v : ℕ) → v ≤ length chain → place_at old chain v ≡ place_at new longer v
+    place_at-grows v h =
+        sym (chain_place-longer chain longer extends old.declared v h) ∙ ap (λ (d : Place). chain_place d longer v) (sym grows.declared)
+
+    pub decided-grows : (t : Stamp) (place : Place) → IsDecided old chain t place → IsDecided new longer t place
+    decided-grows t place is =
+        record {
+          ver = omega (arith, is.ver, extends.at_least);
+          stamp = is.stamp ∙ stamp_at-grows t.ver is.ver;
+          place = is.place ∙ place_at-grows t.ver is.ver;
+        }
+
+    pub proposal-grows : (p : Proposal) → IsProposal old chain p → IsProposal new longer p
+    proposal-grows p is =
+        record {
+          next = is.next;
+          placed = is.placed;
+          want = is.want;
+          driver = not_below-trans p.stamp (rank old p.stamp.driver) (rank new p.stamp.driver) is.driver (grows.rank p.stamp.driver);
+          decided = omega (arith, is.decided, extends.at_least);
+          base = is.base ∙ stamp_at-grows p.base.ver is.decided;
+          base_place = is.base_place ∙ place_at-grows p.base.ver is.decided;
+        }
+
+    pub link-grows : (v : ℕ) (p : Proposal) → v < length chain → IsLink old chain v p → IsLink new longer v p
+    link-grows v p inside is =
+        record {
+          ver = is.ver;
+          base = is.base ∙ stamp_at-grows v (omega arith);
+          base_place = is.base_place ∙ place_at-grows v (omega arith);
+          placed = is.placed;
+          want = is.want;
+          chosen = (is.chosen.0, chosen-grows p is.chosen.0 is.chosen.1);
+          requester = elim is.requester [
+            | inl stopped ↦ inl (grows.stopped p.requester stopped)
+            | inr settled ↦ inr (not_below-trans p.stamp (old.entry p.requester).stamp (new.entry p.requester).stamp settled (grows.settled p.requester))
+          ];
+        }
+
+  pub ack-grows : (from to e : ℕ) (p : Proposal) (c : Option Content) → IsView old e → IsAck old from to e p c → IsAck new from to e p c
+  ack-grows from to e p c v is =
+      record {
+        rank = not_below-trans p.stamp (rank old from) (rank new from) is.rank (grows.rank from);
+        arbiter = arbiter-grows e p.base_place from v is.arbiter;
+        content = (λ s. source-grows e p.base_place from v (is.content.0 s), λ s. is.content.1 (source-back e p.base_place from v s));
+        to_requester = λ m. is.to_requester (member-back e p.requester v m);
+      }

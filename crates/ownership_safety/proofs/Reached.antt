@@ -1,0 +1,54 @@
+-- Every move keeps what holds of an object, so it holds of all that is reached.
+use Rattle.std.specs.Prelude.{ℕ, ◌≡◌, ◌<◌, List, [], ◌∷◌, ◌++◌, length, ◌⊎◌}
+use Rattle.std.proofs.Common.{arith, inl, inr}
+use Rattle.zeus_packet.specs.declared.place.Proposal.{Proposal}
+use Rattle.ownership_safety.specs.Object.{Object}
+use Rattle.ownership_safety.specs.Ordered.{Ordered}
+use Rattle.ownership_safety.specs.Kept.{Grows, IsAgain, IsFirst}
+use Rattle.ownership_safety.specs.Run.{IsMove, IsReached, makes_view, stops, installs, settles, drives, accepts, redrives, notes, tells, decides_again, decides_first, begins, moves}
+use Rattle.ownership_safety.proofs.KeepsViews.{keeps_NewView, keeps_Stops, keeps_Installs, grows_NewView, grows_Stops, grows_Installs}
+use Rattle.ownership_safety.proofs.KeepsSpeech.{keeps_Drives, keeps_Accepts, keeps_Redrives, grows_Drives, grows_Accepts, grows_Redrives}
+use Rattle.ownership_safety.proofs.KeepsGathers.{keeps_Notes, keeps_Tells, grows_Notes, grows_Tells}
+use Rattle.ownership_safety.proofs.KeepsSettled.{keeps_Settles, keeps_Decides, grows_Settles, grows_Decides}
+use Rattle.ownership_safety.proofs.Start.{start-ordered}
+
+again_ordered : (old new : Object) (chain : List Proposal) (n : ℕ) (p : Proposal) → p.base.ver < length chain → IsAgain old new chain n p ⊎ IsFirst old new chain n p → Ordered new chain
+again_ordered old new chain n p inside (inl again) = again.ordered
+again_ordered old new chain n p inside (inr first) = let last = first.last in absurd (omega arith)
+
+first_ordered : (old new : Object) (chain : List Proposal) (n : ℕ) (p : Proposal) → p.base.ver ≡ length chain → IsAgain old new chain n p ⊎ IsFirst old new chain n p → Ordered new (chain ++ p ∷ [])
+first_ordered old new chain n p last (inl again) = let inside = again.inside in absurd (omega arith)
+first_ordered old new chain n p last (inr first) = first.ordered
+
+pub move-ordered : (old new : Object) (chain longer : List Proposal) → Ordered old chain → IsMove old new chain longer → Ordered new longer
+move-ordered old new chain longer ordered (makes_view set is) = keeps_NewView old new set is chain ordered
+move-ordered old new chain longer ordered (stops n is) = keeps_Stops old new n is chain ordered
+move-ordered old new chain longer ordered (installs n e is) = keeps_Installs old new n e is chain ordered
+move-ordered old new chain longer ordered (settles n u is) = keeps_Settles old new chain ordered n u is
+move-ordered old new chain longer ordered (drives n p is) = keeps_Drives old new n p is chain ordered
+move-ordered old new chain longer ordered (accepts n p is) = keeps_Accepts old new n p is chain ordered
+move-ordered old new chain longer ordered (redrives n p is) = keeps_Redrives old new n p is chain ordered
+move-ordered old new chain longer ordered (notes n p a c is) = keeps_Notes old new n p a c is chain ordered
+move-ordered old new chain longer ordered (tells n is) = keeps_Tells old new n is chain ordered
+move-ordered old new chain longer ordered (decides_again n g is inside) =
+    again_ordered old new chain n g.proposal inside (keeps_Decides old new chain ordered n g is)
+move-ordered old new chain longer ordered (decides_first n g is last) =
+    first_ordered old new chain n g.proposal last (keeps_Decides old new chain ordered n g is)
+
+pub move-grows : (old new : Object) (chain longer : List Proposal) → Ordered old chain → IsMove old new chain longer → Grows old new
+move-grows old new chain longer ordered (makes_view set is) = grows_NewView old new set is
+move-grows old new chain longer ordered (stops n is) = grows_Stops old new n is
+move-grows old new chain longer ordered (installs n e is) = grows_Installs old new n e is
+move-grows old new chain longer ordered (settles n u is) = grows_Settles old new chain ordered n u is
+move-grows old new chain longer ordered (drives n p is) = grows_Drives old new n p is chain ordered
+move-grows old new chain longer ordered (accepts n p is) = grows_Accepts old new n p is
+move-grows old new chain longer ordered (redrives n p is) = grows_Redrives old new n p is
+move-grows old new chain longer ordered (notes n p a c is) = grows_Notes old new n p a c is
+move-grows old new chain longer ordered (tells n is) = grows_Tells old new n is
+move-grows old new chain longer ordered (decides_again n g is inside) = grows_Decides old new chain ordered n g is
+move-grows old new chain longer ordered (decides_first n g is last) = grows_Decides old new chain ordered n g is
+
+pub reached-ordered : (o : Object) (chain : List Proposal) → IsReached o chain → Ordered o chain
+reached-ordered o chain (begins _ start) = start-ordered o start
+reached-ordered o chain (moves old _ before _ reached move) =
+    move-ordered old o before chain (reached-ordered old before reached) move

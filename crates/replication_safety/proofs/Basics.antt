@@ -1,0 +1,86 @@
+-- Members of lists, the letters that are sent, what a node keeps, and views that shrink.
+use Rattle.std.specs.Prelude.{ℕ, zero, suc, ◌≡◌, ◌≢◌, ◌+◌, ◌-◌, ◌<◌, ◌≤◌, true, List, [], ◌∷◌, ◌++◌, length, ◌⊎◌}
+use Rattle.std.proofs.Common.{arith, sym, subst, inl, inr}
+use Rattle.std.proofs.lemmas.Bool.{cases_lt, cases_eq}
+use Rattle.zeus_base.specs.Nodes.{is_subset}
+use Rattle.zeus_base.specs.NodeLaws.{is_subset-refl, is_subset-trans, is_subset-has}
+use Rattle.replication_safety.specs.Line.{Line, Letter, In, here, there, IsView, IsLive, IsMember, IsOut, view, top}
+use Rattle.replication_safety.specs.Moves.{Sends, nothing}
+use Rattle.replication_safety.specs.Replicated.{IsViewed, Holds}
+
+-- ---- members of lists
+
+pub In-append_left : {A : Type 0} (a : A) (xs ys : List A) → In a xs → In a (xs ++ ys)
+In-append_left a [] ys m = elim m [ ]
+In-append_left a (x ∷ xs) ys (here _ _ e) = here x (xs ++ ys) e
+In-append_left a (x ∷ xs) ys (there _ _ m) = there x (xs ++ ys) (In-append_left a xs ys m)
+
+pub In-append_right : {A : Type 0} (a : A) (xs ys : List A) → In a ys → In a (xs ++ ys)
+In-append_right a [] ys m = m
+In-append_right a (x ∷ xs) ys m = there x (xs ++ ys) (In-append_right a xs ys m)
+
+pub In-append : {A : Type 0} (a : A) (xs ys : List A) → In a (xs ++ ys) → In a xs ⊎ In a ys
+In-append a [] ys m = inr m
+In-append a (x ∷ xs) ys (here _ _ e) = inl (here x xs e)
+In-append a (x ∷ xs) ys (there _ _ m) =
+    elim (In-append a xs ys m) [ inl l ↦ inl (there x xs l) | inr r ↦ inr r ]
+
+-- ---- letters
+
+-- who says nothing leaves the letters as they are
+pub silent-only : (old new : Line) (l : Letter) → Sends old new nothing → In l new.letters → In l old.letters
+silent-only old new l s m = elim (s.only l m) [ inl before ↦ before | inr none ↦ absurd none ]
+
+-- letters that are added at the end, each of them allowed
+pub Sends-append : (old new : Line) (allowed : Letter → Type 0) (ls : List Letter)
+    → new.letters ≡ old.letters ++ ls → ((l : Letter) → In l ls → allowed l) → Sends old new allowed
+Sends-append old new allowed ls e h =
+    record {
+      stay = λ l m. subst (λ (xs : List Letter). In l xs) (sym e) (In-append_left l old.letters ls m);
+      only = λ l m. elim (In-append l old.letters ls (subst (λ (xs : List Letter). In l xs) e m)) [ inl before ↦ inl before | inr now ↦ inr (h l now) ];
+    }
+
+pub Sends-same : (old new : Line) → new.letters ≡ old.letters → Sends old new nothing
+Sends-same old new e =
+    record {
+      stay = λ l m. subst (λ (xs : List Letter). In l xs) (sym e) m;
+      only = λ l m. inl (subst (λ (xs : List Letter). In l xs) e m);
+    }
+
+-- ---- functions that agree
+
+pub agree : {A : Type 0} (f g : ℕ → A) (n : ℕ) → ((m : ℕ) → m ≢ n → f m ≡ g m) → f n ≡ g n → (m : ℕ) → f m ≡ g m
+agree f g n others one m =
+    elim (cases_eq m n) [ inl same ↦ rw (same) one | inr other ↦ others m other ]
+
+-- ---- what a node holds
+
+pub Holds-top : (l : Line) (n k : ℕ) → Holds l n k → k < top l n
+Holds-top l n k h = grind arith
+
+pub top-Holds : (l : Line) (n k : ℕ) → k < top l n → Holds l n k
+top-Holds l n k h =
+    elim (cases_lt k (l.done n)) [ inl below ↦ inr below | inr above ↦ inl (above, h) ]
+
+-- ---- views
+
+pub view-shrinks : (l : Line) (e d : ℕ) → IsViewed l → 1 ≤ e → e + d ≤ length l.views → is_subset (view l (e + d)) (view l e) ≡ true
+view-shrinks l e zero v low high = let same : e + 0 ≡ e = omega arith in rw same (is_subset-refl (view l e))
+view-shrinks l e (suc d) v low high =
+    let next : e + suc d ≡ suc (e + d) = omega arith in
+    let step : is_subset (view l (suc (e + d))) (view l (e + d)) ≡ true = v.shrinking (e + d) (omega arith, omega arith) (omega arith, omega arith) in
+    let rest : is_subset (view l (e + d)) (view l e) ≡ true = view-shrinks l e d v low (omega arith) in
+    rw next (is_subset-trans (view l (suc (e + d))) (view l (e + d)) (view l e) step rest)
+
+-- a member of a view is a member of each earlier one
+pub IsMember-earlier : (l : Line) (e f n : ℕ) → IsViewed l → IsView l e → IsView l f → e ≤ f → IsMember l f n → IsMember l e n
+IsMember-earlier l e f n v is_e is_f le m =
+    let same : e + (f - e) ≡ f = omega arith in
+    let shrinks : is_subset (view l (e + (f - e))) (view l e) ≡ true = view-shrinks l e (f - e) v is_e.0 (omega arith) in
+    is_subset-has n (view l f) (view l e) (rw same at shrinks) m
+
+-- who is out of an epoch has stopped
+pub IsOut-stopped : (l : Line) (e n : ℕ) → IsViewed l → IsView l e → IsOut l e n → IsLive l n → ⊥
+IsOut-stopped l e n v is_e out live =
+    let inside : IsMember l e n = v.live n e live is_e in
+    absurd cc

@@ -1,0 +1,15 @@
+pub mod Basics
+pub mod Carries
+pub mod Same
+pub mod Views
+pub mod Reports
+pub mod Letters
+pub mod Appends
+pub mod Drops
+pub mod Consequences
+pub mod Passing
+pub mod Acks
+pub mod Alive
+pub mod Start
+pub mod Received
+pub mod Entries
