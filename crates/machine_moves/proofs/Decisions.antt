@@ -1,6 +1,6 @@
 -- The letters by which proposals are decided, and the word that a node has reported.
-use Rattle.std.specs.Prelude.{ℕ, zero, suc, ◌≡◌, ◌≢◌, ◌+◌, ◌-◌, ◌<◌, ◌≤◌, Bool, true, false, ◌&&◌, not, ◌==◌, List, [], ◌∷◌, ◌++◌, length, take, Option, Some, None, is_none, is_some, ◌⊎◌, if◌then◌else◌}
-use Rattle.std.proofs.Common.{arith, refl, sym, ap, ◌∙◌, inl, inr, subst}
+use Rattle.std.specs.Prelude.{ℕ, ◌≡◌, true, ◌==◌, [], take, Option, Some, None, if◌then◌else◌}
+use Rattle.std.proofs.Common.{refl, sym, ap, ◌∙◌, subst}
 use Rattle.std.proofs.lemmas.Bool.{cond_both}
 use Rattle.zeus_base.specs.Nodes.{has, without, with_node}
 use Rattle.zeus_base.specs.Order.{is_below, same_stamp}
@@ -15,25 +15,24 @@ use Rattle.zeus_packet.specs.declared.letter.Letter.{Letter}
 use Rattle.zeus_packet.specs.declared.place.Place.{Place}
 use Rattle.zeus_packet.specs.declared.place.Proposal.{Proposal}
 use Rattle.zeus_packet.specs.declared.write.Content.{Content}
-use Rattle.zeus_model.specs.In.{In, here, there}
-use Rattle.zeus_model.specs.Tables.{nth, put, or_else}
+use Rattle.zeus_model.specs.In.{In}
 use Rattle.zeus_model.specs.declared.answer.Outcome.{Outcome}
-use Rattle.zeus_model.specs.declared.answer.Outcome.TheVariants.{Taken, Again, Older, Refused}
+use Rattle.zeus_model.specs.declared.answer.Outcome.TheVariants.{Taken, Again, Refused}
 use Rattle.zeus_model.specs.declared.state.Entry.{Entry}
 use Rattle.zeus_model.specs.declared.state.Gather.{Gather}
 use Rattle.zeus_model.specs.State.{Node, entry, gather, with_copy, with_gather}
-use Rattle.zeus_model.specs.Act.{Act, Did, just, still, letter, to_each}
-use Rattle.zeus_model.specs.Ownership.{settle, settled_entry, answer_settled, takes_over, rebased, is_decidable, brought, bring, decide_with, decide_on, decide_gathered, decide, gather_for, greater_gather, noted, is_noted, take_ack, gather_or_older, collect_cause, collect_or_refuse, oack_on_base, on_oack, on_oval}
+use Rattle.zeus_model.specs.Act.{Act, Did, just, still, letter}
+use Rattle.zeus_model.specs.Ownership.{settle, settled_entry, answer_settled, takes_over, rebased, is_decidable, brought, bring, decide_with, decide_on, decide_gathered, decide, gather_for, greater_gather, noted, take_ack, gather_or_older, collect_cause, collect_or_refuse, oack_on_base, on_oack, on_oval}
 use Rattle.zeus_model.specs.Receive.{on_recovered}
-use Rattle.machine_moves.specs.Scene.{Scene, IsLive, IsReceivable}
+use Rattle.machine_moves.specs.Scene.{Scene}
 use Rattle.machine_moves.specs.Move.{placement, IsTellable, settles, gathers, decides, hears, IsSettling, by_acknowledgement, by_decision}
 use Rattle.machine_moves.proofs.Lists.{nth-put_same}
 use Rattle.machine_moves.proofs.Within.{Keeps, Keeps-settle, Keeps-bring, Keeps-trans, Keeps-with_gather, Keeps-reported}
-use Rattle.machine_moves.proofs.Steady.{IsKnown, fair_acknowledgement}
-use Rattle.machine_moves.proofs.Reach.{Became, Reaches, Reached, Answered, IsReady, known, still_reaches, quiet_reaches, then_reaches, cut_none, quiet_then_tells, did_then_reaches}
+use Rattle.machine_moves.proofs.Steady.{fair_acknowledgement}
+use Rattle.machine_moves.proofs.Reach.{Reached, Answered, IsReady, still_reaches, quiet_reaches, then_reaches, cut_none, quiet_then_tells}
 use Rattle.machine_moves.proofs.Passing.{to_each-each}
 use Rattle.machine_moves.proofs.Entries.{Received, received_after}
-use Rattle.machine_moves.proofs.Proposals.{Rebased, IsRebased, rebased-is, settle-entry, answers_settled}
+use Rattle.machine_moves.proofs.Proposals.{IsRebased, rebased-is, settle-entry, answers_settled}
 
 -- ---- a decision
 

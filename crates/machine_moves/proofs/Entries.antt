@@ -1,7 +1,7 @@
 -- The letters of replication: an entry, an acknowledgement of one, and the word that entries have passed.
-use Rattle.std.specs.Prelude.{ℕ, zero, suc, ◌≡◌, ◌≢◌, ◌+◌, ◌-◌, ◌<◌, ◌≤◌, Bool, true, false, ◌&&◌, not, ◌==◌, nat_lt, List, [], ◌∷◌, ◌++◌, length, take, drop, Option, Some, None, ◌⊎◌, if◌then◌else◌}
+use Rattle.std.specs.Prelude.{ℕ, ◌≡◌, ◌≢◌, ◌+◌, ◌-◌, ◌<◌, ◌≤◌, true, ◌&&◌, not, ◌==◌, nat_lt, List, [], ◌∷◌, ◌++◌, length, take, drop, if◌then◌else◌}
 use Rattle.std.proofs.Common.{arith, refl, sym, ap, ◌∙◌, inl, inr, subst, length-append}
-use Rattle.std.proofs.lemmas.Bool.{cases_lt, cond_both, cond-true, cond-false, and_parts, not-true, ltb-true, ltb-false, eqb-true, eqb-false, lt-ltb, le-ltb}
+use Rattle.std.proofs.lemmas.Bool.{cases_lt, cond_both, and_parts, not-true, ltb-true, ltb-false, eqb-true, eqb-false, le-ltb}
 use Rattle.zeus_base.specs.Nodes.{has}
 use Rattle.zeus_base.specs.declared.order.Stream.{Stream}
 use Rattle.zeus_packet.specs.declared.letter.Body.{Body}
@@ -17,10 +17,9 @@ use Rattle.zeus_model.specs.declared.state.Kept.{Kept}
 use Rattle.zeus_model.specs.State.{Node, StreamLog, slot, log, with_slot, with_log, with_copies}
 use Rattle.zeus_model.specs.Act.{Did, just, sends, letter}
 use Rattle.zeus_model.specs.Commit.{after_passing, raise, store, next_kept, stored_rinv, on_rinv, is_within, no_pending, no_kept, acked_pending, acked_kept, on_own_rack, on_kept_rack, on_rack, on_rval}
-use Rattle.machine_moves.specs.Scene.{Scene, IsLive, IsReceivable}
+use Rattle.machine_moves.specs.Scene.{Scene, IsReceivable}
 use Rattle.machine_moves.specs.Move.{stored, raises, stores, notes_own, notes_kept, IsRaising, by_entry, by_word, IsTellable}
 use Rattle.machine_moves.proofs.Within.{log-with_log_same, Keeps, Keeps-raise, Keeps-store, Keeps-with_slot, Keeps-with_log}
-use Rattle.machine_moves.proofs.Steady.{IsKnown}
 use Rattle.machine_moves.proofs.Reach.{Became, Reaches, Answered, IsReady, known, still_reaches, quiet_reaches, then_reaches, cut_none, cut_tells, quiet_then_tells}
 
 -- a letter with this body from this node came to the node in its epoch

@@ -1,23 +1,21 @@
 -- The finish: own streams advance, then those of nodes that are no members, then the node reports.
-use Rattle.std.specs.Prelude.{ℕ, zero, suc, ◌≡◌, ◌≢◌, ◌+◌, ◌-◌, ◌<◌, ◌≤◌, Bool, true, false, ◌&&◌, not, ◌==◌, List, [], ◌∷◌, ◌++◌, length, take, Option, Some, None, ◌⊎◌, if◌then◌else◌}
-use Rattle.std.proofs.Common.{arith, refl, sym, ap, ◌∙◌, inl, inr, subst}
-use Rattle.std.proofs.lemmas.Bool.{cases_eq, cases_lt, cond_both, cases_Bool, and_parts, eqb-true}
-use Rattle.std.proofs.lemmas.Bool.Decides.{nat_tests}
+use Rattle.std.specs.Prelude.{ℕ, zero, suc, ◌≡◌, ◌+◌, ◌<◌, ◌≤◌, Bool, true, false, ◌&&◌, not, ◌==◌, List, [], ◌∷◌, ◌++◌, length, ◌⊎◌, if◌then◌else◌}
+use Rattle.std.proofs.Common.{arith, refl, ap, inl, inr}
+use Rattle.std.proofs.lemmas.Bool.{cases_eq, cases_lt, cond_both, and_parts, eqb-true}
 use Rattle.zeus_base.specs.Nodes.{has, without, with_node}
 use Rattle.zeus_base.specs.NodeLaws.{has-with_same}
 use Rattle.zeus_base.specs.declared.order.Stream.{Stream}
 use Rattle.zeus_packet.specs.declared.letter.Body.TheVariants.{Recovered}
 use Rattle.zeus_packet.specs.declared.letter.Letter.{Letter}
 use Rattle.zeus_model.specs.In.{In, here, there}
-use Rattle.zeus_model.specs.Tables.{nth, below, numbers_from}
+use Rattle.zeus_model.specs.Tables.{below, numbers_from}
 use Rattle.zeus_model.specs.State.{Node, StreamLog, no_log, log}
 use Rattle.zeus_model.specs.Act.{Act, in_turn, to_each, still, and_then}
 use Rattle.zeus_model.specs.Commit.{advance_own, advance_kept, streams_of, streams_outside, outside, none_stored, report, finish}
-use Rattle.machine_moves.specs.Scene.{Scene, IsLive}
+use Rattle.machine_moves.specs.Scene.{Scene}
 use Rattle.machine_moves.specs.Move.{reported, reports, IsTellable}
-use Rattle.machine_moves.proofs.Lists.{In-append, In-append_left, In-append_right, nth-past, In-nothing}
-use Rattle.machine_moves.proofs.Within.{IsWithin, Keeps, Keeps-reported}
-use Rattle.machine_moves.proofs.Steady.{IsKnown}
+use Rattle.machine_moves.proofs.Lists.{In-append, In-append_left, In-append_right, nth-past}
+use Rattle.machine_moves.proofs.Within.{IsWithin, Keeps-reported}
 use Rattle.machine_moves.proofs.Reach.{Reaches, Reached, IsReady, known, still_reaches, quiet_reaches, cut_none, quiet_then_tells, act_then}
 use Rattle.machine_moves.proofs.Passing.{to_each-each, advance_own-reached, advance_kept-reached}
 

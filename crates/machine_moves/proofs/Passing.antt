@@ -1,6 +1,6 @@
 -- Streams advance: entries pass one after another, and then it is told.
-use Rattle.std.specs.Prelude.{ℕ, zero, suc, ◌≡◌, ◌≢◌, ◌+◌, ◌-◌, ◌<◌, ◌≤◌, Bool, true, false, List, [], ◌∷◌, ◌++◌, length, take, drop, map, Option, Some, None, ◌⊎◌, if◌then◌else◌}
-use Rattle.std.proofs.Common.{arith, refl, sym, ap, ◌∙◌, inl, inr, subst, append_assoc}
+use Rattle.std.specs.Prelude.{ℕ, zero, suc, ◌≡◌, ◌≢◌, ◌+◌, ◌<◌, ◌≤◌, Bool, true, false, List, [], ◌∷◌, ◌++◌, length, take, drop, map, Option, None, if◌then◌else◌}
+use Rattle.std.proofs.Common.{arith, refl, ap, ◌∙◌, subst, append_assoc}
 use Rattle.std.proofs.lemmas.List.{length-map}
 use Rattle.zeus_base.specs.Nodes.{has, without, meet}
 use Rattle.zeus_base.specs.NodeLaws.{has-head, has-tail, has-without, has-meet, has-without_same}
@@ -13,14 +13,13 @@ use Rattle.zeus_model.specs.In.{In, here, there}
 use Rattle.zeus_model.specs.Tables.{nth, put, front}
 use Rattle.zeus_model.specs.declared.state.Copy.{Copy}
 use Rattle.zeus_model.specs.declared.state.Kept.{Kept}
-use Rattle.zeus_model.specs.State.{Node, Slot, StreamLog, no_slot, no_log, slot, log, with_slot, with_log, with_copies, own_stream}
-use Rattle.zeus_model.specs.Act.{Act, letter, to_each}
-use Rattle.zeus_model.specs.Commit.{validated, each_write, writes_of, as_kept, no_kept, passes, passing, after_passing, followers_of, pass_own, advance_own, advance_own_by, pass_kept, advance_kept, advance_kept_by, told}
-use Rattle.machine_moves.specs.Scene.{Scene, IsLive}
+use Rattle.zeus_model.specs.State.{Node, Slot, StreamLog, no_slot, no_log, slot, log, own_stream}
+use Rattle.zeus_model.specs.Act.{letter, to_each}
+use Rattle.zeus_model.specs.Commit.{validated, each_write, writes_of, as_kept, no_kept, passes, passing, followers_of, pass_own, advance_own, advance_own_by, pass_kept, advance_kept, advance_kept_by, told}
+use Rattle.machine_moves.specs.Scene.{Scene}
 use Rattle.machine_moves.specs.Move.{own_kept, own_passed, kept_passed, passes_own, passes_kept, IsTellable}
 use Rattle.machine_moves.proofs.Lists.{put-put, nth-put_same}
 use Rattle.machine_moves.proofs.Within.{slot-with_slot_same, log-with_log_same, Keeps-pass_own, Keeps-pass_kept}
-use Rattle.machine_moves.proofs.Steady.{IsKnown}
 use Rattle.machine_moves.proofs.Reach.{Reaches, Reached, IsReady, known, still_reaches, quiet_reaches, then_reaches, cut_none, quiet_then_tells}
 
 -- ---- letters to each of a list of nodes
@@ -191,7 +190,7 @@ pass_kept_of m t l k =
     }
 
 logs-put : (logs : List (List StreamLog)) (node slot : ℕ) (a b : StreamLog) → put [] (put [] logs node (put no_log (nth [] logs node) slot a)) node (put no_log (nth [] (put [] logs node (put no_log (nth [] logs node) slot a)) node) slot b) ≡ put [] logs node (put no_log (nth [] logs node) slot b)
-logs-put logs node slot a b = rw (nth-put_same [] logs node (put no_log (nth [] logs node) slot a), put-put, put-put) refl
+logs-put logs node slot a b = rw (nth-put_same [] logs node (put no_log (nth [] logs node) slot a), put-put no_log (nth [] logs node) slot a b, put-put) refl
 
 log-more : (l : StreamLog) (k : ℕ) → ◌≡◌ {A = StreamLog} (record { done = l.done + 1 + k; kept = drop k (drop 1 l.kept) }) (record { done = l.done + suc k; kept = drop (suc k) l.kept })
 log-more l k = let sum : l.done + 1 + k ≡ l.done + suc k = omega arith in rw (sum, drop-more k l.kept) refl

@@ -1,5 +1,5 @@
 -- The letters by which proposals are made and held.
-use Rattle.std.specs.Prelude.{ℕ, zero, suc, ◌≡◌, ◌≢◌, ◌+◌, ◌-◌, ◌<◌, ◌≤◌, Bool, true, false, ◌&&◌, ◌||◌, not, ◌==◌, List, [], ◌∷◌, ◌++◌, length, take, Option, Some, None, is_none, is_some, ◌⊎◌, if◌then◌else◌}
+use Rattle.std.specs.Prelude.{ℕ, suc, ◌≡◌, ◌<◌, ◌≤◌, true, false, List, [], ◌∷◌, ◌++◌, length, take, Option, Some, None, if◌then◌else◌}
 use Rattle.std.proofs.Common.{arith, refl, sym, ap, ◌∙◌, inl, inr, subst}
 use Rattle.std.proofs.lemmas.Bool.{cond_both, cond-true}
 use Rattle.zeus_base.specs.Nodes.{has, without}
@@ -8,7 +8,7 @@ use Rattle.zeus_base.specs.OrderLaws.{is_below-irrefl}
 use Rattle.zeus_base.specs.declared.order.Stamp.{Stamp}
 use Rattle.zeus_packet.specs.Place.{arbiters}
 use Rattle.zeus_packet.specs.declared.letter.Body.{Body}
-use Rattle.zeus_packet.specs.declared.letter.Body.TheVariants.{OReq, OInv, OAck, ONack, OVal}
+use Rattle.zeus_packet.specs.declared.letter.Body.TheVariants.{OReq, OInv, ONack, OVal}
 use Rattle.zeus_packet.specs.declared.letter.Cause.{Cause}
 use Rattle.zeus_packet.specs.declared.letter.Cause.TheVariants.{OwnPlace}
 use Rattle.zeus_packet.specs.declared.letter.Letter.{Letter}
@@ -20,16 +20,16 @@ use Rattle.zeus_model.specs.Tables.{nth}
 use Rattle.zeus_model.specs.declared.answer.Outcome.{Outcome}
 use Rattle.zeus_model.specs.State.{Node, entry, is_open, with_entry, with_gather}
 use Rattle.zeus_model.specs.Act.{Did, letter, to_each}
-use Rattle.zeus_model.specs.Ownership.{settle, settled_entry, gather_above, holding, is_source, own_content, unready_cause, driven, invalidations, acknowledgement, drive, answer_request, request_cause, on_oreq, answer_settled, takes_over, rebased, hold_cause, advice as advice_letters, refuse_proposal, collector, hold_or_refuse, oinv_on_base, on_oinv}
-use Rattle.machine_moves.specs.Scene.{Scene, IsLive, IsReceivable, Changes}
-use Rattle.machine_moves.specs.Move.{advice, placement, to_arbiter, to_collector, IsTellable, IsAboutProposal, HasAcked, MayDrive, MayAccept, Move, drives, accepts, settles, IsSettling, by_invalidation}
+use Rattle.zeus_model.specs.Ownership.{settle, settled_entry, gather_above, holding, is_source, unready_cause, driven, invalidations, acknowledgement, drive, answer_request, request_cause, on_oreq, answer_settled, takes_over, rebased, hold_cause, advice as advice_letters, refuse_proposal, collector, hold_or_refuse, oinv_on_base, on_oinv}
+use Rattle.machine_moves.specs.Scene.{Scene, IsReceivable}
+use Rattle.machine_moves.specs.Move.{advice, placement, to_arbiter, to_collector, IsTellable, IsAboutProposal, drives, accepts, settles, IsSettling, by_invalidation}
 use Rattle.machine_moves.proofs.Lists.{In-append, In-take, In-take_last}
-use Rattle.machine_moves.proofs.Within.{entry-with_entry_same, Keeps, Keeps-settle, Keeps-holding}
-use Rattle.machine_moves.proofs.Steady.{IsKnown, fair_proposal}
-use Rattle.machine_moves.proofs.Reach.{Became, Became-changed, Changes-became, changed, Reaches, Answered, IsReady, known, still_reaches, move_reaches, quiet_reaches, then_reaches, cut_none, cut_tells}
+use Rattle.machine_moves.proofs.Within.{entry-with_entry_same, Keeps-settle, Keeps-holding}
+use Rattle.machine_moves.proofs.Steady.{fair_proposal}
+use Rattle.machine_moves.proofs.Reach.{Became-changed, Changes-became, changed, Reaches, Answered, IsReady, known, still_reaches, move_reaches, quiet_reaches, then_reaches, cut_none, cut_tells}
 use Rattle.machine_moves.proofs.Passing.{to_each-each, without-member}
 use Rattle.machine_moves.proofs.Entries.{Received, received_after}
-use Rattle.machine_moves.proofs.Causes.{arbiters-length, request_cause-none, hold_cause-none, MayRequest, MayHold}
+use Rattle.machine_moves.proofs.Causes.{arbiters-length, request_cause-none, hold_cause-none}
 
 -- the sender of a letter of the node's epoch is a member of its view
 pub sender_member : (s : Scene) (n from : ℕ) (body : Body) → IsReady s n → Received s n from body → has from (s.node n).members ≡ true

@@ -1,12 +1,12 @@
 -- From one scene to another by moves of one node, which ends as a certain node and has sent certain letters.
-use Rattle.std.specs.Prelude.{ℕ, zero, suc, ◌≡◌, ◌≢◌, ◌+◌, ◌-◌, ◌<◌, ◌≤◌, Bool, true, false, ◌==◌, List, [], ◌∷◌, ◌++◌, length, take, Option, Some, None, ◌⊎◌, if◌then◌else◌}
-use Rattle.std.proofs.Common.{arith, refl, sym, ap, ◌∙◌, inl, inr, eq-eqb, subst}
+use Rattle.std.specs.Prelude.{ℕ, ◌≡◌, ◌≢◌, ◌-◌, ◌==◌, List, [], ◌++◌, length, take, ◌⊎◌, if◌then◌else◌}
+use Rattle.std.proofs.Common.{refl, sym, ◌∙◌, inl, inr, eq-eqb, subst}
 use Rattle.std.proofs.lemmas.Bool.{cases_eq, ne_eqb}
 use Rattle.zeus_packet.specs.declared.letter.Letter.{Letter}
 use Rattle.zeus_model.specs.In.{In}
 use Rattle.zeus_model.specs.State.{Node}
 use Rattle.zeus_model.specs.Act.{Act, Did, joined, did_joined}
-use Rattle.machine_moves.specs.Scene.{Scene, IsLive, Changes, Same, Sends, nothing}
+use Rattle.machine_moves.specs.Scene.{Scene, IsLive, Changes, Same, nothing}
 use Rattle.machine_moves.specs.Move.{Move, Moves, none, next, IsTellable, tells}
 use Rattle.machine_moves.proofs.Lists.{In-nothing, In-append, In-append_left, In-append_right, In-take, take-append, take-none}
 use Rattle.machine_moves.proofs.Within.{Keeps, Keeps-refl, Keeps-trans}

@@ -1,18 +1,17 @@
 -- A letter that is delivered: what the node does with it is a sequence of moves.
-use Rattle.std.specs.Prelude.{ℕ, ◌≡◌, ◌≢◌, ◌<◌, ◌≤◌, Bool, true, false, ◌&&◌, not, ◌==◌, List, [], ◌∷◌, length, Option, Some, None, ◌⊎◌}
-use Rattle.std.proofs.Common.{arith, refl, sym, ap, ◌∙◌, inl, inr}
-use Rattle.std.proofs.lemmas.Bool.{not-false, eqb-true, and_cases, cases_Bool}
+use Rattle.std.specs.Prelude.{ℕ, ◌≡◌, ◌≤◌, true, false, not, ◌==◌, length, Option, Some, None}
+use Rattle.std.proofs.Common.{refl, inl, inr}
+use Rattle.std.proofs.lemmas.Bool.{not-false, eqb-true, and_cases}
 use Rattle.zeus_packet.specs.declared.letter.Body.{Body}
 use Rattle.zeus_packet.specs.declared.letter.Body.TheVariants.{RInv, RAck, RVal, OReq, OInv, OAck, ONack, OVal, Recovered}
 use Rattle.zeus_packet.specs.declared.letter.Letter.{Letter}
 use Rattle.zeus_model.specs.In.{In}
 use Rattle.zeus_model.specs.declared.answer.Outcome.{Outcome}
 use Rattle.zeus_model.specs.State.{Node, is_open}
-use Rattle.zeus_model.specs.Act.{Did, just}
 use Rattle.zeus_model.specs.Commit.{finish}
 use Rattle.zeus_model.specs.Receive.{needs_open, row, untaken, receive_or_not, receive}
-use Rattle.machine_moves.specs.Scene.{Scene, IsLive, IsReceivable}
-use Rattle.machine_moves.proofs.Steady.{IsSteady, IsKnown}
+use Rattle.machine_moves.specs.Scene.{Scene}
+use Rattle.machine_moves.proofs.Steady.{IsSteady}
 use Rattle.machine_moves.proofs.Reach.{Answered, IsReady, known, still_reaches, cut_none, did_then_reaches}
 use Rattle.machine_moves.proofs.Finish.{finish-reached}
 use Rattle.machine_moves.proofs.Entries.{Received, on_rinv-answered, on_rack-answered, on_rval-answered}

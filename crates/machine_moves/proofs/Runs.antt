@@ -1,16 +1,16 @@
 -- Over whole runs: each step is a sequence of moves, and the live nodes know their numbers.
-use Rattle.std.specs.Prelude.{ℕ, ◌≡◌, ◌≤◌, List, [], ◌∷◌, length, All}
-use Rattle.std.proofs.Common.{arith, refl, sym, ◌∙◌}
+use Rattle.std.specs.Prelude.{◌≡◌, List, [], ◌∷◌, All}
+use Rattle.std.proofs.Common.{◌∙◌}
 use Rattle.std.proofs.lemmas.List.Elements.{All-head, All-tail}
 use Rattle.zeus_base.specs.Limits.{KeepsLimits}
 use Rattle.zeus_base.specs.declared.config.Config.{Config}
 use Rattle.zeus_base.specs.declared.step.Step.{Step}
 use Rattle.zeus_txn.specs.declared.tx.TxDecl.{TxDecl}
 use Rattle.zeus_model.specs.World.{World, start, stepped, run}
-use Rattle.machine_moves.specs.Scene.{Scene, scene, IsNumbered}
+use Rattle.machine_moves.specs.Scene.{scene, IsNumbered}
 use Rattle.machine_moves.specs.Move.{Moves}
 use Rattle.machine_moves.specs.Fits.{StepFits}
-use Rattle.machine_moves.proofs.Steady.{IsSteady, IsNumbered-steady, moves_keep}
+use Rattle.machine_moves.proofs.Steady.{IsNumbered-steady, moves_keep}
 use Rattle.machine_moves.proofs.Steps.{IsStep, IsUsual, step_is_moves}
 use Rattle.machine_moves.proofs.Start.{start_usual, start-config}
 

@@ -1,40 +1,35 @@
 -- Each step of the world is a sequence of moves of its scene.
-use Rattle.std.specs.Prelude.{ℕ, zero, suc, ◌≡◌, ◌≢◌, ◌+◌, ◌-◌, ◌<◌, ◌≤◌, Bool, true, false, ◌&&◌, not, ◌==◌, nat_lt, List, [], ◌∷◌, ◌++◌, length, take, Option, Some, None, ◌⊎◌, if◌then◌else◌}
-use Rattle.std.proofs.Common.{arith, refl, sym, ap, ◌∙◌, inl, inr, subst}
-use Rattle.std.proofs.lemmas.Bool.{cond_both, cases_eq, or_cases, eqb-true, not-false, ltb-true, ltb-false}
-use Rattle.zeus_base.specs.Nodes.{has, is_subset}
+use Rattle.std.specs.Prelude.{ℕ, suc, ◌≡◌, ◌-◌, ◌<◌, ◌≤◌, Bool, true, false, ◌&&◌, not, ◌==◌, nat_lt, List, [], ◌∷◌, ◌++◌, length, take, Option, Some, None, ◌⊎◌, if◌then◌else◌}
+use Rattle.std.proofs.Common.{arith, refl, ap, ◌∙◌, inl, inr, subst}
+use Rattle.std.proofs.lemmas.Bool.{cond_both, or_cases, eqb-true, not-false, ltb-true, ltb-false}
+use Rattle.zeus_base.specs.Nodes.{has}
 use Rattle.zeus_base.specs.NodeLaws.{IsRising, is_subset-from_members}
-use Rattle.zeus_base.specs.declared.config.Config.{Config}
 use Rattle.zeus_base.specs.declared.step.Step.{Step}
 use Rattle.zeus_base.specs.declared.step.Step.TheVariants.{Begin, Try, Deliver, Tick, Stop, View, Install}
 use Rattle.zeus_packet.specs.declared.letter.Letter.{Letter}
-use Rattle.zeus_packet.specs.declared.place.View.{View as NewViewOf}
 use Rattle.zeus_txn.specs.declared.tx.TxDecl.{TxDecl}
-use Rattle.zeus_model.specs.In.{In, here, there}
-use Rattle.zeus_model.specs.Tables.{nth, put, or_else, where_true, first_of}
+use Rattle.zeus_model.specs.Tables.{nth, put, first_of}
 use Rattle.zeus_model.specs.declared.answer.Answer.{Answer}
 use Rattle.zeus_model.specs.declared.answer.Answer.TheVariants.{NoView}
 use Rattle.zeus_model.specs.declared.answer.Install.{Install as Installing}
 use Rattle.zeus_model.specs.declared.answer.Install.TheVariants.{Installed, Stopped as InstallStopped, Old}
 use Rattle.zeus_model.specs.declared.answer.Made.{Made}
-use Rattle.zeus_model.specs.declared.answer.Made.TheVariants.{Empty, NotMember, NotStopped}
 use Rattle.zeus_model.specs.declared.answer.Stop.{Stop as Stopping}
 use Rattle.zeus_model.specs.declared.answer.Stop.TheVariants.{Done, Stopped as StopStopped}
 use Rattle.zeus_model.specs.State.{Node}
 use Rattle.zeus_model.specs.Act.{Did, just, did_then}
 use Rattle.zeus_model.specs.Book.{Book, counted, book_passes, in_stream_order}
 use Rattle.zeus_model.specs.Commit.{finish}
-use Rattle.zeus_model.specs.Local.{begin, try_slot}
+use Rattle.zeus_model.specs.Local.{try_slot}
 use Rattle.zeus_model.specs.Membership.{dropped, install, stop, tick}
-use Rattle.zeus_model.specs.Receive.{receive}
-use Rattle.zeus_model.specs.World.{World, Event, no_node, node, tx_decl, link, all_posted, cut, refuse_step, acted, begin_refused, begun_at, begin_or_not, step_begin, tried_at, nth_letter, received_at, deliver_or_not, ticked_at, stopped_at, installed_at, last_view, is_empty, view_refused, view_or_not, step_install, happens, stepped}
-use Rattle.machine_moves.specs.Scene.{Scene, scene, view, IsLive, NewView, Same, nothing}
+use Rattle.zeus_model.specs.World.{World, Event, no_node, node, tx_decl, link, all_posted, cut, refuse_step, begin_refused, begin_or_not, step_begin, tried_at, nth_letter, received_at, deliver_or_not, ticked_at, stopped_at, installed_at, last_view, view_refused, view_or_not, step_install, happens, stepped}
+use Rattle.machine_moves.specs.Scene.{Scene, scene, view, IsLive, nothing}
 use Rattle.machine_moves.specs.Move.{Move, Moves, none, next, makes_view, stops, installs}
 use Rattle.machine_moves.specs.Fits.{StepFits}
 use Rattle.machine_moves.proofs.Lists.{nth-put_same, nth-put_other, In-nothing}
-use Rattle.machine_moves.proofs.Links.{HasEnds, HasEnds-all_posted, IsOn, In-from_link, nth_letter-In, sent-stay, sent-new, sent-only}
-use Rattle.machine_moves.proofs.Steady.{IsSteady, IsKnown, move_keep}
-use Rattle.machine_moves.proofs.Reach.{Became, Became-changed, Became-trans, Changes-became, changed, Reaches, Answered, IsReady, Moves-reaches, Same-became, Same-refl, still_reaches, Leads}
+use Rattle.machine_moves.proofs.Links.{HasEnds, HasEnds-all_posted, In-from_link, nth_letter-In, sent-stay, sent-new, sent-only}
+use Rattle.machine_moves.proofs.Steady.{IsSteady, move_keep}
+use Rattle.machine_moves.proofs.Reach.{Became, Became-changed, Became-trans, Changes-became, changed, Reaches, IsReady, Moves-reaches, Same-became, Same-refl, still_reaches}
 use Rattle.machine_moves.proofs.Finish.{finish-reached}
 use Rattle.machine_moves.proofs.Causes.{or_else-none, where_true-none}
 use Rattle.machine_moves.proofs.Receiving.{receive-answered}
