@@ -62,3 +62,8 @@ pub fn letters_fit()
     ensures told { (o : Object) (chain : List Proposal) (n : ℕ) (t : Stamp) (place : Place) → IsReached o chain → IsLive o n → In (Validates t place) o.letters → is_below (o.entry n).stamp t ≡ true → place.owner ≡ n → (o.entry n).place.owner ≡ n }
     ensures taken_over { (o : Object) (chain : List Proposal) (a n : ℕ) (p : Proposal) (c : Option Content) → IsReached o chain → IsLive o n → In (Acknowledges a n (o.epoch n) p c) o.letters → is_below (o.entry n).stamp p.base ≡ false → is_below (o.entry n).stamp p.stamp ≡ true → (new_place p).owner ≡ n → p.requester ≢ n → (o.entry n).place.owner ≡ n }
 {}
+
+/// The rules can be met: some moves from the beginning on decide a proposal.
+pub fn rules_can_be_met()
+    ensures { (o : Object) × (chain : List Proposal) × IsReached o chain × (length chain ≡ 1) }
+{}
