@@ -21,19 +21,19 @@ use Rattle.zeus_model.specs.In.{In}
 use Rattle.zeus_model.specs.Tables.{where_true}
 use Rattle.zeus_model.specs.State.{Node, entry, gather, with_gather}
 use Rattle.zeus_model.specs.Membership.{dropped}
-use Rattle.zeus_model.specs.Ownership.{settle, settled_entry, gather_above, holding, is_source, is_node, driven, greater_cause, greater_gather, gather_for, noted, is_decidable, bring}
+use Rattle.zeus_model.specs.Ownership.{settle, holding, is_source, driven, greater_cause, greater_gather, gather_for, noted, is_decidable, bring}
 use Rattle.zeus_model.specs.declared.state.Gather.{Gather}
-use Rattle.machine_moves.specs.Scene.{Scene, IsLive, IsNumbered, IsReceivable, Changes, Same, NewView, nothing, view}
+use Rattle.machine_moves.specs.Scene.{Scene, IsLive, IsNumbered, IsReceivable, Changes, NewView, nothing, view}
 use Rattle.machine_moves.specs.Move.{IsAboutProposal, HasAcked, IsSettling, MayDrive, MayAccept}
 use Rattle.ownership_safety.specs.Object.{Object, Invalidates, Acknowledges, IsSaid, Letter as Said, chain_stamp, place_at, first_stamp}
 use Rattle.ownership_safety.specs.Moves as moves
 use Rattle.ownership_safety.specs.Ordered.{Ordered, IsDecided}
 use Rattle.ownership_safety.proofs.Arbiters.{arbiters-directory, arbiters-source}
-use Rattle.invariants.specs.Objects.{object, about, said_of, declared_entry}
+use Rattle.invariants.specs.Objects.{object, about, declared_entry}
 use Rattle.invariants.proofs.AboutObjects.{sends_object, says, says-oinv, says-oack, about-in}
 use Rattle.invariants.proofs.Frames.{IsQuiet, settle-entry, settle-gather, settle-stopped, settle-epoch, settle-other, holding-entry, holding-other, with_gather-other, bring-quiet, quiet-then, settle-away, dropped-none}
-use Rattle.invariants.proofs.ObjectMoves.{TellsPlace, object-live, acts_object, entry_after, gather_after, entry_before, gather_before, tells_object, quiet_object, quiet_sends, nothing_heard, same_setting, same_others, same_stopped, same_epoch, same_entry_as, same_gather_as}
-use Rattle.invariants.proofs.ObjectSteps.{IsActor, actor, object_view, about_proposal-other, about_proposal-heard, acked-heard, is_node-some, settling-decided, above-first}
+use Rattle.invariants.proofs.ObjectMoves.{object-live, acts_object, entry_after, gather_after, entry_before, gather_before, tells_object, quiet_object, quiet_sends, same_setting, same_others, same_stopped, same_epoch, same_entry_as, same_gather_as}
+use Rattle.invariants.proofs.ObjectSteps.{actor, object_view, about_proposal-other, about_proposal-heard, acked-heard, is_node-some, settling-decided, above-first}
 
 -- what an object sees of a move
 pub data Seen (old new : Object) (chain : List Proposal) : Type 0 where

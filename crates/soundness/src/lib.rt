@@ -12,9 +12,6 @@ ghost use Rattle.machine_moves.specs.Fits.{StepFits};
 
 /// Whatever the steps of a run, no object ever has two live owners.
 pub fn one_owner()
-    ensures {
-        (c : Config) (txs : List TxDecl) (steps : List Step) (x a b : ℕ) → KeepsLimits c → All (StepFits c txs) steps → x < length c.objects
-            → IsLiveOwner (run (start c txs) steps) x a → IsLiveOwner (run (start c txs) steps) x b → a ≡ b
-    }
-{
-}
+    ensures { (c : Config) (txs : List TxDecl) (steps : List Step) (x a b : ℕ) → KeepsLimits c → All (StepFits c txs) steps → x < length c.objects
+        → IsLiveOwner (run (start c txs) steps) x a → IsLiveOwner (run (start c txs) steps) x b → a ≡ b }
+{}
