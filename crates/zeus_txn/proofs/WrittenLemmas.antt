@@ -1,6 +1,6 @@
 -- What a walk over operations knows of the objects that they store.
-use Rattle.std.proofs.Common.{ℕ, Bool, true, false, ◌≡◌, ◌+◌, ◌<◌, ◌≤◌, List, [], ◌∷◌, length, drop, get_or, if◌then◌else◌, refl, sym, ◌∙◌, ap, arith}
-use Rattle.zeus_txn.specs.Ops.{object_of, stores, mentions, mentioned, named, written_after, written}
+use Rattle.std.proofs.Common.{ℕ, Bool, true, false, ◌≡◌, ◌+◌, ◌<◌, ◌≤◌, List, [], ◌∷◌, length, drop, get_or, if◌then◌else◌, refl}
+use Rattle.zeus_txn.specs.Ops.{object_of, stores, mentioned, named, written_after, written}
 use Rattle.zeus_txn.specs.RunLaws.{HasRoom, HasRoom-mentioned}
 use Rattle.zeus_txn.specs.declared.ops.Op.{Op}
 use Rattle.zeus_txn.proofs.Rests.{drop-here, drop-end}

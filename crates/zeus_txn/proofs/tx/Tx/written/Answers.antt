@@ -1,6 +1,6 @@
-use Rattle.std.proofs.Common.{◌≡◌, ◌≤◌, ◌∷◌, [], length, refl, sym, ap, ◌∙◌, arith}
+use Rattle.std.proofs.Common.{◌≤◌, ◌∷◌, [], length, refl, arith}
 use Rattle.zeus_txn.specs.Ops.{named, written, written_after}
-use Rattle.zeus_txn.specs.RunLaws.{HasRoom, HasRoom-none, HasRoom-few}
+use Rattle.zeus_txn.specs.RunLaws.{HasRoom-none, HasRoom-few}
 use Rattle.zeus_txn.proofs.WrittenLemmas.{written_after-step, written_after-room, written-whole}
 use Rattle.zeus_txn.proofs.tx.Tx.written.Goals as goal
 
