@@ -39,7 +39,7 @@ use Rattle.data_safety.proofs.Names.{run-named, raised-from}
 
 -- ---- the entries that a stream's own node keeps
 
-nth-kept : (ps : List Pending) (i : ℕ) → nth no_kept (map as_kept ps) i ≡ as_kept (nth no_pending ps i)
+pub nth-kept : (ps : List Pending) (i : ℕ) → nth no_kept (map as_kept ps) i ≡ as_kept (nth no_pending ps i)
 unfolding nth
 nth-kept [] i = refl
 nth-kept (p ∷ ps) zero = refl
@@ -51,7 +51,7 @@ home-done s t = rw (line-home s t) (own_done_is s t t.node refl)
 pub home-kept : (s : Scene) (t : Stream) → (line s t).kept (line s t).home ≡ own_kept (s.node t.node) t.slot
 home-kept s t = rw (line-home s t) (own_kept_is s t t.node refl)
 
-own-length : (n : Node) (s : ℕ) → length (own_kept n s) ≡ length (slot n s).pending
+pub own-length : (n : Node) (s : ℕ) → length (own_kept n s) ≡ length (slot n s).pending
 unfolding own_kept
 own-length n s = length-map (slot n s).pending as_kept
 
