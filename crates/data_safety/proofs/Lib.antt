@@ -1,0 +1,5 @@
+pub mod Names
+pub mod Consequences
+pub mod Running
+pub mod OwnershipStill
+pub mod OwnershipFrame
