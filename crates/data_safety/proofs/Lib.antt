@@ -3,3 +3,7 @@ pub mod Consequences
 pub mod Running
 pub mod OwnershipStill
 pub mod OwnershipFrame
+pub mod SerialContents
+pub mod SerialRun
+pub mod Booking
+pub mod PassValidated
