@@ -1,1 +1,3 @@
 pub mod RowsReach
+pub mod OrderAdvance
+pub mod OrderSorted
