@@ -7,3 +7,6 @@ pub mod SerialContents
 pub mod SerialRun
 pub mod Booking
 pub mod PassValidated
+pub mod RowsReach
+pub mod OrderAdvance
+pub mod OrderSorted
