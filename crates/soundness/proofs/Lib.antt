@@ -1,2 +1,4 @@
 pub mod Owners
 pub mod Faithfulness
+pub mod Limits
+pub mod Runs
