@@ -1,3 +1,5 @@
 pub mod Owners
 pub mod NeverCauses
 pub mod NeverRows
+pub mod NeverLetters
+pub mod NeverUndeclared
