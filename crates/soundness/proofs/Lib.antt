@@ -3,3 +3,4 @@ pub mod NeverCauses
 pub mod NeverRows
 pub mod NeverLetters
 pub mod NeverUndeclared
+pub mod NeverBare
