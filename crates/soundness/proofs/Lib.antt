@@ -4,3 +4,4 @@ pub mod NeverRows
 pub mod NeverLetters
 pub mod NeverUndeclared
 pub mod NeverBare
+pub mod NeverStart

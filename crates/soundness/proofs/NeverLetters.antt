@@ -54,7 +54,7 @@ line-home : (s : Scene) (t : Stream) → (line s t).home ≡ t.node
 unfolding line
 line-home s t = refl
 
-rinv_expected : (s : Scene) (n : ℕ) (l : Letter) (r : Invalidation) → IsNumbered s → IsLive s n → IsReceivable s n l → l.body ≡ RInv r → IsKept (line s r.stream)
+pub rinv_expected : (s : Scene) (n : ℕ) (l : Letter) (r : Invalidation) → IsNumbered s → IsLive s n → IsReceivable s n l → l.body ≡ RInv r → IsKept (line s r.stream)
     → Expected (s.node n) (RInv r)
 unfolding Expected
 rinv_expected s n l r numbered live at is kept =
@@ -64,7 +64,7 @@ rinv_expected s n l r numbered live at is kept =
       (kept.1.copies l.from l.to l.epoch r.number r.done _ heard).near,
     )
 
-rval_expected : (s : Scene) (n : ℕ) (l : Letter) (t : Stream) (d : ℕ) → IsNumbered s → IsLive s n → IsReceivable s n l → l.body ≡ RVal t d → IsKept (line s t)
+pub rval_expected : (s : Scene) (n : ℕ) (l : Letter) (t : Stream) (d : ℕ) → IsNumbered s → IsLive s n → IsReceivable s n l → l.body ≡ RVal t d → IsKept (line s t)
     → Expected (s.node n) (RVal t d)
 unfolding Expected
 rval_expected s n l t d numbered live at is kept h =
@@ -112,13 +112,13 @@ some-is_node : (o : Option ℕ) (n : ℕ) → o ≡ Some n → is_node o n ≡ t
 unfolding is_node
 some-is_node o n h = rw h (eq-eqb n n refl)
 
-arbiter-known : (s : Scene) (n : ℕ) (place : Place) → IsNumbered s → IsLive s n
+pub arbiter-known : (s : Scene) (n : ℕ) (place : Place) → IsNumbered s → IsLive s n
     → (has n s.config.directory ≡ true) ⊎ (source place (view s (s.node n).epoch) ≡ Some n) → IsArbiterOf (s.node n) place
 arbiter-known s n place numbered live (inl directory) = inl (rw (numbered.me n live, numbered.directory n live) directory)
 arbiter-known s n place numbered live (inr at_source) =
     inr (rw (numbered.me n live, numbered.members n live) (some-is_node (source place (view s (s.node n).epoch)) n at_source))
 
-collector-known : (s : Scene) (n : ℕ) (p : Proposal) → IsNumbered s → IsLive s n
+pub collector-known : (s : Scene) (n : ℕ) (p : Proposal) → IsNumbered s → IsLive s n
     → (p.requester ≡ n) ⊎ (has p.requester (view s (s.node n).epoch) ≡ false) → IsCollectorOf (s.node n) p
 collector-known s n p numbered live (inl mine) = inl (mine ∙ sym (numbered.me n live))
 collector-known s n p numbered live (inr out) = inr (rw (numbered.members n live) out)
@@ -135,7 +135,7 @@ unfolding object
 collector_of s x n l p c chain numbered live at is ordered =
     collector-known s n p numbered live (ack-collector (object s x) chain ordered l.from n p c (heard_oack s x n l p c at is))
 
-oinv_expected : (s : Scene) (x n : ℕ) (l : Letter) (p : Proposal) (chain : List Proposal) → IsNumbered s → IsLive s n → IsReceivable s n l → l.body ≡ OInv x p
+pub oinv_expected : (s : Scene) (x n : ℕ) (l : Letter) (p : Proposal) (chain : List Proposal) → IsNumbered s → IsLive s n → IsReceivable s n l → l.body ≡ OInv x p
     → Ordered (object s x) chain → Expected (s.node n) (OInv x p)
 unfolding Expected
 oinv_expected s x n l p chain numbered live at is ordered =
@@ -146,7 +146,7 @@ oinv_expected s x n l p chain numbered live at is ordered =
           (λ below named. base-own_place o chain ordered n (s.node n).epoch p (object-live s x n live) (inl (l.from, n, heard)) below named),
     )
 
-oack_expected : (s : Scene) (x n : ℕ) (l : Letter) (p : Proposal) (c : Option Content) (chain : List Proposal) → IsNumbered s → IsLive s n → IsReceivable s n l
+pub oack_expected : (s : Scene) (x n : ℕ) (l : Letter) (p : Proposal) (c : Option Content) (chain : List Proposal) → IsNumbered s → IsLive s n → IsReceivable s n l
     → l.body ≡ OAck x p c → Ordered (object s x) chain → Expected (s.node n) (OAck x p c)
 unfolding Expected object
 oack_expected s x n l p c chain numbered live at is ordered =
@@ -159,7 +159,7 @@ oack_expected s x n l p c chain numbered live at is ordered =
           (λ not_below below named other. ack-own_place o chain ordered l.from n p c (object-live s x n live) heard not_below below named other),
     )
 
-oval_expected : (s : Scene) (x n : ℕ) (l : Letter) (t : Stamp) (place : Place) (chain : List Proposal) → IsNumbered s → IsLive s n → IsReceivable s n l
+pub oval_expected : (s : Scene) (x n : ℕ) (l : Letter) (t : Stamp) (place : Place) (chain : List Proposal) → IsNumbered s → IsLive s n → IsReceivable s n l
     → l.body ≡ OVal x t place → Ordered (object s x) chain → Expected (s.node n) (OVal x t place)
 unfolding Expected
 oval_expected s x n l t place chain numbered live at is ordered =

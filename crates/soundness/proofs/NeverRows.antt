@@ -256,7 +256,7 @@ collector-kept : (n m : Node) (p : Proposal) → Keeps n m → IsCollectorOf n p
 collector-kept n m p k a = rw (k.me, k.members) a
 
 -- the owner of the placement that the proposal makes, where the base is settled
-owner-settled : (place : Place) (p : Proposal) (me : ℕ) → place ≡ p.base_place → (new_place p).owner ≡ me → p.requester ≢ me → place.owner ≡ me
+pub owner-settled : (place : Place) (p : Proposal) (me : ℕ) → place ≡ p.base_place → (new_place p).owner ≡ me → p.requester ≢ me → place.owner ≡ me
 owner-settled place p me is named other =
     elim (new_place-owner p) [
       | inl requester ↦ absurd (other (sym requester ∙ named))
