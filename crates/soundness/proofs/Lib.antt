@@ -5,3 +5,4 @@ pub mod NeverLetters
 pub mod NeverUndeclared
 pub mod NeverBare
 pub mod NeverStart
+pub mod NeverReceive
