@@ -1,35 +1,27 @@
 -- Over whole runs nothing comes of undeclared objects.
-use Rattle.std.specs.Prelude.{ℕ, zero, suc, ◌≡◌, ◌≢◌, ◌-◌, ◌<◌, ◌≤◌, ◌+◌, true, false, List, [], ◌∷◌, ◌++◌, length, map, All, Option, Some, None, ◌⊎◌, if◌then◌else◌}
+use Rattle.std.specs.Prelude.{ℕ, ◌≡◌, ◌-◌, ◌≤◌, true, List, [], ◌∷◌, ◌++◌, length, Option, Some, None}
 use Rattle.std.proofs.Common.{arith, refl, sym, ap, ◌∙◌, inl, inr, subst}
-use Rattle.std.proofs.lemmas.Bool.{cases_eq, cases_lt}
-use Rattle.std.proofs.lemmas.List.Elements.{All-head, All-tail}
-use Rattle.zeus_base.specs.Limits.{KeepsLimits}
-use Rattle.zeus_base.specs.Nodes.{has}
+use Rattle.std.proofs.lemmas.Bool.{cases_eq}
 use Rattle.zeus_base.specs.Order.{is_below}
 use Rattle.zeus_base.specs.declared.config.Config.{Config}
-use Rattle.zeus_base.specs.declared.config.ObjectDecl.{ObjectDecl}
 use Rattle.zeus_base.specs.declared.order.Stamp.{Stamp}
-use Rattle.zeus_base.specs.declared.step.Step.{Step}
-use Rattle.zeus_packet.specs.Place.{arbiters, new_place}
+use Rattle.zeus_packet.specs.Place.{new_place}
 use Rattle.zeus_packet.specs.declared.letter.Body.{Body}
-use Rattle.zeus_packet.specs.declared.letter.Body.TheVariants.{RInv, RAck, RVal, OReq, OInv, OAck, ONack, OVal, Recovered}
+use Rattle.zeus_packet.specs.declared.letter.Body.TheVariants.{OInv, OAck}
 use Rattle.zeus_packet.specs.declared.letter.Letter.{Letter}
 use Rattle.zeus_packet.specs.declared.place.Place.{Place}
 use Rattle.zeus_packet.specs.declared.place.Proposal.{Proposal}
 use Rattle.zeus_packet.specs.declared.write.Content.{Content}
-use Rattle.zeus_txn.specs.declared.tx.TxDecl.{TxDecl}
-use Rattle.zeus_model.specs.In.{In}
 use Rattle.zeus_model.specs.Tables.{nth}
-use Rattle.zeus_model.specs.State.{Node, entry, copy, gather}
-use Rattle.zeus_model.specs.Act.{letter}
-use Rattle.zeus_model.specs.Local.{run_here, with_current}
-use Rattle.zeus_model.specs.Ownership.{settle, holding, driven, own_content, bring, is_decidable}
+use Rattle.zeus_model.specs.State.{Node, entry, gather}
+use Rattle.zeus_model.specs.Local.{run_here}
+use Rattle.zeus_model.specs.Ownership.{settle, holding, driven, own_content, bring}
 use Rattle.zeus_model.specs.declared.state.Gather.{Gather}
-use Rattle.machine_moves.specs.Scene.{Scene, IsLive, IsReceivable, Changes, NewView, Same, nothing}
+use Rattle.machine_moves.specs.Scene.{Scene, IsReceivable, Changes, NewView, Same, nothing}
 use Rattle.machine_moves.specs.Move.{IsTellable, request, advice, placement, reported, own_entry, kept_entry, stored, own_passed, kept_passed, IsAboutProposal, to_arbiter, to_collector, IsSettling, by_invalidation, by_acknowledgement, by_decision, Move, makes_view, stops, installs, tells, turns, settles, drives, accepts, redrives, gathers, decides, raises, stores, notes_own, notes_kept, passes_own, passes_kept, reports, hears, commits, Moves, none, next}
 use Rattle.machine_moves.proofs.Lists.{nth-append}
-use Rattle.machine_moves.proofs.Steady.{IsSteady, IsKnown, IsFair, move_keep}
-use Rattle.ownership_safety.specs.Object.{first_stamp, no_place}
+use Rattle.machine_moves.proofs.Steady.{IsSteady, IsKnown, move_keep}
+use Rattle.ownership_safety.specs.Object.{first_stamp}
 use Rattle.soundness.proofs.NeverUndeclared.{IsBareProposal, HasNoContent, IsBareHeld, IsBareNode, SaysBare, IsBareLetter, IsBare, bare-as, bare-with_slot, bare-with_log, bare-raise, bare-store, bare-pass_own, bare-pass_kept, bare-committed, bare-holding, bare-noted, bare-settle_other, bare-bring_other, never_settled, bare-installed, bare-content}
 
 -- ---- letters

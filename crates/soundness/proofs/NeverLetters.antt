@@ -1,33 +1,31 @@
 -- What a node may expect of the letters of a run, whose streams are replicated and whose declared objects are in order.
-use Rattle.std.specs.Prelude.{ℕ, ◌≡◌, ◌≢◌, ◌+◌, ◌-◌, ◌<◌, ◌≤◌, true, false, List, Option, Some, None, ◌⊎◌}
-use Rattle.std.proofs.Common.{arith, refl, sym, ap, ◌∙◌, inl, inr, subst, eq-eqb}
+use Rattle.std.specs.Prelude.{ℕ, ◌≡◌, ◌≢◌, true, false, List, Option, Some, ◌⊎◌}
+use Rattle.std.proofs.Common.{refl, sym, ap, ◌∙◌, inl, inr, subst, eq-eqb}
 use Rattle.zeus_base.specs.Nodes.{has}
 use Rattle.zeus_base.specs.Order.{is_below}
 use Rattle.zeus_base.specs.declared.order.Stamp.{Stamp}
 use Rattle.zeus_base.specs.declared.order.Stream.{Stream}
 use Rattle.zeus_packet.specs.Place.{source}
 use Rattle.zeus_packet.specs.declared.letter.Body.{Body}
-use Rattle.zeus_packet.specs.declared.letter.Body.TheVariants.{RInv, RAck, RVal, OReq, OInv, OAck, ONack, OVal, Recovered}
+use Rattle.zeus_packet.specs.declared.letter.Body.TheVariants.{RInv, RVal, OInv, OAck, OVal}
 use Rattle.zeus_packet.specs.declared.letter.Letter.{Letter}
 use Rattle.zeus_packet.specs.declared.letter.RInv.{RInv as Invalidation}
 use Rattle.zeus_packet.specs.declared.place.Place.{Place}
 use Rattle.zeus_packet.specs.declared.place.Proposal.{Proposal}
 use Rattle.zeus_packet.specs.declared.write.Content.{Content}
 use Rattle.zeus_model.specs.In.{In}
-use Rattle.zeus_model.specs.Tables.{nth}
-use Rattle.zeus_model.specs.State.{Node, entry}
+use Rattle.zeus_model.specs.State.{entry}
 use Rattle.zeus_model.specs.Ownership.{is_node}
 use Rattle.zeus_model.specs.declared.state.Entry.{Entry}
 use Rattle.machine_moves.specs.Scene.{Scene, IsLive, IsNumbered, IsReceivable, view}
-use Rattle.ownership_safety.specs.Object.{Object, Invalidates, Acknowledges, Validates}
+use Rattle.ownership_safety.specs.Object.{Invalidates, Acknowledges, Validates}
 use Rattle.ownership_safety.specs.Ordered.{Ordered}
 use Rattle.ownership_safety.proofs.Received.{invalidation-either, base-own_place, told-own_place, ack-collector, ack-own_place}
-use Rattle.replication_safety.specs.Line.{Line, Stores, Passes}
-use Rattle.replication_safety.specs.Replicated.{Replicated}
+use Rattle.replication_safety.specs.Line.{Stores, Passes}
 use Rattle.replication_safety.proofs.Received.{stores-foreign, passes-foreign}
-use Rattle.invariants.specs.Objects.{object, about, said_of}
-use Rattle.invariants.specs.Lines.{line, about as about_stream, said_of as said_of_stream}
-use Rattle.invariants.proofs.AboutObjects.{says, about-in, says-oinv, says-oack, says-oval, object-entry}
+use Rattle.invariants.specs.Objects.{object, said_of}
+use Rattle.invariants.specs.Lines.{line, said_of as said_of_stream}
+use Rattle.invariants.proofs.AboutObjects.{about-in, says-oinv, says-oack, says-oval, object-entry}
 use Rattle.invariants.proofs.AboutLines.{about-in as about_stream-in, says-rinv, says-rval}
 use Rattle.invariants.proofs.LineKeeps.{IsKept}
 use Rattle.invariants.proofs.ObjectMoves.{object-live}
@@ -101,7 +99,7 @@ keeps_owner s x n stamp place numbered live h below named =
 
 keeps_owner_in : (s : Scene) (x n : ℕ) (p : Proposal) → IsNumbered s → IsLive s n
     → (is_below ((object s x).entry n).stamp p.base ≡ false → is_below ((object s x).entry n).stamp p.stamp ≡ true
-      → (Rattle.zeus_packet.specs.Place.new_place p).owner ≡ n → p.requester ≢ n → ((object s x).entry n).place.owner ≡ n)
+    → (Rattle.zeus_packet.specs.Place.new_place p).owner ≡ n → p.requester ≢ n → ((object s x).entry n).place.owner ≡ n)
     → KeepsOwnerIn (s.node n) x p
 keeps_owner_in s x n p numbered live h not_below below named other =
     let there : (object s x).entry n ≡ entry (s.node n) x = object-entry s x n (numbered.within n live) in

@@ -1,16 +1,15 @@
 -- No letter of a run is ever refused for a cause that never stands.
-use Rattle.std.specs.Prelude.{ℕ, ◌≡◌, ◌≢◌, ◌-◌, ◌<◌, ◌≤◌, Bool, true, false, ◌&&◌, not, ◌==◌, nat_lt, List, [], ◌∷◌, length, All, Option, Some, None, is_some, is_none, ◌⊎◌, if◌then◌else◌}
-use Rattle.std.proofs.Common.{arith, refl, sym, ap, ◌∙◌, inl, inr, subst}
+use Rattle.std.specs.Prelude.{ℕ, ◌≡◌, Bool, true, false, ◌&&◌, not, ◌==◌, nat_lt, List, length, All, Option, Some, None, is_some, is_none, ◌⊎◌}
+use Rattle.std.proofs.Common.{refl, sym, ◌∙◌, inl, inr}
 use Rattle.std.proofs.lemmas.Bool.{cond_both, cases_Bool, cases_lt, not-false, eqb-true}
 use Rattle.zeus_base.specs.Limits.{KeepsLimits}
 use Rattle.zeus_base.specs.Nodes.{has}
-use Rattle.zeus_base.specs.Order.{is_below}
 use Rattle.zeus_base.specs.declared.config.Config.{Config}
 use Rattle.zeus_base.specs.declared.order.Stamp.{Stamp}
 use Rattle.zeus_base.specs.declared.order.Stream.{Stream}
 use Rattle.zeus_base.specs.declared.step.Step.{Step}
 use Rattle.zeus_base.specs.declared.step.Step.TheVariants.{Begin, Try, Deliver, Tick, Stop, View, Install}
-use Rattle.zeus_packet.specs.Place.{source, arbiters, new_place}
+use Rattle.zeus_packet.specs.Place.{arbiters}
 use Rattle.zeus_packet.specs.declared.letter.Body.{Body}
 use Rattle.zeus_packet.specs.declared.letter.Body.TheVariants.{RInv, RAck, RVal, OReq, OInv, OAck, ONack, OVal, Recovered}
 use Rattle.zeus_packet.specs.declared.letter.Letter.{Letter}
@@ -21,33 +20,32 @@ use Rattle.zeus_txn.specs.declared.tx.TxDecl.{TxDecl}
 use Rattle.zeus_model.specs.In.{In}
 use Rattle.zeus_model.specs.Tables.{or_else, where_true}
 use Rattle.zeus_model.specs.declared.answer.Answer.{Answer}
-use Rattle.zeus_model.specs.declared.answer.Answer.TheVariants.{Begin as BeginAnswer, Twice, Waits, NoView, NoPacket}
+use Rattle.zeus_model.specs.declared.answer.Answer.TheVariants.{Begin as BeginAnswer, Twice, Waits}
 use Rattle.zeus_model.specs.declared.answer.Begin.TheVariants.{Stopped as BeginStopped}
 use Rattle.zeus_model.specs.declared.answer.Made.{Made}
 use Rattle.zeus_model.specs.declared.answer.Outcome.{Outcome}
 use Rattle.zeus_model.specs.declared.answer.Outcome.TheVariants.{Stopped, NotMine, OtherEpoch, NotOpen}
 use Rattle.zeus_model.specs.Book.{record_of}
 use Rattle.zeus_model.specs.State.{Node, entry, is_open}
-use Rattle.zeus_model.specs.Receive.{needs_open, row, untaken, receive_or_not, receive}
-use Rattle.zeus_model.specs.World.{World, Event, node, tx_decl, link, start, run, stepped, happens, refuse_step, waits_for, begin_refused, begin_or_not, step_begin, tried_at, nth_letter, received_at, deliver_or_not, ticked_at, stopped_at, installed_at, view_refused, view_or_not, step_install}
+use Rattle.zeus_model.specs.Receive.{needs_open, untaken, receive_or_not, receive}
+use Rattle.zeus_model.specs.World.{World, Event, node, tx_decl, link, start, run, happens, waits_for, begin_refused, begin_or_not, step_begin, tried_at, nth_letter, received_at, deliver_or_not, ticked_at, stopped_at, installed_at, view_refused, view_or_not, step_install}
 use Rattle.machine_moves.specs.Fits.{StepFits}
 use Rattle.machine_moves.specs.Scene.{Scene, scene, IsLive, IsNumbered, IsReceivable, view}
 use Rattle.machine_moves.proofs.Causes.{or_else-none, where_true-none}
 use Rattle.machine_moves.proofs.Links.{HasEnds, In-from_link, nth_letter-In}
 use Rattle.machine_moves.proofs.Runs.{reached_usual, run_numbered}
-use Rattle.machine_moves.proofs.Steps.{IsUsual}
-use Rattle.ownership_safety.specs.Object.{first_stamp, no_place}
+use Rattle.ownership_safety.specs.Object.{first_stamp}
 use Rattle.ownership_safety.proofs.Arbiters.{arbiters-either}
 use Rattle.invariants.specs.Lines.{line}
 use Rattle.invariants.specs.Objects.{object}
 use Rattle.invariants.proofs.LineKeeps.{IsKept}
 use Rattle.invariants.proofs.ObjectKeeps.{IsInOrder}
 use Rattle.invariants.proofs.Runs.{run_ordered, run_replicated}
-use Rattle.soundness.specs.Refusals.{NeverStands, IsNeverRefused, NeverComes}
-use Rattle.soundness.proofs.NeverRows.{KeepsOwner, KeepsOwnerIn, IsCollectorOf, Expected, MayCome, owner-settled, row-may}
+use Rattle.soundness.specs.Refusals.{IsNeverRefused, NeverComes}
+use Rattle.soundness.proofs.NeverRows.{KeepsOwner, IsCollectorOf, Expected, MayCome, owner-settled, row-may}
 use Rattle.soundness.proofs.NeverCauses.{IsArbiterOf}
 use Rattle.soundness.proofs.NeverLetters.{arbiter-known, collector-known, rinv_expected, rval_expected, oinv_expected, oack_expected, oval_expected}
-use Rattle.soundness.proofs.NeverUndeclared.{IsBareProposal, IsBareNode, SaysBare, IsBareLetter, IsBare, never_settled}
+use Rattle.soundness.proofs.NeverUndeclared.{SaysBare, IsBare, never_settled}
 use Rattle.soundness.proofs.NeverStart.{run_bare}
 
 -- ---- letters about undeclared objects

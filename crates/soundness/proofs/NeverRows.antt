@@ -1,12 +1,12 @@
 -- What a node answers a letter that it may expect: no cause that never stands.
-use Rattle.std.specs.Prelude.{ℕ, ◌≡◌, ◌≢◌, ◌+◌, ◌-◌, ◌<◌, ◌≤◌, Bool, true, false, ◌&&◌, not, ◌==◌, nat_lt, List, [], ◌∷◌, ◌++◌, length, take, drop, Option, Some, None, is_none, ◌⊎◌, if◌then◌else◌}
-use Rattle.std.proofs.Common.{arith, refl, sym, ap, ◌∙◌, inl, inr, subst, eq-eqb}
-use Rattle.std.proofs.lemmas.Bool.{cond_both, cases_Bool, cases_lt, and_parts, ltb-true, ltb-false, eqb-true, eqb-false, ne_eqb}
+use Rattle.std.specs.Prelude.{ℕ, ◌≡◌, ◌≢◌, ◌+◌, ◌-◌, ◌<◌, Bool, true, false, ◌&&◌, not, ◌==◌, nat_lt, length, take, drop, Option, Some, None, ◌⊎◌, if◌then◌else◌}
+use Rattle.std.proofs.Common.{arith, refl, sym, ap, ◌∙◌, inl, inr, eq-eqb}
+use Rattle.std.proofs.lemmas.Bool.{cond_both, cases_Bool, ltb-false, eqb-true, eqb-false}
 use Rattle.zeus_base.specs.Nodes.{has}
 use Rattle.zeus_base.specs.Order.{is_below}
 use Rattle.zeus_base.specs.declared.order.Stamp.{Stamp}
 use Rattle.zeus_base.specs.declared.order.Stream.{Stream}
-use Rattle.zeus_packet.specs.Place.{source, new_place}
+use Rattle.zeus_packet.specs.Place.{new_place}
 use Rattle.zeus_packet.specs.declared.letter.Body.{Body}
 use Rattle.zeus_packet.specs.declared.letter.Body.TheVariants.{RInv, RAck, RVal, OReq, OInv, OAck, ONack, OVal, Recovered}
 use Rattle.zeus_packet.specs.declared.letter.Cause.{Cause}
@@ -20,15 +20,15 @@ use Rattle.zeus_model.specs.declared.answer.Outcome.{Outcome}
 use Rattle.zeus_model.specs.declared.answer.Outcome.TheVariants.{Taken, Again, Gap, Older, Settled, Refused}
 use Rattle.zeus_model.specs.declared.state.Gather.{Gather}
 use Rattle.zeus_model.specs.Tables.{or_else, where_true}
-use Rattle.zeus_model.specs.State.{Node, StreamLog, entry, gather, slot, log, with_slot, with_log}
-use Rattle.zeus_model.specs.Act.{Did, just, sends, letter}
-use Rattle.zeus_model.specs.Commit.{after_passing, raise, store, next_kept, stored_rinv, on_rinv, on_rack, on_own_rack, on_kept_rack, on_rval, is_within}
-use Rattle.zeus_model.specs.Ownership.{settle, settled_entry, is_source, is_node, is_held, answer_request, request_cause, on_oreq, answer_settled, takes_over, rebased, refusal, hold_cause, hold_or_refuse, oinv_on_base, on_oinv, greater_gather, gather_for, is_noted, take_ack, gather_or_older, collect_cause, collect_or_refuse, oack_on_base, on_oack, on_oval}
+use Rattle.zeus_model.specs.State.{Node, StreamLog, entry, gather, slot, log, with_log}
+use Rattle.zeus_model.specs.Act.{Did}
+use Rattle.zeus_model.specs.Commit.{after_passing, raise, next_kept, stored_rinv, on_rinv, on_rack, on_own_rack, on_kept_rack, on_rval, is_within}
+use Rattle.zeus_model.specs.Ownership.{settle, is_held, answer_request, request_cause, on_oreq, takes_over, rebased, refusal, hold_cause, hold_or_refuse, oinv_on_base, on_oinv, greater_gather, gather_for, is_noted, take_ack, gather_or_older, collect_cause, collect_or_refuse, oack_on_base, on_oack, on_oval}
 use Rattle.zeus_model.specs.Receive.{on_recovered, row}
 use Rattle.machine_moves.proofs.Within.{Keeps, Keeps-refl, Keeps-settle, log-with_log_same}
 use Rattle.machine_moves.proofs.Proposals.{settle-entry}
 use Rattle.ownership_safety.proofs.Arbiters.{new_place-owner}
-use Rattle.soundness.specs.Refusals.{NeverStands, IsNeverRefused}
+use Rattle.soundness.specs.Refusals.{IsNeverRefused}
 use Rattle.soundness.proofs.NeverCauses.{MayStand, IsArbiterOf, request-may, hold-may}
 
 -- a stamp and a placement, above the settled ones, that name the node as owner only where these do

@@ -1,28 +1,25 @@
 -- At the start of a run nothing is there of undeclared objects, and so it stays.
-use Rattle.std.specs.Prelude.{ℕ, zero, suc, ◌≡◌, ◌+◌, ◌<◌, ◌≤◌, List, [], ◌∷◌, length, map, replicate, All, Option, Some, None, ◌⊎◌}
+use Rattle.std.specs.Prelude.{ℕ, suc, ◌≡◌, ◌+◌, ◌≤◌, List, [], ◌∷◌, length, map, replicate, All, None}
 use Rattle.std.proofs.Common.{arith, refl, sym, ap, ◌∙◌, inl, inr, subst}
 use Rattle.std.proofs.lemmas.Bool.{cases_lt}
 use Rattle.std.proofs.lemmas.List.Elements.{All-head, All-tail}
 use Rattle.zeus_base.specs.Limits.{KeepsLimits}
 use Rattle.zeus_base.specs.declared.config.Config.{Config}
-use Rattle.zeus_base.specs.declared.config.ObjectDecl.{ObjectDecl}
 use Rattle.zeus_base.specs.declared.step.Step.{Step}
 use Rattle.zeus_packet.specs.declared.letter.Letter.{Letter}
 use Rattle.zeus_txn.specs.declared.tx.TxDecl.{TxDecl}
 use Rattle.zeus_model.specs.In.{In}
 use Rattle.zeus_model.specs.Tables.{nth, below}
 use Rattle.zeus_model.specs.State.{Node, no_entry, entry, copy, gather}
-use Rattle.zeus_model.specs.World.{World, no_node, node, link, start, start_node, start_entry, start_copy, start_gather, stepped, run}
-use Rattle.zeus_model.specs.declared.state.Copy.{Copy}
-use Rattle.zeus_model.specs.declared.state.Gather.{Gather}
+use Rattle.zeus_model.specs.World.{World, no_node, link, start, start_node, start_entry, start_copy, start_gather, stepped, run}
 use Rattle.machine_moves.specs.Fits.{StepFits}
-use Rattle.machine_moves.specs.Scene.{Scene, scene}
+use Rattle.machine_moves.specs.Scene.{scene}
 use Rattle.machine_moves.proofs.Links.{In-to_link}
 use Rattle.machine_moves.proofs.Lists.{In-nothing, nth-past, nth-map_numbers, length-map_numbers, nth-replicate}
 use Rattle.machine_moves.proofs.Runs.{usual_after}
 use Rattle.machine_moves.proofs.Start.{start_usual, start-config}
 use Rattle.machine_moves.proofs.Steps.{IsStep, IsUsual, step_is_moves}
-use Rattle.soundness.proofs.NeverUndeclared.{HasNoContent, IsBareHeld, IsBareNode, IsBareLetter, IsBare}
+use Rattle.soundness.proofs.NeverUndeclared.{HasNoContent, IsBareHeld, IsBareNode, IsBare}
 use Rattle.soundness.proofs.NeverBare.{moves_bare}
 
 length-map : {A B : Type 0} (f : A → B) (xs : List A) → length (map f xs) ≡ length xs

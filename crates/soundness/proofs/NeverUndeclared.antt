@@ -1,15 +1,15 @@
 -- Objects that were not declared: nobody has a copy, nothing about them is ever decided, and what is said of them fits that.
-use Rattle.std.specs.Prelude.{ℕ, zero, suc, ◌≡◌, ◌≢◌, ◌==◌, ◌-◌, ◌<◌, ◌≤◌, nat_lt, Bool, true, false, List, [], ◌∷◌, ◌++◌, take, drop, map, length, Option, Some, None, ◌⊎◌, if◌then◌else◌}
-use Rattle.std.proofs.Common.{arith, refl, sym, ap, ◌∙◌, inl, inr, subst}
-use Rattle.std.proofs.lemmas.Bool.{cond_both, cases_Bool, cases_eq}
+use Rattle.std.specs.Prelude.{ℕ, zero, suc, ◌≡◌, ◌≢◌, ◌==◌, ◌-◌, nat_lt, true, false, List, [], ◌∷◌, take, Option, Some, None}
+use Rattle.std.proofs.Common.{refl, sym, ap, ◌∙◌, inl, inr, subst}
+use Rattle.std.proofs.lemmas.Bool.{cond_both, cases_eq}
 use Rattle.zeus_base.specs.Nodes.{has}
 use Rattle.zeus_base.specs.Order.{is_below}
 use Rattle.zeus_base.specs.OrderLaws.{is_below-irrefl}
 use Rattle.zeus_base.specs.declared.order.Stamp.{Stamp}
 use Rattle.zeus_base.specs.declared.order.Stream.{Stream}
-use Rattle.zeus_packet.specs.Place.{source, arbiters, new_place}
+use Rattle.zeus_packet.specs.Place.{arbiters}
 use Rattle.zeus_packet.specs.declared.letter.Body.{Body}
-use Rattle.zeus_packet.specs.declared.letter.Body.TheVariants.{RInv, RAck, RVal, OReq, OInv, OAck, ONack, OVal, Recovered}
+use Rattle.zeus_packet.specs.declared.letter.Body.TheVariants.{OInv, OAck, OVal}
 use Rattle.zeus_packet.specs.declared.letter.Letter.{Letter}
 use Rattle.zeus_packet.specs.declared.letter.RInv.{RInv as Invalidation}
 use Rattle.zeus_packet.specs.declared.place.Place.{Place}
@@ -19,12 +19,11 @@ use Rattle.zeus_packet.specs.declared.write.Write.{Write}
 use Rattle.zeus_txn.specs.declared.reply.Ran.{Ran}
 use Rattle.zeus_model.specs.In.{In}
 use Rattle.zeus_model.specs.Tables.{nth, put, or_else}
-use Rattle.zeus_model.specs.Act.{letter}
 use Rattle.zeus_model.specs.declared.state.Copy.{Copy}
 use Rattle.zeus_model.specs.declared.state.Current.{Current}
 use Rattle.zeus_model.specs.declared.state.Entry.{Entry}
 use Rattle.zeus_model.specs.declared.state.Gather.{Gather}
-use Rattle.zeus_model.specs.State.{Node, Slot, StreamLog, no_entry, entry, copy, gather, slot, log, with_entry, with_copy, with_copies, with_gather, with_slot, with_log}
+use Rattle.zeus_model.specs.State.{Node, Slot, StreamLog, no_entry, entry, copy, gather, log, with_entry, with_copy, with_copies, with_gather, with_slot, with_log}
 use Rattle.zeus_model.specs.Commit.{validated, applied, each_write, raise, store, after_passing, pass_own, pass_kept}
 use Rattle.zeus_model.specs.Local.{rewritten_copy, committed}
 use Rattle.zeus_model.specs.Membership.{dropped}

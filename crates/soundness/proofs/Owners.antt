@@ -1,6 +1,6 @@
 -- No object has two live owners.
 use Rattle.std.specs.Prelude.{ℕ, ◌≡◌, ◌==◌, ◌<◌, Bool, true, false, ◌&&◌, List, length, Option, Some, None, is_none, All}
-use Rattle.std.proofs.Common.{refl, sym, ap, ◌∙◌, arith}
+use Rattle.std.proofs.Common.{refl, ◌∙◌, arith}
 use Rattle.std.proofs.lemmas.Bool.Decides.{nat_tests}
 use Rattle.zeus_base.specs.Limits.{KeepsLimits}
 use Rattle.zeus_base.specs.declared.config.Config.{Config}
@@ -11,9 +11,9 @@ use Rattle.zeus_model.specs.Sound.{IsLiveOwner}
 use Rattle.zeus_model.specs.State.{Node, entry, owns}
 use Rattle.zeus_model.specs.World.{World, run, start, node}
 use Rattle.machine_moves.specs.Fits.{StepFits}
-use Rattle.machine_moves.specs.Scene.{Scene, scene, IsNumbered}
+use Rattle.machine_moves.specs.Scene.{scene, IsNumbered}
 use Rattle.machine_moves.proofs.Runs.{run_numbered}
-use Rattle.ownership_safety.specs.Object.{Object, IsOwner}
+use Rattle.ownership_safety.specs.Object.{IsOwner}
 use Rattle.ownership_safety.proofs.Owner.{one_owner}
 use Rattle.invariants.specs.Objects.{object}
 use Rattle.invariants.proofs.ObjectMoves.{object-live}
@@ -36,6 +36,7 @@ owning n x h = both ((entry n x).place.owner == n.me) (is_none (entry n x).propo
   where
     owner_is : (n : Node) (x : ℕ) → ((entry n x).place.owner == n.me) ≡ true → (entry n x).place.owner ≡ n.me
     owner_is n x t = grind (arith, nat_tests)
+
     both : (a b : Bool) → (a && b) ≡ true → (a ≡ true → (entry n x).place.owner ≡ n.me) → (b ≡ true → (entry n x).proposal ≡ None) → Owning n x
     both true b t f g = record { owner = f refl; free = g t }
     both false b t f g = cc
@@ -67,4 +68,4 @@ run_one_owner c txs steps x a b keeps fits within first second =
     let order : IsInOrder (object (scene (run (start c txs) steps)) x) = run_ordered c txs steps x keeps fits within in
     let numbered : IsNumbered (scene (run (start c txs) steps)) = run_numbered c txs steps keeps fits in
     one_owner (object (scene (run (start c txs) steps)) x) order.0 order.1 a b
-        (live_owner (run (start c txs) steps) x a numbered first) (live_owner (run (start c txs) steps) x b numbered second)
+    (live_owner (run (start c txs) steps) x a numbered first) (live_owner (run (start c txs) steps) x b numbered second)
