@@ -1,6 +1,6 @@
 -- Over whole runs: every object is in order and every stream replicated, whatever the steps.
-use Rattle.std.specs.Prelude.{ℕ, ◌≡◌, ◌<◌, List, [], ◌∷◌, ◌++◌, length, All}
-use Rattle.std.proofs.Common.{refl, sym, ap, ◌∙◌}
+use Rattle.std.specs.Prelude.{ℕ, ◌≡◌, ◌<◌, List, [], ◌∷◌, length, All}
+use Rattle.std.proofs.Common.{◌∙◌}
 use Rattle.std.proofs.lemmas.List.Elements.{All-head, All-tail}
 use Rattle.zeus_base.specs.Limits.{KeepsLimits}
 use Rattle.zeus_base.specs.declared.config.Config.{Config}
@@ -9,8 +9,7 @@ use Rattle.zeus_base.specs.declared.step.Step.{Step}
 use Rattle.zeus_txn.specs.declared.tx.TxDecl.{TxDecl}
 use Rattle.zeus_model.specs.World.{World, start, stepped, run}
 use Rattle.machine_moves.specs.Fits.{StepFits}
-use Rattle.machine_moves.specs.Move.{Moves}
-use Rattle.machine_moves.specs.Scene.{Scene, scene}
+use Rattle.machine_moves.specs.Scene.{scene}
 use Rattle.machine_moves.proofs.Runs.{usual_after}
 use Rattle.machine_moves.proofs.Start.{start_usual, start-config}
 use Rattle.machine_moves.proofs.Steps.{IsStep, IsUsual, step_is_moves}
@@ -36,13 +35,13 @@ pub run_ordered : (c : Config) (txs : List TxDecl) (steps : List Step) (x : ℕ)
     → IsInOrder (object (scene (run (start c txs) steps)) x)
 run_ordered c txs steps x keeps fits within =
     run_keeps c txs (λ (w : World). IsInOrder (object (scene w) x))
-        (λ w s is u fit before. let step : IsStep w (stepped w s) = step_is_moves w s txs u (rw is fit) in moves-order (scene w) (scene (stepped w s)) x u.steady before step.moves)
-        steps (start c txs) (start-config c txs) (start_usual c txs keeps) fits (start_object c txs x keeps within)
+    (λ w s is u fit before. let step : IsStep w (stepped w s) = step_is_moves w s txs u (rw is fit) in moves-order (scene w) (scene (stepped w s)) x u.steady before step.moves)
+    steps (start c txs) (start-config c txs) (start_usual c txs keeps) fits (start_object c txs x keeps within)
 
 -- the entries of a stream pass in order and are kept by all that follow them, in every run
 pub run_replicated : (c : Config) (txs : List TxDecl) (steps : List Step) (t : Stream) → KeepsLimits c → All (StepFits c txs) steps
     → IsKept (line (scene (run (start c txs) steps)) t)
 run_replicated c txs steps t keeps fits =
     run_keeps c txs (λ (w : World). IsKept (line (scene w) t))
-        (λ w s is u fit before. let step : IsStep w (stepped w s) = step_is_moves w s txs u (rw is fit) in moves-replicate (scene w) (scene (stepped w s)) t u.steady before step.moves)
-        steps (start c txs) (start-config c txs) (start_usual c txs keeps) fits (start_line c txs t)
+    (λ w s is u fit before. let step : IsStep w (stepped w s) = step_is_moves w s txs u (rw is fit) in moves-replicate (scene w) (scene (stepped w s)) t u.steady before step.moves)
+    steps (start c txs) (start-config c txs) (start_usual c txs keeps) fits (start_line c txs t)

@@ -1,33 +1,29 @@
 -- At the start of a run every object is in order and every stream replicated.
-use Rattle.std.specs.Prelude.{ℕ, zero, suc, ◌≡◌, ◌+◌, ◌<◌, ◌≤◌, ◌==◌, nat_lt, Bool, true, false, List, [], ◌∷◌, ◌++◌, length, map, replicate, Option, Some, None, All, if◌then◌else◌, ◌⊎◌}
-use Rattle.std.proofs.Common.{arith, refl, sym, ap, inl, inr, ◌∙◌, append_assoc}
-use Rattle.std.proofs.lemmas.Bool.{cases_Bool, cases_lt, lt-ltb}
+use Rattle.std.specs.Prelude.{ℕ, zero, suc, ◌≡◌, ◌+◌, ◌<◌, ◌≤◌, ◌==◌, nat_lt, Bool, true, false, List, [], ◌∷◌, ◌++◌, length, map, replicate, None, All, if◌then◌else◌}
+use Rattle.std.proofs.Common.{arith, refl, ap, inl, inr, ◌∙◌, append_assoc}
+use Rattle.std.proofs.lemmas.Bool.{cases_lt, lt-ltb}
 use Rattle.std.proofs.lemmas.Bool.Decides.{nat_tests}
 use Rattle.std.proofs.lemmas.List.Elements.{All-head, All-tail}
 use Rattle.zeus_base.specs.Limits.{KeepsLimits, KeepsDeclaration}
 use Rattle.zeus_base.specs.Nodes.{has}
-use Rattle.zeus_base.specs.NodeLaws.{IsRising, RisesFrom}
+use Rattle.zeus_base.specs.NodeLaws.{RisesFrom}
 use Rattle.zeus_base.specs.declared.config.Config.{Config}
 use Rattle.zeus_base.specs.declared.config.ObjectDecl.{ObjectDecl}
 use Rattle.zeus_base.specs.declared.order.Stream.{Stream}
 use Rattle.zeus_packet.specs.declared.letter.Letter.{Letter}
 use Rattle.zeus_txn.specs.declared.tx.TxDecl.{TxDecl}
-use Rattle.zeus_model.specs.In.{In}
 use Rattle.zeus_model.specs.Commit.{as_kept}
 use Rattle.zeus_model.specs.Tables.{nth, below, numbers_from}
 use Rattle.zeus_model.specs.State.{Node, Slot, StreamLog, no_entry, no_slot, no_log, entry, gather, slot, log}
-use Rattle.zeus_model.specs.World.{World, no_node, node, start, start_node, start_entry, start_gather}
-use Rattle.zeus_model.specs.declared.state.Entry.{Entry}
-use Rattle.zeus_model.specs.declared.state.Gather.{Gather}
+use Rattle.zeus_model.specs.World.{no_node, start, start_node, start_entry, start_gather}
 use Rattle.zeus_model.specs.declared.state.Kept.{Kept}
-use Rattle.machine_moves.specs.Scene.{Scene, scene, all_of}
+use Rattle.machine_moves.specs.Scene.{scene, all_of}
 use Rattle.machine_moves.specs.Move.{own_kept}
 use Rattle.machine_moves.proofs.Lists.{In-nothing, nth-past, nth-map_numbers, length-map_numbers, nth-replicate, has-numbers_from}
 use Rattle.ownership_safety.specs.Kept.{IsStart}
-use Rattle.ownership_safety.specs.Object.{Object, first_stamp}
+use Rattle.ownership_safety.specs.Object.{first_stamp}
 use Rattle.ownership_safety.specs.Ordered.{IsPlaced}
 use Rattle.ownership_safety.proofs.Start.{start-ordered}
-use Rattle.replication_safety.specs.Line.{Line}
 use Rattle.replication_safety.specs.Start.{IsStart as IsLineStart}
 use Rattle.replication_safety.proofs.Start.{start-Replicated}
 use Rattle.invariants.specs.Objects.{object, about, declared_entry, no_object}
@@ -150,7 +146,7 @@ start_epoch c txs n h = ap (λ (k : Node). k.epoch) (start_inside c txs n h)
 -- what the object knows of its standing at the start
 object_standing : (c : Config) (txs : List TxDecl) (x : ℕ)
     → ((object (scene (start c txs)) x).views ≡ below c.nodes ∷ []) × ((object (scene (start c txs)) x).declared ≡ (declared_entry c x).place)
-        × ((object (scene (start c txs)) x).letters ≡ [])
+    × ((object (scene (start c txs)) x).letters ≡ [])
 unfolding object about
 object_standing c txs x =
     ((start_config c txs).1, ap (λ (k : Config). (declared_entry k x).place) (start_config c txs).0, rw (start_letters c txs) refl)
@@ -218,6 +214,7 @@ nothing_kept n t k s l = (
     either : (b : Bool) (z : ℕ) → (if b then z else z) ≡ z
     either true z = refl
     either false z = refl
+
     either_list : (b : Bool) (z : List Kept) → (if b then z else z) ≡ z
     either_list true z = refl
     either_list false z = refl
@@ -244,8 +241,8 @@ begins_line c txs t =
       unsaid = λ x i. In-nothing x (rw (start_letters c txs) at i);
       one_view = ap (λ (vs : List (List ℕ)). length vs) (start_config c txs).1;
       live = λ n live.
-        let within : n < c.nodes = start_within c txs n live in
-        (start_epoch c txs n within, rw (start_config c txs).1 (has-numbers_from n 0 c.nodes (omega arith) (omega arith)));
+          let within : n < c.nodes = start_within c txs n live in
+          (start_epoch c txs n within, rw (start_config c txs).1 (has-numbers_from n 0 c.nodes (omega arith) (omega arith)));
       bounded = λ n. epoch_bounded c txs n;
       done = λ n. (kept_at_start c txs t n).0;
       kept = λ n. (kept_at_start c txs t n).1;

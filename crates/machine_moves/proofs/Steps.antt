@@ -29,7 +29,7 @@ use Rattle.machine_moves.specs.Fits.{StepFits}
 use Rattle.machine_moves.proofs.Lists.{nth-put_same, nth-put_other, In-nothing}
 use Rattle.machine_moves.proofs.Links.{HasEnds, HasEnds-all_posted, In-from_link, nth_letter-In, sent-stay, sent-new, sent-only}
 use Rattle.machine_moves.proofs.Steady.{IsSteady, move_keep}
-use Rattle.machine_moves.proofs.Reach.{Became, Became-changed, Became-trans, Changes-became, changed, Reaches, IsReady, Moves-reaches, Same-became, Same-refl, still_reaches}
+use Rattle.machine_moves.proofs.Reach.{Became, Became-changed, Became-trans, Changes-became, changed, Reaches, IsReady, Moves-reaches, any_reaches, Same-became, Same-refl, still_reaches}
 use Rattle.machine_moves.proofs.Finish.{finish-reached}
 use Rattle.machine_moves.proofs.Causes.{or_else-none, where_true-none}
 use Rattle.machine_moves.proofs.Receiving.{receive-answered}
@@ -118,7 +118,7 @@ deliver_or_not-step (Some l) w from to i u is =
 
 ticked_step : (w : World) (n : ℕ) → IsUsual w → IsStep w (ticked_at w n (tick (node w n))).world
 unfolding ticked_at scene
-ticked_step w n u = reached_step w n _ _ _ u (tick-answered (scene w) n 64 u.steady)
+ticked_step w n u = reached_step w n _ _ _ u (any_reaches (scene w) n _ _ (tick-answered (scene w) n 64 u.steady))
 
 -- ---- stop
 

@@ -1,4 +1,5 @@
 pub mod Owners
+pub mod Faithfulness
 pub mod NeverCauses
 pub mod NeverRows
 pub mod NeverLetters

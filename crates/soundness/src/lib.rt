@@ -1,4 +1,4 @@
-//! Every run of the machine is sound.
+//! Every run of the machine is sound, and refuses no letter for a cause that only makes the rules total.
 #![tactic(auto)]
 
 ghost use Rattle.std.specs.Prelude.{All, List, length, ℕ, ◌<◌, ◌≡◌};

@@ -1,0 +1,12 @@
+pub mod Names
+pub mod Consequences
+pub mod Running
+pub mod OwnershipStill
+pub mod OwnershipFrame
+pub mod SerialContents
+pub mod SerialRun
+pub mod Booking
+pub mod PassValidated
+pub mod RowsReach
+pub mod OrderAdvance
+pub mod OrderSorted
