@@ -10,3 +10,4 @@ pub mod PassValidated
 pub mod RowsReach
 pub mod OrderAdvance
 pub mod OrderSorted
+pub mod Beginning

@@ -54,26 +54,26 @@ unfolding all_of
 no_letters zero n = refl
 no_letters (suc m) n = all_of-append (replicate n (nothing_of Letter)) (all_of (replicate m (replicate n (nothing_of Letter)))) ∙ rw (all_of-empty {A = Letter} n, no_letters m n) refl
 
-start_letters : (c : Config) (txs : List TxDecl) → (scene (start c txs)).letters ≡ []
+pub start_letters : (c : Config) (txs : List TxDecl) → (scene (start c txs)).letters ≡ []
 unfolding scene start nothing_of
 start_letters c txs = no_letters c.nodes c.nodes
 
 -- ---- the nodes at the start
 
-start_inside : (c : Config) (txs : List TxDecl) (n : ℕ) → n < c.nodes → (scene (start c txs)).node n ≡ start_node c n
+pub start_inside : (c : Config) (txs : List TxDecl) (n : ℕ) → n < c.nodes → (scene (start c txs)).node n ≡ start_node c n
 unfolding scene start
 start_inside c txs n h = nth-map_numbers no_node (start_node c) 0 c.nodes n h ∙ ap (λ (k : ℕ). start_node c k) (zero_plus n)
 
-start_outside : (c : Config) (txs : List TxDecl) (n : ℕ) → c.nodes ≤ n → (scene (start c txs)).node n ≡ no_node
+pub start_outside : (c : Config) (txs : List TxDecl) (n : ℕ) → c.nodes ≤ n → (scene (start c txs)).node n ≡ no_node
 unfolding scene start
 start_outside c txs n h = nth-past no_node (map (start_node c) (below c.nodes)) n (omega (arith, length-map_numbers (start_node c) 0 c.nodes, h))
 
-start_config : (c : Config) (txs : List TxDecl) → ((scene (start c txs)).config ≡ c) × ((scene (start c txs)).views ≡ below c.nodes ∷ [])
+pub start_config : (c : Config) (txs : List TxDecl) → ((scene (start c txs)).config ≡ c) × ((scene (start c txs)).views ≡ below c.nodes ∷ [])
 unfolding scene start
 start_config c txs = (refl, refl)
 
 -- a live node is one of the configuration
-start_within : (c : Config) (txs : List TxDecl) (n : ℕ) → ((scene (start c txs)).node n).stopped ≡ false → n < c.nodes
+pub start_within : (c : Config) (txs : List TxDecl) (n : ℕ) → ((scene (start c txs)).node n).stopped ≡ false → n < c.nodes
 start_within c txs n live =
     elim (cases_lt n c.nodes) [
       | inl within ↦ within
@@ -82,7 +82,7 @@ start_within c txs n live =
 
 -- ---- objects
 
-nth-map : {A B : Type 0} (d : B) (e : A) (f : A → B) (xs : List A) (i : ℕ) → i < length xs → nth d (map f xs) i ≡ f (nth e xs i)
+pub nth-map : {A B : Type 0} (d : B) (e : A) (f : A → B) (xs : List A) (i : ℕ) → i < length xs → nth d (map f xs) i ≡ f (nth e xs i)
 unfolding nth
 nth-map d e f [] i h = absurd (omega arith)
 nth-map d e f (x ∷ xs) zero h = refl
@@ -144,7 +144,7 @@ unfolding start_node
 start_epoch c txs n h = ap (λ (k : Node). k.epoch) (start_inside c txs n h)
 
 -- what the object knows of its standing at the start
-object_standing : (c : Config) (txs : List TxDecl) (x : ℕ)
+pub object_standing : (c : Config) (txs : List TxDecl) (x : ℕ)
     → ((object (scene (start c txs)) x).views ≡ below c.nodes ∷ []) × ((object (scene (start c txs)) x).declared ≡ (declared_entry c x).place)
     × ((object (scene (start c txs)) x).letters ≡ [])
 unfolding object about
@@ -158,7 +158,7 @@ object_live c txs x n live =
     let within : n < c.nodes = start_within c txs n live in
     (start_epoch c txs n within, has-numbers_from n 0 c.nodes (omega arith) (omega arith))
 
-begins_object : (c : Config) (txs : List TxDecl) (x : ℕ) → KeepsLimits c → x < length c.objects → IsStart (object (scene (start c txs)) x)
+pub begins_object : (c : Config) (txs : List TxDecl) (x : ℕ) → KeepsLimits c → x < length c.objects → IsStart (object (scene (start c txs)) x)
 begins_object c txs x keeps h =
     let standing = object_standing c txs x in
     record {
@@ -179,7 +179,7 @@ start_object c txs x keeps h = ([], start-ordered (object (scene (start c txs)) 
 
 -- ---- streams
 
-nth-none : {A : Type 0} (d : A) (n k : ℕ) → nth d (replicate n d) k ≡ d
+pub nth-none : {A : Type 0} (d : A) (n k : ℕ) → nth d (replicate n d) k ≡ d
 nth-none d n k = elim (nth-replicate d d n k) [ inl same ↦ same | inr past ↦ past ]
 
 no_row : (m n i k : ℕ) → nth no_log (nth [] (replicate m (replicate n no_log)) i) k ≡ no_log
@@ -189,18 +189,18 @@ no_row m n i k =
       | inr past ↦ rw past (nth-past no_log [] k (omega arith))
     ]
 
-start_slots : (c : Config) (n s : ℕ) → slot (start_node c n) s ≡ no_slot
+pub start_slots : (c : Config) (n s : ℕ) → slot (start_node c n) s ≡ no_slot
 unfolding start_node
 start_slots c n s = nth-none no_slot c.slots s
 
-start_logs : (c : Config) (n : ℕ) (t : Stream) → log (start_node c n) t ≡ no_log
+pub start_logs : (c : Config) (n : ℕ) (t : Stream) → log (start_node c n) t ≡ no_log
 unfolding start_node
 start_logs c n t = no_row c.nodes c.slots t.node t.slot
 
-nowhere_slots : (s : ℕ) → slot no_node s ≡ no_slot
+pub nowhere_slots : (s : ℕ) → slot no_node s ≡ no_slot
 nowhere_slots s = nth-past no_slot [] s (omega arith)
 
-nowhere_logs : (t : Stream) → log no_node t ≡ no_log
+pub nowhere_logs : (t : Stream) → log no_node t ≡ no_log
 nowhere_logs t = ap (λ (ls : List StreamLog). nth no_log ls t.slot) (nth-past [] [] t.node (omega arith)) ∙ nth-past no_log [] t.slot (omega arith)
 
 -- a node that has nothing of the stream
@@ -219,7 +219,7 @@ nothing_kept n t k s l = (
     either_list true z = refl
     either_list false z = refl
 
-kept_at_start : (c : Config) (txs : List TxDecl) (t : Stream) (n : ℕ) → ((line (scene (start c txs)) t).done n ≡ 0) × ((line (scene (start c txs)) t).kept n ≡ [])
+pub kept_at_start : (c : Config) (txs : List TxDecl) (t : Stream) (n : ℕ) → ((line (scene (start c txs)) t).done n ≡ 0) × ((line (scene (start c txs)) t).kept n ≡ [])
 unfolding line
 kept_at_start c txs t n =
     elim (cases_lt n c.nodes) [
@@ -234,7 +234,7 @@ epoch_bounded c txs n =
       | inr past ↦ rw (start_outside c txs n past) (omega arith)
     ]
 
-begins_line : (c : Config) (txs : List TxDecl) (t : Stream) → IsLineStart (line (scene (start c txs)) t)
+pub begins_line : (c : Config) (txs : List TxDecl) (t : Stream) → IsLineStart (line (scene (start c txs)) t)
 unfolding line about_stream nth
 begins_line c txs t =
     record {
