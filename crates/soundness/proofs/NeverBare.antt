@@ -23,6 +23,7 @@ use Rattle.machine_moves.proofs.Lists.{nth-append}
 use Rattle.machine_moves.proofs.Steady.{IsSteady, IsKnown, move_keep}
 use Rattle.ownership_safety.specs.Object.{first_stamp}
 use Rattle.soundness.proofs.NeverUndeclared.{IsBareProposal, HasNoContent, IsBareHeld, IsBareNode, SaysBare, IsBareLetter, IsBare, bare-as, bare-with_slot, bare-with_log, bare-raise, bare-store, bare-pass_own, bare-pass_kept, bare-committed, bare-holding, bare-noted, bare-settle_other, bare-bring_other, never_settled, bare-installed, bare-content}
+use Rattle.zeus_packet.specs.declared.place.Want.{Want}
 
 -- ---- letters
 
@@ -160,7 +161,7 @@ held_bare n x y p h is same =
     let held : IsBareHeld (entry n y).proposal = rw same h.held in
     rw is at held
 
-driven_bare : (n : Node) (x y requester : ℕ) (want : Rattle.zeus_packet.specs.declared.place.Want.Want) → IsBareNode n x → y ≡ x → IsBareProposal (driven n y requester want)
+driven_bare : (n : Node) (x y requester : ℕ) (want : Want) → IsBareNode n x → y ≡ x → IsBareProposal (driven n y requester want)
 driven_bare n x y requester want h same = (ap (λ (i : ℕ). (entry n i).stamp) same ∙ h.stamp, ap (λ (i : ℕ). (entry n i).place) same ∙ h.place)
 
 hold_bare : (old new : Scene) (x n y : ℕ) (p : Proposal) → Changes old new n (holding (old.node n) y p) (IsAboutProposal (old.node n) y p) → IsSteady old → IsBare old x

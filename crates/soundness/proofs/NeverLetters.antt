@@ -5,7 +5,7 @@ use Rattle.zeus_base.specs.Nodes.{has}
 use Rattle.zeus_base.specs.Order.{is_below}
 use Rattle.zeus_base.specs.declared.order.Stamp.{Stamp}
 use Rattle.zeus_base.specs.declared.order.Stream.{Stream}
-use Rattle.zeus_packet.specs.Place.{source}
+use Rattle.zeus_packet.specs.Place.{source, new_place}
 use Rattle.zeus_packet.specs.declared.letter.Body.{Body}
 use Rattle.zeus_packet.specs.declared.letter.Body.TheVariants.{RInv, RVal, OInv, OAck, OVal}
 use Rattle.zeus_packet.specs.declared.letter.Letter.{Letter}
@@ -99,7 +99,7 @@ keeps_owner s x n stamp place numbered live h below named =
 
 keeps_owner_in : (s : Scene) (x n : ℕ) (p : Proposal) → IsNumbered s → IsLive s n
     → (is_below ((object s x).entry n).stamp p.base ≡ false → is_below ((object s x).entry n).stamp p.stamp ≡ true
-    → (Rattle.zeus_packet.specs.Place.new_place p).owner ≡ n → p.requester ≢ n → ((object s x).entry n).place.owner ≡ n)
+    → (new_place p).owner ≡ n → p.requester ≢ n → ((object s x).entry n).place.owner ≡ n)
     → KeepsOwnerIn (s.node n) x p
 keeps_owner_in s x n p numbered live h not_below below named other =
     let there : (object s x).entry n ≡ entry (s.node n) x = object-entry s x n (numbered.within n live) in

@@ -30,6 +30,7 @@ use Rattle.machine_moves.proofs.Proposals.{settle-entry}
 use Rattle.ownership_safety.proofs.Arbiters.{new_place-owner}
 use Rattle.soundness.specs.Refusals.{IsNeverRefused}
 use Rattle.soundness.proofs.NeverCauses.{MayStand, IsArbiterOf, request-may, hold-may}
+use Rattle.zeus_model.specs.declared.state.Entry.{Entry}
 
 -- a stamp and a placement, above the settled ones, that name the node as owner only where these do
 abbrev pub KeepsOwner : Node → ℕ → Stamp → Place → Type 0
@@ -168,7 +169,7 @@ unfolding rebased IsRebased
 rebased-some n x p owner =
     let settled : Option Node = Some (settle n x p.base p.base_place) in
     cond_both (is_below (entry n x).stamp p.base) (if takes_over n x p.base_place then None else settled) (Some n) (λ (o : Option Node). IsRebased n x p o)
-    (λ below. rw (takes_over-not n x p.base_place (owner below)) record { keeps = Keeps-settle n x p.base p.base_place; either = inr (ap (λ (e : Rattle.zeus_model.specs.declared.state.Entry.Entry). e.place) (settle-entry n x p.base p.base_place below)) })
+    (λ below. rw (takes_over-not n x p.base_place (owner below)) record { keeps = Keeps-settle n x p.base p.base_place; either = inr (ap (λ (e : Entry). e.place) (settle-entry n x p.base p.base_place below)) })
     (λ not_below. record { keeps = Keeps-refl n; either = inl (refl, not_below) })
 
 -- ---- a proposal at an arbiter

@@ -21,6 +21,7 @@ use Rattle.machine_moves.proofs.Start.{start_usual, start-config}
 use Rattle.machine_moves.proofs.Steps.{IsStep, IsUsual, step_is_moves}
 use Rattle.soundness.proofs.NeverUndeclared.{HasNoContent, IsBareHeld, IsBareNode, IsBare}
 use Rattle.soundness.proofs.NeverBare.{moves_bare}
+use Rattle.zeus_model.specs.declared.state.Entry.{Entry}
 
 length-map : {A B : Type 0} (f : A → B) (xs : List A) → length (map f xs) ≡ length xs
 length-map f [] = refl
@@ -31,8 +32,8 @@ empty_bare : (n : Node) (x : ℕ) → entry n x ≡ no_entry → copy n x ≡ No
 unfolding IsBareHeld HasNoContent
 empty_bare n x e c g =
     record {
-      stamp = ap (λ (k : Rattle.zeus_model.specs.declared.state.Entry.Entry). k.stamp) e;
-      place = ap (λ (k : Rattle.zeus_model.specs.declared.state.Entry.Entry). k.place) e;
+      stamp = ap (λ (k : Entry). k.stamp) e;
+      place = ap (λ (k : Entry). k.place) e;
       held = rw e tt;
       copy = c;
       gather = rw g tt;

@@ -3,7 +3,7 @@ use Rattle.std.specs.Prelude.{ℕ, zero, suc, ◌≡◌, ◌≢◌, ◌==◌, �
 use Rattle.std.proofs.Common.{refl, sym, ap, ◌∙◌, inl, inr, subst}
 use Rattle.std.proofs.lemmas.Bool.{cond_both, cases_eq}
 use Rattle.zeus_base.specs.Nodes.{has}
-use Rattle.zeus_base.specs.Order.{is_below}
+use Rattle.zeus_base.specs.Order.{is_below, same_stamp}
 use Rattle.zeus_base.specs.OrderLaws.{is_below-irrefl}
 use Rattle.zeus_base.specs.declared.order.Stamp.{Stamp}
 use Rattle.zeus_base.specs.declared.order.Stream.{Stream}
@@ -162,7 +162,7 @@ no_content-noted : (p : Proposal) (g : Option Gather) (from : ℕ) (c : Option C
 unfolding HasNoContent gather_for or_else
 no_content-noted p None from c h e = e
 no_content-noted p (Some g) from c h e =
-    cond_both (Rattle.zeus_base.specs.Order.same_stamp g.proposal.stamp p.stamp) g record { proposal = p; acks = []; content = None } (λ (k : Gather). or_else k.content c ≡ None)
+    cond_both (same_stamp g.proposal.stamp p.stamp) g record { proposal = p; acks = []; content = None } (λ (k : Gather). or_else k.content c ≡ None)
     (λ _. rw h e) (λ _. e)
 
 pub bare-noted : (n : Node) (y from : ℕ) (p : Proposal) (c : Option Content) (x : ℕ) → (y ≡ x → c ≡ None) → IsBareNode n x
