@@ -2,3 +2,10 @@ pub mod Owners
 pub mod Faithfulness
 pub mod Limits
 pub mod Runs
+pub mod NeverCauses
+pub mod NeverRows
+pub mod NeverLetters
+pub mod NeverUndeclared
+pub mod NeverBare
+pub mod NeverStart
+pub mod NeverReceive
