@@ -3,3 +3,4 @@ pub mod Consequences
 pub mod Running
 pub mod OwnershipStill
 pub mod OwnershipFrame
+pub mod OwnershipKept
