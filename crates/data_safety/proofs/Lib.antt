@@ -4,3 +4,4 @@ pub mod Running
 pub mod OwnershipStill
 pub mod OwnershipFrame
 pub mod OwnershipKept
+pub mod OwnershipMoves
