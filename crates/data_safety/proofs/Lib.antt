@@ -5,3 +5,4 @@ pub mod OwnershipStill
 pub mod OwnershipFrame
 pub mod OwnershipKept
 pub mod OwnershipMoves
+pub mod OwnershipQuiet
