@@ -6,3 +6,4 @@ pub mod OwnershipFrame
 pub mod OwnershipKept
 pub mod OwnershipMoves
 pub mod OwnershipQuiet
+pub mod OwnershipProposals
