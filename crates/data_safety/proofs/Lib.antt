@@ -7,3 +7,4 @@ pub mod OwnershipKept
 pub mod OwnershipMoves
 pub mod OwnershipQuiet
 pub mod OwnershipProposals
+pub mod OwnershipSettles
