@@ -8,3 +8,4 @@ pub mod OwnershipMoves
 pub mod OwnershipQuiet
 pub mod OwnershipProposals
 pub mod OwnershipSettles
+pub mod OwnershipDecides
