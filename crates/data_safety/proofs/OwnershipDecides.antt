@@ -42,6 +42,7 @@ use Rattle.invariants.proofs.AboutObjects.{object-entry, object-gather}
 use Rattle.invariants.proofs.Frames.{settle-away, bring-quiet}
 use Rattle.invariants.proofs.LineMoves.{line-home, line-stopped}
 use Rattle.invariants.proofs.ObjectKeeps.{sees_move as object_sees_move}
+use Rattle.invariants.proofs.ObjectMoves.{object-live}
 use Rattle.invariants.proofs.ObjectSeen.{same_or_not, decide_here}
 use Rattle.data_safety.specs.Story.{Story, Truth, place_now, pending_at, Lives}
 use Rattle.data_safety.specs.Faithful.{Faithful, IsClean, left, content_of}
@@ -185,3 +186,183 @@ decides-again y z u f n x p co move c txs book within again =
 
     ver : (chain_stamp (u.chain x) p.stamp.ver).ver ≡ p.stamp.ver
     ver = stamp_at-ver (object y.scene x) (u.chain x) (f.ordered x within) p.stamp.ver again.settles.decided
+
+-- ---- the first decision of a proposal
+
+-- an entry that a live node has pending can still pass
+pub pending-lives : (y : Story) (u : Truth) (f : Faithful y u) (n a i : ℕ) → IsLive y.scene n → i < length (slot (y.scene.node n) a).pending
+    → Lives y u record { node = n; slot = a } ((slot (y.scene.node n) a).done + i)
+pending-lives y u f n a i live inside =
+    let t : Stream = record { node = n; slot = a } in
+    let k : ℕ = (slot (y.scene.node n) a).done + i in
+    let home_live : (line y.scene t).stopped (line y.scene t).home ≡ false = rw (line-home y.scene t, line-stopped y.scene t n) live in
+    let kept : Has (line y.scene t) (line y.scene t).home k = (omega (arith, home-done y.scene t), omega (arith, home-end y.scene t, inside)) in
+    (own-alive (line y.scene t) (u.passed t) k (f.replicated t) home_live).1 kept
+
+-- so no pending entry of a live node names a clean object
+pub clean-unnamed : (y : Story) (u : Truth) (f : Faithful y u) (n a i x : ℕ) → IsClean y u x → IsLive y.scene n → i < length (slot (y.scene.node n) a).pending
+    → mentions x (nth no_pending (slot (y.scene.node n) a).pending i).named ≡ true → ⊥
+unfolding IsClean
+clean-unnamed y u f n a i x clean live inside m =
+    let same : (slot (y.scene.node n) a).done + i - (slot (y.scene.node n) a).done ≡ i = omega arith in
+    clean record { node = n; slot = a } ((slot (y.scene.node n) a).done + i) (pending-lives y u f n a i live inside) (rw same m)
+
+-- the chains with one more proposal for an object
+longer : Truth → ℕ → Proposal → ℕ → List Proposal
+longer u x p w = if w == x then u.chain x ++ p ∷ [] else u.chain w
+
+longer-same : (u : Truth) (x : ℕ) (p : Proposal) → longer u x p x ≡ u.chain x ++ p ∷ []
+unfolding longer
+longer-same u x p = rw (eq-eqb x x refl) refl
+
+longer-other : (u : Truth) (x : ℕ) (p : Proposal) (w : ℕ) → x ≢ w → longer u x p w ≡ u.chain w
+unfolding longer
+longer-other u x p w ne = rw (ne_eqb w x (λ is. ne (sym is))) refl
+
+longer-length : (u : Truth) (x : ℕ) (p : Proposal) → length (longer u x p x) ≡ suc (length (u.chain x))
+longer-length u x p = ap (λ (c : List Proposal). length c) (longer-same u x p) ∙ one_more (u.chain x) p
+  where
+    one_more : (c : List Proposal) (p : Proposal) → length (c ++ p ∷ []) ≡ suc (length c)
+    one_more c p = omega (arith, length-append c (p ∷ []))
+
+-- the latest placement is then the new one of the proposal
+longer-place : (z : Story) (u : Truth) (x : ℕ) (p : Proposal) → place_now z (with_chains u (longer u x p)) x ≡ new_place p
+longer-place z u x p =
+    ap (λ (v : ℕ). place_at (object z.scene x) (longer u x p x) v) (longer-length u x p)
+    ∙ ap (λ (c : List Proposal). place_at (object z.scene x) c (suc (length (u.chain x)))) (longer-same u x p)
+    ∙ chain_place-suc (object z.scene x).declared (u.chain x ++ p ∷ []) (length (u.chain x))
+    ∙ ap new_place (nth-append_new no_proposal (u.chain x) p)
+
+-- what is brought is a copy of the content, but for a leaver
+brought-some : (want : Want) (co : Content) → want ≢ Leave → is_some (brought want co) ≡ true
+unfolding brought
+brought-some Own co ne = refl
+brought-some Read co ne = refl
+brought-some Leave co ne = absurd (ne refl)
+
+brought-none : (want : Want) (co : Content) → want ≡ Leave → is_some (brought want co) ≡ false
+unfolding brought
+brought-none Own co is = absurd cc
+brought-none Read co is = absurd cc
+brought-none Leave co is = refl
+
+brought-content : (want : Want) (co : Content) (c : Copy) → brought want co ≡ Some c → content_of c ≡ co
+unfolding brought
+brought-content Own co c is = cc
+brought-content Read co c is = cc
+brought-content Leave co c is = absurd cc
+
+leaves : (want : Want) → (want ≡ Leave) ⊎ (want ≢ Leave)
+leaves Own = inr (λ is. cc)
+leaves Read = inr (λ is. cc)
+leaves Leave = inl refl
+
+-- the requester has a copy afterwards exactly where it is in the new placement
+brought-placed : (p : Proposal) (co : Content) → (is_some (brought p.want co) ≡ true) ↔ (has p.requester (new_place p).replicas ≡ true)
+brought-placed p co = elim (leaves p.want) [
+  | inl leaver ↦ (
+    λ h. absurd (true≢false (sym h ∙ brought-none p.want co leaver)),
+    λ h. absurd (true≢false (sym h ∙ new_place-leaves p leaver)),
+  )
+  | inr stays ↦ (λ h. new_place-comes p stays, λ h. brought-some p.want co stays)
+]
+
+module _ (y z : Story) (u : Truth) (f : Faithful y u) (n x : ℕ) (p : Proposal) (co : Content)
+    (c : Changes y.scene z.scene n (decided_node (y.scene.node n) x p co) nothing) (within : x < length y.scene.config.objects)
+    (first : IsFirst (object y.scene x) (object z.scene x) (u.chain x) n p) (clean : IsClean y u x) (is_left : co ≡ left y x) where
+  -- a live node other than the one that decides did not request it
+  stranger : (m : ℕ) → IsLive y.scene m → m ≢ n → m ≢ p.requester
+  stranger m live away is = elim first.requester [
+    | inl here_now ↦ away (is ∙ here_now)
+    | inr stopped ↦
+        let off : (object y.scene x).stopped m ≡ true = rw is stopped in
+        true≢false (sym off ∙ object-live y.scene x m live)
+  ]
+
+  -- its copy stays, and so does whether it is a replica
+  stranger-placed : (m : ℕ) → IsLive y.scene m → m ≢ p.requester → (is_some (copy (y.scene.node m) x) ≡ true) ↔ (has m (place_now z (with_chains u (longer u x p)) x).replicas ≡ true)
+  stranger-placed m live away =
+      let before = f.copied.placed m x within live in
+      let same : has m (place_now z (with_chains u (longer u x p)) x).replicas ≡ has m (place_now y u x).replicas =
+      ap (λ (pl : Place). has m pl.replicas) (longer-place z u x p) ∙ new_place-other p m away ∙ ap (λ (pl : Place). has m pl.replicas) first.base_place in
+      rw same before
+
+  came-live : (m : ℕ) → IsLive z.scene m → IsLive y.scene m
+  came-live m live = elim (same_or_not m n) [
+    | inl same ↦ rw same c.live
+    | inr away ↦ let was : IsLive y.scene m = rw (c.others m away) at live in was
+  ]
+
+  me_is : (y.scene.node n).me ≡ n
+  me_is = (f.steady.nodes n c.live).me
+
+  decider-placed : (is_some (copy (decided_node (y.scene.node n) x p co) x) ≡ true) ↔ (has n (place_now z (with_chains u (longer u x p)) x).replicas ≡ true)
+  decider-placed = elim (same_or_not p.requester n) [
+    | inl own ↦
+        let taken : copy (decided_node (y.scene.node n) x p co) x ≡ brought p.want co = decided-brought (y.scene.node n) x p co (own ∙ sym me_is) in
+        let placed : (is_some (brought p.want co) ≡ true) ↔ (has n (new_place p).replicas ≡ true) = subst (λ (m : ℕ). (is_some (brought p.want co) ≡ true) ↔ (has m (new_place p).replicas ≡ true)) own (brought-placed p co) in
+        rw (taken, longer-place z u x p) placed
+    | inr other ↦ rw (decided-copies (y.scene.node n) x x p co (λ is. other (is ∙ me_is))) (stranger-placed n c.live (λ is. other (sym is)))
+  ]
+
+  first-placed : (m : ℕ) → IsLive z.scene m → (is_some (copy (z.scene.node m) x) ≡ true) ↔ (has m (place_now z (with_chains u (longer u x p)) x).replicas ≡ true)
+  first-placed m live = elim (same_or_not m n) [
+    | inl same ↦ rw (same, c.node) decider-placed
+    | inr away ↦ rw (c.others m away) (stranger-placed m (came-live m live) (stranger m (came-live m live) away))
+  ]
+
+  first-content : (m : ℕ) (k : Copy) → IsLive z.scene m → copy (z.scene.node m) x ≡ Some k → content_of k ≡ left y x
+  first-content m k live is = elim (same_or_not m n) [
+    | inr away ↦
+        let was : copy (y.scene.node m) x ≡ Some k = rw (c.others m away) at is in
+        clean-copy y u f m x k within (came-live m live) clean was
+    | inl same ↦
+        let here_now : copy (decided_node (y.scene.node n) x p co) x ≡ Some k = rw (same, c.node) at is in
+        elim (same_or_not p.requester n) [
+          | inl own ↦ brought-content p.want co k (sym (decided-brought (y.scene.node n) x p co (own ∙ sym me_is)) ∙ here_now) ∙ is_left
+          | inr other ↦ clean-copy y u f n x k within c.live clean (sym (decided-copies (y.scene.node n) x x p co (λ e. other (e ∙ me_is))) ∙ here_now)
+        ]
+  ]
+
+  first-given : (m e : ℕ) (q : Proposal) (k : Content) → HasGiven (object y.scene x) m q k e → q.base.ver ≡ length (longer u x p x) → ⊥
+  first-given m e q k given last =
+      let ordered : Ordered (object y.scene x) (u.chain x) = f.ordered x within in
+      let said : IsSaid (object y.scene x) q e = ack-said (object y.scene x) (u.chain x) ordered m q e (given.0, Some k, given.1) in
+      omega (arith, (ordered.proposals q e said).decided, last, longer-length u x p)
+
+  decides-first : Move y.scene z.scene → z.txs ≡ y.txs → z.book ≡ y.book → Faithful z (with_chains u (longer u x p))
+  decides-first move txs book =
+      decides-with y z u f n x p co (longer u x p) move c txs book (longer-other u x p)
+      (λ h. inr record { clean = clean; placed = first-placed; content = first-content })
+      (λ h. rw (longer-same u x p) first.ordered)
+      (λ a i inside m own. clean-unnamed y u f n a i x clean c.live inside m)
+      (λ m e q k h given last. absurd (first-given m e q k given last))
+
+-- ---- whatever it decides
+
+decides-known : (y z : Story) (u : Truth) (f : Faithful y u) (n x : ℕ) (g : Gather) (co : Content) → Move y.scene z.scene → gather (y.scene.node n) x ≡ Some g
+    → is_decidable (y.scene.node n) g ≡ true → g.content ≡ Some co → Changes y.scene z.scene n (decided_node (y.scene.node n) x g.proposal co) nothing
+    → z.txs ≡ y.txs → z.book ≡ y.book → x < length y.scene.config.objects → (v : Truth) × Faithful z v
+decides-known y z u f n x g co move gathered decidable content c txs book within =
+    let ordered : Ordered (object y.scene x) (u.chain x) = f.ordered x within in
+    let d : moves.Decides (object y.scene x) (object z.scene x) n g = decide_here y.scene z.scene n x g co (u.chain x) (numbered y u f) ordered gathered decidable content c in
+    elim (keeps_Decides (object y.scene x) (object z.scene x) (u.chain x) ordered n g d) [
+      | inl again ↦ (u, decides-again y z u f n x g.proposal co move c txs book within again)
+      | inr first ↦
+          let held : IsGather (object y.scene x) n g = ordered.gathers n g d.gathered in
+          let sent = held.content co content in
+          let given = f.entered.given sent.0 x ((object y.scene x).epoch n) g.proposal co within (n, sent.1) first.last in
+          (with_chains u (longer u x g.proposal), decides-first y z u f n x g.proposal co c within first given.0 given.1 move txs book)
+    ]
+
+pub decides-faithful : (y z : Story) (u : Truth) (f : Faithful y u) (n x : ℕ) (g : Gather) (co : Content) → Move y.scene z.scene → gather (y.scene.node n) x ≡ Some g
+    → is_decidable (y.scene.node n) g ≡ true → g.content ≡ Some co → Changes y.scene z.scene n (decided_node (y.scene.node n) x g.proposal co) nothing
+    → z.txs ≡ y.txs → z.book ≡ y.book → (v : Truth) × Faithful z v
+decides-faithful y z u f n x g co move gathered decidable content c txs book =
+    elim (cases_lt x (length y.scene.config.objects)) [
+      | inl within ↦ decides-known y z u f n x g co move gathered decidable content c txs book within
+      | inr out ↦ (u, decides-with y z u f n x g.proposal co u.chain move c txs book (λ w other. refl)
+        (λ h. absurd (omega (arith, h, out))) (λ h. absurd (omega (arith, h, out)))
+        (λ a i inside m own. let h = pending-within y u f n a i x inside m in omega (arith, h, out))
+        (λ m e q k h given last. absurd (omega (arith, h, out))))
+    ]
