@@ -9,3 +9,4 @@ pub mod OwnershipQuiet
 pub mod OwnershipProposals
 pub mod OwnershipSettles
 pub mod OwnershipDecides
+pub mod OwnershipPlain
