@@ -140,11 +140,11 @@ decides-with y z u f n x p co chain move c txs book others objects ordered owned
       | inr other ↦ rw (decided-entry (y.scene.node n) x w p co other, decided-me (y.scene.node n) x p co) own
     ]))
     (λ m w e q k within g last.
-      let before : HasGiven (object y.scene w) m q k e = given-before y.scene z.scene w nothing c.sends (λ l2 from to e2 p2 k2 no i. no) m e q k g in
-      elim (same_or_not x w) [
-        | inl same ↦ subst (λ (v : ℕ). IsClean y u v × (k ≡ left y v)) same (given m e q k (rw same within) (subst (λ (v : ℕ). HasGiven (object y.scene v) m q k e) (sym same) before) (rw same last))
-        | inr other ↦ f.entered.given m w e q k within before (rw (others w other) at last)
-      ])
+    let before : HasGiven (object y.scene w) m q k e = given-before y.scene z.scene w nothing c.sends (λ l2 from to e2 p2 k2 no i. no) m e q k g in
+    elim (same_or_not x w) [
+      | inl same ↦ subst (λ (v : ℕ). IsClean y u v × (k ≡ left y v)) same (given m e q k (rw same within) (subst (λ (v : ℕ). HasGiven (object y.scene v) m q k e) (sym same) before) (rw same last))
+      | inr other ↦ f.entered.given m w e q k within before (rw (others w other) at last)
+    ])
   where
     copies : (w : ℕ) → x ≢ w → (m : ℕ) → IsLive z.scene m → copy (z.scene.node m) w ≡ copy (y.scene.node m) w
     copies w other m live = elim (same_or_not m n) [
@@ -175,7 +175,7 @@ decides-again y z u f n x p co move c txs book within again =
     })
     (λ h. again.ordered)
     (λ a i inside m own. owner-top y u f n x (chain_stamp (u.chain x) p.stamp.ver) within c.live own
-      (omega (arith, ver, again.settles.decided)) (ap (λ (v : ℕ). chain_stamp (u.chain x) v) (sym ver)) (rw entry_is at again.settles.above))
+    (omega (arith, ver, again.settles.decided)) (ap (λ (v : ℕ). chain_stamp (u.chain x) v) (sym ver)) (rw entry_is at again.settles.above))
     (λ m e q k h g last. f.entered.given m x e q k h g last)
   where
     other : p.requester ≢ (y.scene.node n).me
@@ -361,8 +361,11 @@ pub decides-faithful : (y z : Story) (u : Truth) (f : Faithful y u) (n x : ℕ) 
 decides-faithful y z u f n x g co move gathered decidable content c txs book =
     elim (cases_lt x (length y.scene.config.objects)) [
       | inl within ↦ decides-known y z u f n x g co move gathered decidable content c txs book within
-      | inr out ↦ (u, decides-with y z u f n x g.proposal co u.chain move c txs book (λ w other. refl)
-        (λ h. absurd (omega (arith, h, out))) (λ h. absurd (omega (arith, h, out)))
-        (λ a i inside m own. let h = pending-within y u f n a i x inside m in omega (arith, h, out))
-        (λ m e q k h given last. absurd (omega (arith, h, out))))
+      | inr out ↦ (
+        u,
+        decides-with y z u f n x g.proposal co u.chain move c txs book (λ w other. refl)
+            (λ h. absurd (omega (arith, h, out))) (λ h. absurd (omega (arith, h, out)))
+            (λ a i inside m own. let h = pending-within y u f n a i x inside m in omega (arith, h, out))
+            (λ m e q k h given last. absurd (omega (arith, h, out))),
+      )
     ]

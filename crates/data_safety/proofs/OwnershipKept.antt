@@ -45,7 +45,7 @@ module _ (y z : Story) (u : Truth) (chain : ℕ → List Proposal) (f : Faithful
     lives-place : (t : Stream) (k x : ℕ) → Lives y u t k → mentions x (pending_at y t k).named ≡ true → place_now z (with_chains u chain) x ≡ place_now y u x
     unfolding IsClean
     lives-place t k x alive m =
-        elim (objects x (lives-within y z u chain f s t k x alive m)) [ | inl same ↦ same.place | inr renewed ↦ absurd (renewed.clean t k alive m) ]
+        elim (objects x (lives-within y z u chain f s t k x alive m)) [ inl same ↦ same.place | inr renewed ↦ absurd (renewed.clean t k alive m) ]
 
     framed-owner : (t : Stream) (k x : ℕ) → Lives z u t k → mentions x (pending_at z t k).named ≡ true → t.node ≡ (place_now z (with_chains u chain) x).owner
     framed-owner t k x alive m =
@@ -61,7 +61,7 @@ module _ (y z : Story) (u : Truth) (chain : ℕ → List Proposal) (f : Faithful
         let i' : In w (pending_at y t k).writes = rw p.writes at i in
         let m : mentions w.obj (pending_at y t k).named ≡ true = written-named y u f t k w was i' in
         let h' : has g (place_now y u w.obj).replicas ≡ true = rw (lives-place t k w.obj was m) at h in
-        elim (f.entered.followed t k g w was i' h') [ | inl follows ↦ inl (rw p.followers follows) | inr own ↦ inr own ]
+        elim (f.entered.followed t k g w was i' h') [ inl follows ↦ inl (rw p.followers follows) | inr own ↦ inr own ]
 
     framed-serial : (t : Stream) (k : ℕ) → Lives z u t k → IsRun z (with_chains u chain) t k
     unfolding found_at
@@ -138,8 +138,7 @@ module _ (y z : Story) (u : Truth) (chain : ℕ → List Proposal) (f : Faithful
       → (id : ℕ) × ((record_of z.book id).entry ≡ Some record { stream = t; number = k }) × (is_write (tx_ops z id) ≡ true)
       × ((nth no_tx z.txs id).node ≡ t.node) × ((nth no_tx z.txs id).slot ≡ t.slot)
   framed-entry t k below =
-      let was = f.booked.entry t k (rw (framed-end t) at below) in
-      (
+      let was = f.booked.entry t k (rw (framed-end t) at below) in (
         was.0,
         rw (framed-record was.0) was.1,
         ap (λ (o : List Op). is_write o) (framed-ops y z u chain f s was.0) ∙ was.2,

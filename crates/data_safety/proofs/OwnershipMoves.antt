@@ -160,9 +160,9 @@ pub framed-faithful : (y z : Story) (u : Truth) (chain : ℕ → List Proposal) 
     → ((x : ℕ) → x < length y.scene.config.objects → IsSameObject y z u (with_chains u chain) x ⊎ IsRenewed y z u (with_chains u chain) x)
     → ((x : ℕ) → x < length y.scene.config.objects → Ordered (object z.scene x) (chain x))
     → ((n a i x : ℕ) → IsLive z.scene n → i < length (slot (y.scene.node n) a).pending
-      → mentions x (nth no_pending (slot (y.scene.node n) a).pending i).named ≡ true → owns (y.scene.node n) x ≡ true → owns (z.scene.node n) x ≡ true)
+    → mentions x (nth no_pending (slot (y.scene.node n) a).pending i).named ≡ true → owns (y.scene.node n) x ≡ true → owns (z.scene.node n) x ≡ true)
     → ((n x e : ℕ) (p : Proposal) (c : Content) → x < length y.scene.config.objects → HasGiven (object z.scene x) n p c e
-      → p.base.ver ≡ length (chain x) → IsClean y u x × (c ≡ left y x))
+    → p.base.ver ≡ length (chain x) → IsClean y u x × (c ≡ left y x))
     → Faithful z (with_chains u chain)
 framed-faithful y z u chain f s move objects ordered owned given = record {
   limits = rw s.config f.limits;
@@ -184,8 +184,8 @@ quiet-move y z u f n after allowed move c rows copies entries me none txs book =
     framed-faithful y z u u.chain f (changed-frame y z u f n after allowed move c rows txs book) move
     (λ x within. inl (changed-copies y z u n x after allowed c (ap (λ (k : List (Option Copy)). nth None k x) copies)))
     (λ x within. still-ordered (object y.scene x) (object z.scene x) (u.chain x) (f.ordered x within)
-      (changed-low y z u f n x after allowed c within (low x within))
-      (object_sees_move y.scene z.scene x (u.chain x) (numbered y u f) (f.ordered x within) move))
+    (changed-low y z u f n x after allowed c within (low x within))
+    (object_sees_move y.scene z.scene x (u.chain x) (numbered y u f) (f.ordered x within) move))
     (changed-owned y z n after allowed c (λ a i x inside names own. rw (entries, me) own))
     (λ m x e p k within given last. f.entered.given m x e p k within (given-before y.scene z.scene x allowed c.sends (none x) m e p k given) last)
   where

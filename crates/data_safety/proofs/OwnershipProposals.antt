@@ -130,8 +130,8 @@ proposal-move y z u f n x p after move c rows copies stamps opened base owned tx
     framed-faithful y z u u.chain f (changed-frame y z u f n after (IsAboutProposal (y.scene.node n) x p) move c rows txs book) move
     (λ w within. inl (changed-copies y z u n w after (IsAboutProposal (y.scene.node n) x p) c (ap (λ (k : List (Option Copy)). nth None k w) copies)))
     (λ w within. still-ordered (object y.scene w) (object z.scene w) (u.chain w) (f.ordered w within)
-      (changed-low y z u f n w after (IsAboutProposal (y.scene.node n) x p) c within (low w within))
-      (object_sees_move y.scene z.scene w (u.chain w) (numbered y u f) (f.ordered w within) move))
+    (changed-low y z u f n w after (IsAboutProposal (y.scene.node n) x p) c within (low w within))
+    (object_sees_move y.scene z.scene w (u.chain w) (numbered y u f) (f.ordered w within) move))
     (changed-owned y z n after (IsAboutProposal (y.scene.node n) x p) c owned)
     (λ m w e q k within given last. now_given m w e q k within given last)
   where
@@ -174,11 +174,11 @@ drives-faithful y z u f n x requester want move may c txs book =
     (same-rows (y.scene.node n) (holding (y.scene.node n) x (driven (y.scene.node n) x requester want)) refl refl) refl
     (holding-stamp (y.scene.node n) x (driven (y.scene.node n) x requester want)) may.opened
     (λ within last.
-      let is : (object y.scene x).entry n ≡ entry (y.scene.node n) x = object-entry y.scene x n (f.steady.nodes n c.live).within in
-      let place : (entry (y.scene.node n) x).place ≡ place_at (object y.scene x) (u.chain x) (entry (y.scene.node n) x).stamp.ver = rw is at ((f.ordered x within).settled n).place in
-      place ∙ ap (λ (v : ℕ). place_at (object y.scene x) (u.chain x) v) last)
+    let is : (object y.scene x).entry n ≡ entry (y.scene.node n) x = object-entry y.scene x n (f.steady.nodes n c.live).within in
+    let place : (entry (y.scene.node n) x).place ≡ place_at (object y.scene x) (u.chain x) (entry (y.scene.node n) x).stamp.ver = rw is at ((f.ordered x within).settled n).place in
+    place ∙ ap (λ (v : ℕ). place_at (object y.scene x) (u.chain x) v) last)
     (holding-owned y u f n x (driven (y.scene.node n) x requester want)
-      (λ a i inside m own. unheld (y.scene.node n) x (unready-none (y.scene.node n) x (may.ready (owns-source y u f n x c.live own))).1 a i inside m))
+    (λ a i inside m own. unheld (y.scene.node n) x (unready-none (y.scene.node n) x (may.ready (owns-source y u f n x c.live own))).1 a i inside m))
     txs book
 
 -- a proposal that was said on the latest version has the latest placement as base
@@ -194,14 +194,14 @@ accepts-faithful y z u f n x p move may c acked txs book =
     (holding-stamp (y.scene.node n) x p) may.opened
     (λ within last. let a = accept_here y.scene z.scene n x p (u.chain x) (numbered y u f) (f.ordered x within) may c acked in said-base y u f x ((object y.scene x).epoch n) p within a.said last)
     (holding-owned y u f n x p (λ a i inside m own.
-      let within : x < length y.scene.config.objects = pending-within y u f n a i x inside m in
-      let ordered : Ordered (object y.scene x) (u.chain x) = f.ordered x within in
-      let step = accept_here y.scene z.scene n x p (u.chain x) (numbered y u f) ordered may c acked in
-      let settled = settled-base (object y.scene x) (u.chain x) ordered n p (object-live y.scene x n c.live) step.said step.arbiter step.not_below_base step.below in
-      let is : (object y.scene x).entry n ≡ entry (y.scene.node n) x = object-entry y.scene x n (f.steady.nodes n c.live).within in
-      let place : (entry (y.scene.node n) x).place ≡ p.base_place = ap (λ (e : Entry). e.place) (sym is) ∙ settled.1 in
-      let is_the_source : is_source (y.scene.node n) p.base_place ≡ true = sym (ap (λ (pl : Place). is_source (y.scene.node n) pl) place) ∙ owns-source y u f n x c.live own in
-      unheld (y.scene.node n) x (unready-none (y.scene.node n) x (may.ready is_the_source)).1 a i inside m))
+    let within : x < length y.scene.config.objects = pending-within y u f n a i x inside m in
+    let ordered : Ordered (object y.scene x) (u.chain x) = f.ordered x within in
+    let step = accept_here y.scene z.scene n x p (u.chain x) (numbered y u f) ordered may c acked in
+    let settled = settled-base (object y.scene x) (u.chain x) ordered n p (object-live y.scene x n c.live) step.said step.arbiter step.not_below_base step.below in
+    let is : (object y.scene x).entry n ≡ entry (y.scene.node n) x = object-entry y.scene x n (f.steady.nodes n c.live).within in
+    let place : (entry (y.scene.node n) x).place ≡ p.base_place = ap (λ (e : Entry). e.place) (sym is) ∙ settled.1 in
+    let is_the_source : is_source (y.scene.node n) p.base_place ≡ true = sym (ap (λ (pl : Place). is_source (y.scene.node n) pl) place) ∙ owns-source y u f n x c.live own in
+    unheld (y.scene.node n) x (unready-none (y.scene.node n) x (may.ready is_the_source)).1 a i inside m))
     txs book
 
 pub redrives-faithful : (y z : Story) (u : Truth) (f : Faithful y u) (n x : ℕ) (p : Proposal) → Move y.scene z.scene → (entry (y.scene.node n) x).proposal ≡ Some p
@@ -209,8 +209,8 @@ pub redrives-faithful : (y z : Story) (u : Truth) (f : Faithful y u) (n x : ℕ)
 redrives-faithful y z u f n x p move held opened c txs book =
     proposal-move y z u f n x p (y.scene.node n) move c (same-rows (y.scene.node n) (y.scene.node n) refl refl) refl (λ w. refl) opened
     (λ within last.
-      let ordered : Ordered (object y.scene x) (u.chain x) = f.ordered x within in
-      let is : (object y.scene x).entry n ≡ entry (y.scene.node n) x = object-entry y.scene x n (f.steady.nodes n c.live).within in
-      let h : IsHeld (object y.scene x) n p = ordered.held n p (ap (λ (e : Entry). e.proposal) is ∙ held) in
-      said-base y u f x h.acked.0 p within (ack-said (object y.scene x) (u.chain x) ordered n p h.acked.0 h.acked.2) last)
+    let ordered : Ordered (object y.scene x) (u.chain x) = f.ordered x within in
+    let is : (object y.scene x).entry n ≡ entry (y.scene.node n) x = object-entry y.scene x n (f.steady.nodes n c.live).within in
+    let h : IsHeld (object y.scene x) n p = ordered.held n p (ap (λ (e : Entry). e.proposal) is ∙ held) in
+    said-base y u f x h.acked.0 p within (ack-said (object y.scene x) (u.chain x) ordered n p h.acked.0 h.acked.2) last)
     (λ a i w inside m own. own) txs book

@@ -181,8 +181,8 @@ makes_view-faithful y z u f set move v txs book =
     framed-faithful y z u u.chain f frame move
     (λ x within. inl record { place = place-same y z u u x v.config refl; copies = λ n live. rw (v.nodes n) refl })
     (λ x within. still-ordered (object y.scene x) (object z.scene x) (u.chain x) (f.ordered x within)
-      (λ m. rw (same_entry_as y.scene z.scene x m v.config (v.nodes m)) ((f.ordered x within).settled m).ver)
-      (object_sees_move y.scene z.scene x (u.chain x) (numbered y u f) (f.ordered x within) move))
+    (λ m. rw (same_entry_as y.scene z.scene x m v.config (v.nodes m)) ((f.ordered x within).settled m).ver)
+    (object_sees_move y.scene z.scene x (u.chain x) (numbered y u f) (f.ordered x within) move))
     (λ n a i x live inside names own. rw (v.nodes n) own)
     (λ m x e p k within given last. f.entered.given m x e p k within (given-before y.scene z.scene x nothing v.sends (λ l from to e2 p2 k2 none i. none) m e p k given) last)
   where

@@ -74,8 +74,8 @@ settles-faithful y z u f n x stamp place l move r is above c txs book =
     framed-faithful y z u u.chain f (changed-frame y z u f n (settle (y.scene.node n) x stamp place) nothing move c (same-rows (y.scene.node n) (settle (y.scene.node n) x stamp place) same.slots same.logs) txs book) move
     (λ w within. inl (changed-copies y z u n w (settle (y.scene.node n) x stamp place) nothing c (ap (λ (k : List (Option Copy)). nth None k w) same.copies)))
     (λ w within. still-ordered (object y.scene w) (object z.scene w) (u.chain w) (f.ordered w within)
-      (changed-low y z u f n w (settle (y.scene.node n) x stamp place) nothing c within (low w within))
-      (object_sees_move y.scene z.scene w (u.chain w) (numbered y u f) (f.ordered w within) move))
+    (changed-low y z u f n w (settle (y.scene.node n) x stamp place) nothing c within (low w within))
+    (object_sees_move y.scene z.scene w (u.chain w) (numbered y u f) (f.ordered w within) move))
     (changed-owned y z n (settle (y.scene.node n) x stamp place) nothing c (λ a i w inside m own. elim (same_or_not x w) [
       | inl here_now ↦ absurd (none w (pending-within y u f n a i w inside m) here_now own)
       | inr other ↦ rw ((settle-away (y.scene.node n) x w stamp place other).entry, same.me) own
