@@ -10,3 +10,13 @@ pub mod OwnershipProposals
 pub mod OwnershipSettles
 pub mod OwnershipDecides
 pub mod OwnershipPlain
+pub mod SerialContents
+pub mod SerialRun
+pub mod Booking
+pub mod PassValidated
+pub mod PassThins
+pub mod PassCopies
+pub mod PassLeft
+pub mod PassBooked
+pub mod PassMoves
+pub mod PassOwn
