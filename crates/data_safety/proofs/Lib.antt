@@ -3,6 +3,13 @@ pub mod Consequences
 pub mod Running
 pub mod OwnershipStill
 pub mod OwnershipFrame
+pub mod OwnershipKept
+pub mod OwnershipMoves
+pub mod OwnershipQuiet
+pub mod OwnershipProposals
+pub mod OwnershipSettles
+pub mod OwnershipDecides
+pub mod OwnershipPlain
 pub mod SerialContents
 pub mod SerialRun
 pub mod Booking
@@ -11,3 +18,14 @@ pub mod RowsReach
 pub mod OrderAdvance
 pub mod OrderSorted
 pub mod Beginning
+pub mod OwnershipStill
+pub mod OwnershipFrame
+>>
+=======
+pub mod PassThins
+pub mod PassCopies
+pub mod PassLeft
+pub mod PassBooked
+pub mod PassMoves
+pub mod PassOwn
+>>>>>>> f9d51826a49ba78391fdf0e3128f79c5a2e89626
