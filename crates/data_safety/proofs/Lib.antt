@@ -29,3 +29,6 @@ pub mod PassBooked
 pub mod PassMoves
 pub mod PassOwn
 >>>>>>> f9d51826a49ba78391fdf0e3128f79c5a2e89626
+pub mod PassLogs
+pub mod PassKept
+pub mod Raise
