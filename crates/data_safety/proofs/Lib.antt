@@ -1,3 +1,5 @@
 pub mod RowsReach
 pub mod OrderAdvance
 pub mod OrderSorted
+pub mod OrderTurns
+pub mod OrderFinish
