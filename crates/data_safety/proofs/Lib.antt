@@ -3,3 +3,4 @@ pub mod OrderAdvance
 pub mod OrderSorted
 pub mod OrderTurns
 pub mod OrderFinish
+pub mod RowsPasses

@@ -13,9 +13,10 @@ use Rattle.zeus_model.specs.Act.{Act, joined, in_turn, still}
 use Rattle.zeus_model.specs.Commit.{advance_own, advance_kept, streams_of, streams_outside, outside, none_stored, report, finish}
 use Rattle.machine_moves.proofs.Lists.{In-append, In-nothing}
 use Rattle.machine_moves.proofs.Within.{Keeps, Keeps-refl, Keeps-trans}
+use Rattle.machine_moves.proofs.Finish.{streams_outside-node}
 use Rattle.data_safety.proofs.OrderAdvance.{advanced, all_advanced}
 use Rattle.data_safety.proofs.OrderSorted.{Apart, Apart-append, all_advanced-append, IsNew}
-use Rattle.data_safety.proofs.OrderTurns.{IsDue, IsDue-before, IsWord, Grown, IsTurn, own_turn, kept_turn, IsRound, still_round, turn_then}
+use Rattle.data_safety.proofs.OrderTurns.{IsDue, IsDue-before, Grown-trans, round_said, own_turn, kept_turn, IsRound, still_round, turn_then}
 
 -- ---- own streams
 
@@ -109,3 +110,57 @@ streams_outside-once members slots i (suc c) =
     (NoTwice-append a b (streams_of-once i 0 slots) rest
     (λ t h u g e. absurd (omega (arith, (streams_of-from i 0 slots t h).0, streams_outside-from members slots (suc i) c u g, ap (λ (v : Stream). v.node) e))))
     rest
+
+-- ---- the whole finish
+
+-- passes of other streams before it change nothing of it
+due_before : (ps : List Passed) (m : Node) (q : Passed) → ((p : Passed) → In p ps → p.stream ≢ q.stream) → IsDue (all_advanced m ps) q → IsDue m q
+unfolding all_advanced
+due_before [] m q other due = due
+due_before (p ∷ ps) m q other due =
+    IsDue-before m p q (other p (here p ps refl)) (due_before ps (advanced m p) q (λ r i. other r (there p ps i)) due)
+
+abbrev pub IsAny : Stream → Type 0
+IsAny t = Unit {0}
+
+round_then : (First Second : Stream → Type 0) (m : Node) (a b : Act) → IsRound m a First → IsRound a.node b Second → ((t u : Stream) → First t → Second u → t ≢ u) → IsRound m (joined a b) IsAny
+round_then First Second m a b r s other =
+    let at = r.node in
+    let due = s.due in
+    let apart : (p q : Passed) → In p a.passed → In q b.passed → p.stream ≢ q.stream = λ p q i j. other p.stream q.stream (r.among p i) (s.among q j) in
+    record {
+      node = s.node ∙ ap (λ (x : Node). all_advanced x b.passed) at ∙ sym (all_advanced-append m a.passed b.passed);
+      due = λ q i. elim (In-append q a.passed b.passed i) [
+        | inl left ↦ r.due q left
+        | inr right ↦ due_before a.passed m q (λ p j. apart p q j right) ((rw (at) at due) q right)
+      ];
+      among = λ q i. tt;
+      apart = Apart-append a.passed b.passed r.apart s.apart (λ p i q j. apart p q i j);
+      grown = Grown-trans m a.node b.node r.grown s.grown;
+      keeps = Keeps-trans m a.node b.node r.keeps s.keeps;
+      said = round_said a.node b.node a.sent b.sent s.grown r.said s.said;
+    }
+
+-- what a node does in its finish but for its report
+abbrev pub own_passes : Node → Act
+own_passes m = in_turn advance_own m (below (length m.slots))
+
+abbrev pub kept_passes : Node → Act
+kept_passes m = in_turn advance_kept m (outside m)
+
+abbrev pub finish_passes : Node → Act
+finish_passes m = joined (own_passes m) (kept_passes (own_passes m).node)
+
+not_me : (members : List ℕ) (a b : ℕ) → has b members ≡ true → has a members ≡ false → a ≢ b
+not_me members a b some none same = let other : has b members ≡ false = rw same at none in absurd cc
+
+pub finish_round : (m : Node) → has m.me m.members ≡ true → IsRound m (finish_passes m) IsAny
+finish_round m member =
+    let first = own_round (length m.slots) 0 m in
+    let x = (own_passes m).node in
+    let keeps = first.keeps in
+    let out : (t : Stream) → In t (outside x) → (has t.node m.members ≡ false) × (t.node ≢ m.me) = λ t i.
+    let none : has t.node m.members ≡ false = rw (keeps.members) at (streams_outside-node x.members (below (length x.slots)) (below (length x.logs)) t i) in
+    (none, not_me m.members t.node m.me member none) in
+    let second = kept_round (outside x) m.members m.me x keeps.members keeps.me out (streams_outside-once x.members (length x.slots) 0 (length x.logs)) in
+    round_then (IsOwn m.me 0) (λ t. In t (outside x)) m (own_passes m) (kept_passes x) first second (λ t u own i e. (out u i).1 (sym (ap (λ (v : Stream). v.node) e) ∙ own.0))

@@ -100,7 +100,7 @@ pub record Grown (m k : Node) : Type 0 where
 Grown-refl : (m : Node) → Grown m m
 Grown-refl m = record { me = refl; epoch = refl; slots = λ i. omega arith; logs = λ t. omega arith }
 
-Grown-trans : (m k l : Node) → Grown m k → Grown k l → Grown m l
+pub Grown-trans : (m k l : Node) → Grown m k → Grown k l → Grown m l
 Grown-trans m k l a b =
     record {
       me = b.me ∙ a.me;
@@ -261,7 +261,7 @@ still_round m Among =
       said = λ l i. In-nothing l i;
     }
 
-round_said : (m k : Node) (a b : List Letter) → Grown m k → ((l : Letter) → In l a → IsWord m l) → ((l : Letter) → In l b → IsWord k l) → (l : Letter) → In l (a ++ b) → IsWord k l
+pub round_said : (m k : Node) (a b : List Letter) → Grown m k → ((l : Letter) → In l a → IsWord m l) → ((l : Letter) → In l b → IsWord k l) → (l : Letter) → In l (a ++ b) → IsWord k l
 round_said m k a b g first second l i =
     elim (In-append l a b i) [ inl left ↦ IsWord-grown m k l g (first l left) | inr right ↦ second l right ]
 
