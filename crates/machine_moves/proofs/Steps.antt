@@ -61,11 +61,11 @@ refused_step w u =
 
 -- ---- a node has acted
 
-abbrev world_after : World → ℕ → Node → List Letter → Book → World
+abbrev pub world_after : World → ℕ → Node → List Letter → Book → World
 world_after w n after letters book =
     record { config = w.config; txs = w.txs; nodes = put no_node w.nodes n after; links = all_posted w.links letters; views = w.views; book = book }
 
-Became-after : (w : World) (n : ℕ) (after : Node) (letters : List Letter) (book : Book) → Became (scene w) (scene (world_after w n after letters book)) n after letters
+pub Became-after : (w : World) (n : ℕ) (after : Node) (letters : List Letter) (book : Book) → Became (scene w) (scene (world_after w n after letters book)) n after letters
 unfolding scene
 Became-after w n after letters book =
     record {
@@ -142,7 +142,7 @@ stopped_step w n u =
 
 -- ---- install
 
-abbrev viewed : Scene → ℕ → ℕ → Node
+abbrev pub viewed : Scene → ℕ → ℕ → Node
 viewed s n e = record (s.node n) { epoch = e; members = view s e; reported = []; gathers = dropped (s.node n).gathers }
 
 installs_moves : (s t : Scene) (n e : ℕ) → IsSteady s → IsLive s n → (s.node n).epoch < e → e ≤ length s.views → Became s t n (finish (viewed s n e)).node (take 64 (finish (viewed s n e)).sent) → Moves s t
@@ -215,7 +215,7 @@ kept_live true stopped live h = refl
 kept_live false true live h = absurd cc
 kept_live false false live h = absurd cc
 
-makes_view-move : (w : World) (set : List ℕ) → IsUsual w → IsRising set → view_refused w set ≡ None → Move (scene w) (scene (record w { views = w.views ++ set ∷ []; book = counted w.book }))
+pub makes_view-move : (w : World) (set : List ℕ) → IsUsual w → IsRising set → view_refused w set ≡ None → Move (scene w) (scene (record w { views = w.views ++ set ∷ []; book = counted w.book }))
 unfolding view_refused scene
 makes_view-move w set u rising h =
     let first = or_else-none _ _ h in
