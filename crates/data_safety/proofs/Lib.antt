@@ -4,3 +4,5 @@ pub mod OrderSorted
 pub mod OrderTurns
 pub mod OrderFinish
 pub mod RowsPasses
+pub mod RowsFinish
+pub mod RowsQuiet
