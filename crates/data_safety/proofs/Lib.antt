@@ -6,3 +6,5 @@ pub mod OrderFinish
 pub mod RowsPasses
 pub mod RowsFinish
 pub mod RowsQuiet
+pub mod RowsTry
+pub mod RowsSteps

@@ -23,7 +23,7 @@ use Rattle.zeus_model.specs.Commit.{finish}
 use Rattle.zeus_model.specs.Local.{try_slot}
 use Rattle.zeus_model.specs.Membership.{dropped, install, stop, tick}
 use Rattle.zeus_model.specs.World.{World, Event, no_node, node, tx_decl, link, all_posted, cut, refuse_step, begin_refused, begin_or_not, step_begin, tried_at, nth_letter, received_at, deliver_or_not, ticked_at, stopped_at, installed_at, last_view, view_refused, view_or_not, step_install, happens, stepped}
-use Rattle.machine_moves.specs.Scene.{Scene, scene, view, IsLive, nothing}
+use Rattle.machine_moves.specs.Scene.{Scene, scene, view, IsLive, NewView, nothing}
 use Rattle.machine_moves.specs.Move.{Move, Moves, none, next, makes_view, stops, installs}
 use Rattle.machine_moves.specs.Fits.{StepFits}
 use Rattle.machine_moves.proofs.Lists.{nth-put_same, nth-put_other, In-nothing}
@@ -215,15 +215,15 @@ kept_live true stopped live h = refl
 kept_live false true live h = absurd cc
 kept_live false false live h = absurd cc
 
-pub makes_view-move : (w : World) (set : List ℕ) → IsUsual w → IsRising set → view_refused w set ≡ None → Move (scene w) (scene (record w { views = w.views ++ set ∷ []; book = counted w.book }))
+pub new_view : (w : World) (set : List ℕ) → IsUsual w → IsRising set → view_refused w set ≡ None → NewView (scene w) (scene (record w { views = w.views ++ set ∷ []; book = counted w.book })) set
 unfolding view_refused scene
-makes_view-move w set u rising h =
+new_view w set u rising h =
     let first = or_else-none _ _ h in
     let second = or_else-none _ _ first.1 in
     let steady = u.steady in
     let members : (k : ℕ) → has k set ≡ true → has k (nth [] w.views (length w.views - 1)) ≡ true = λ k is.
     rw (last_view-nth w.views) at (not-false (has k (last_view w.views)) (where_true-none _ _ (first_of-none _ set k second.0 is))) in
-    makes_view set record {
+    record {
       config = refl;
       views = refl;
       nodes = λ m. refl;
@@ -243,7 +243,7 @@ view_or_not-step (Some m) w set u rising is = refused_step w u
 view_or_not-step None w set u rising is =
     let after : World = record w { views = w.views ++ set ∷ []; book = counted w.book } in
     record {
-      moves = next (scene w) (scene after) (scene after) (makes_view-move w set u rising is) (none (scene after) (scene after) (Same-refl (scene after)));
+      moves = next (scene w) (scene after) (scene after) (makes_view set (new_view w set u rising is)) (none (scene after) (scene after) (Same-refl (scene after)));
       ends = u.ends;
       config = refl;
     }
