@@ -8,3 +8,4 @@ pub mod RowsFinish
 pub mod RowsQuiet
 pub mod RowsTry
 pub mod RowsSteps
+pub mod RowsRuns
