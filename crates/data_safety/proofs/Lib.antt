@@ -1,3 +1,12 @@
+pub mod Names
+pub mod Consequences
+pub mod Running
+pub mod OwnershipStill
+pub mod OwnershipFrame
+pub mod SerialContents
+pub mod SerialRun
+pub mod Booking
+pub mod PassValidated
 pub mod RowsReach
 pub mod OrderAdvance
 pub mod OrderSorted
@@ -9,3 +18,4 @@ pub mod RowsQuiet
 pub mod RowsTry
 pub mod RowsSteps
 pub mod RowsRuns
+pub mod Beginning

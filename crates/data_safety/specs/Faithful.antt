@@ -20,7 +20,7 @@ use Rattle.zeus_model.specs.Sound.{replies_of, times}
 use Rattle.zeus_model.specs.World.{no_tx}
 use Rattle.zeus_model.specs.declared.state.Copy.{Copy}
 use Rattle.zeus_model.specs.declared.state.Current.{Current}
-use Rattle.machine_moves.specs.Scene.{IsLive}
+use Rattle.machine_moves.specs.Scene.{IsLive, view}
 use Rattle.machine_moves.proofs.Steady.{IsSteady}
 use Rattle.ownership_safety.specs.Object.{HasGiven}
 use Rattle.ownership_safety.specs.Ordered.{Ordered}
@@ -79,6 +79,8 @@ pub record IsCopied (y : Story) (u : Truth) : Type 0 where
 
 -- entries
 pub record IsEntered (y : Story) (u : Truth) : Type 0 where
+  -- who has pending entries was a member of the first view
+  pub home : (t : Stream) (i : ℕ) → i < length (slot (y.scene.node t.node) t.slot).pending → has t.node (view y.scene 1) ≡ true
   -- what can still pass belongs to the owner of the latest placement, and its writes go to all of its replicas
   pub owner : (t : Stream) (k x : ℕ) → Lives y u t k → mentions x (pending_at y t k).named ≡ true → t.node ≡ (place_now y u x).owner
   pub followed : (t : Stream) (k f : ℕ) (w : Write) → Lives y u t k → In w (pending_at y t k).writes → has f (place_now y u w.obj).replicas ≡ true

@@ -1,4 +1,7 @@
 pub mod Map
+pub mod MapLaws
+pub mod OpLaws
 pub mod Ops
 pub mod Run
+pub mod RunLaws
 pub mod Tx
