@@ -3,6 +3,13 @@ pub mod Consequences
 pub mod Running
 pub mod OwnershipStill
 pub mod OwnershipFrame
+pub mod OwnershipKept
+pub mod OwnershipMoves
+pub mod OwnershipQuiet
+pub mod OwnershipProposals
+pub mod OwnershipSettles
+pub mod OwnershipDecides
+pub mod OwnershipPlain
 pub mod SerialContents
 pub mod SerialRun
 pub mod Booking
@@ -19,3 +26,9 @@ pub mod RowsTry
 pub mod RowsSteps
 pub mod RowsRuns
 pub mod Beginning
+pub mod PassThins
+pub mod PassCopies
+pub mod PassLeft
+pub mod PassBooked
+pub mod PassMoves
+pub mod PassOwn

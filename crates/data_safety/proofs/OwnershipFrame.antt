@@ -105,10 +105,10 @@ module _ (y z : Story) (u : Truth) (chain : ℕ → List Proposal) (f : Faithful
   pub framed-pending : (t : Stream) (k : ℕ) → IsSamePending (pending_at y t k) (pending_at z t k)
   framed-pending t k = rw ((s.rows t.node).done t.slot) ((s.rows t.node).pending t.slot (k - (slot (y.scene.node t.node) t.slot).done))
 
-  framed-left : left z ≡ left y
+  pub framed-left : left z ≡ left y
   framed-left = left-same y z s.config s.txs s.book
 
-  framed-found : (t : Stream) (k : ℕ) → found_at z u t k ≡ found_at y u t k
+  pub framed-found : (t : Stream) (k : ℕ) → found_at z u t k ≡ found_at y u t k
   unfolding found_at
   framed-found t k =
       ap (λ (g : ℕ → Content). running g (λ j. (pending_at z t (u.passed t + j)).writes) (k - u.passed t)) framed-left
@@ -121,17 +121,17 @@ module _ (y z : Story) (u : Truth) (chain : ℕ → List Proposal) (f : Faithful
       let m' : mentions x (pending_at y t k).named ≡ true = rw (framed-pending t k).named at m in
       clean t k (framed-lives t k alive) m'
 
-  framed-ops : (id : ℕ) → tx_ops z id ≡ tx_ops y id
+  pub framed-ops : (id : ℕ) → tx_ops z id ≡ tx_ops y id
   framed-ops id = ap (λ (t : List TxDecl). (nth no_tx t id).tx) s.txs
 
   framed-kept : (t : Stream) (n k : ℕ) → (kept_at (line z.scene t) n k).writes ≡ (kept_at (line y.scene t) n k).writes
   framed-kept t n k = ap (λ (e : Entry). e.writes) (rows-entry y.scene z.scene s.rows t n k)
 
-  framed-within : (x : ℕ) → x < length z.scene.config.objects → x < length y.scene.config.objects
+  pub framed-within : (x : ℕ) → x < length z.scene.config.objects → x < length y.scene.config.objects
   framed-within x h = rw s.config at h
 
   -- what an entry that can still pass names is an object of the configuration
-  lives-within : (t : Stream) (k x : ℕ) → Lives y u t k → mentions x (pending_at y t k).named ≡ true → x < length y.scene.config.objects
+  pub lives-within : (t : Stream) (k x : ℕ) → Lives y u t k → mentions x (pending_at y t k).named ≡ true → x < length y.scene.config.objects
   lives-within t k x alive m = f.booked.objects (pending_at y t k).id x (rw (lives-named y u f t k alive) at m)
 
   -- ---- copies

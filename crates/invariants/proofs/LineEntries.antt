@@ -30,23 +30,23 @@ use Rattle.invariants.proofs.AboutLines.{says, about-in, says-rinv, says-rack, s
 use Rattle.invariants.proofs.LineMoves.{IsQuiet, line-home, own-done, own-kept, log-done, log-kept, acts_line, slots-quiet, logs-quiet, with_log-same, with_log-other, with_slot-same, with_slot-other}
 use Rattle.invariants.proofs.LineSeen.{Seen, raised, stored_next, noted, passed_first, committed_by, actor, stream_cases, sees_nothing, quiet_sends, after_fields, before_fields, own_done_is, own_kept_is, log_done_is, log_kept_is}
 
-raise-taken : (n : Node) (s : Stream) (d : ℕ) → (log n s).done < d → log (raise n s d) s ≡ record { done = d; kept = drop (d - (log n s).done) (log n s).kept }
+pub raise-taken : (n : Node) (s : Stream) (d : ℕ) → (log n s).done < d → log (raise n s d) s ≡ record { done = d; kept = drop (d - (log n s).done) (log n s).kept }
 unfolding raise
 raise-taken n s d h = rw (lt-ltb (log n s).done d h) (with_log-same (after_passing n (take (d - (log n s).done) (log n s).kept)) s record { done = d; kept = drop (d - (log n s).done) (log n s).kept })
 
-raise-other : (n : Node) (s t : Stream) (d : ℕ) → s ≢ t → log (raise n s d) t ≡ log n t
+pub raise-other : (n : Node) (s t : Stream) (d : ℕ) → s ≢ t → log (raise n s d) t ≡ log n t
 unfolding raise
 raise-other n s t d ne = elim (cases_Bool (nat_lt (log n s).done d)) [
   | inl above ↦ rw above (with_log-other (after_passing n (take (d - (log n s).done) (log n s).kept)) s t record { done = d; kept = drop (d - (log n s).done) (log n s).kept } ne)
   | inr not_above ↦ rw not_above refl
 ]
 
-record SameStanding (n m : Node) : Type 0 where
-  stopped : m.stopped ≡ n.stopped
-  epoch : m.epoch ≡ n.epoch
-  reported : m.reported ≡ n.reported
+pub record SameStanding (n m : Node) : Type 0 where
+  pub stopped : m.stopped ≡ n.stopped
+  pub epoch : m.epoch ≡ n.epoch
+  pub reported : m.reported ≡ n.reported
 
-raise-standing : (n : Node) (s : Stream) (d : ℕ) → (SameStanding n (raise n s d)) × ((raise n s d).slots ≡ n.slots)
+pub raise-standing : (n : Node) (s : Stream) (d : ℕ) → (SameStanding n (raise n s d)) × ((raise n s d).slots ≡ n.slots)
 unfolding raise
 raise-standing n s d = elim (cases_Bool (nat_lt (log n s).done d)) [
   | inl above ↦ rw above (record { stopped = refl; epoch = refl; reported = refl }, refl)
@@ -71,7 +71,7 @@ on_kept old new t n after c st = record {
   sends = quiet_sends old new t n after c;
 }
 
-raise_here : (old new : Scene) (s : Stream) (n d passed : ℕ) (l : Letter) → Replicated (line old s) passed → s.node ≢ n → In l old.letters
+pub raise_here : (old new : Scene) (s : Stream) (n d passed : ℕ) (l : Letter) → Replicated (line old s) passed → s.node ≢ n → In l old.letters
     → IsRaising s d l → (log (old.node n) s).done < d → Changes old new n (raise (old.node n) s d) nothing → moves.Raises (line old s) (line new s) passed n d
 raise_here old new s n d passed l replicated foreign i is above c = record {
   acts = on_kept old new s n (raise (old.node n) s d) c (raise-standing (old.node n) s d).0;
@@ -113,7 +113,7 @@ stored_letter old n r l body g =
     let said = about-in r.stream (Stores l.from l.to l.epoch r.number r.done record { followers = r.followers; writes = r.writes }) l old.letters g.2 says_it in
     rw (← g.1, ← g.0) said
 
-store_here : (old new : Scene) (n : ℕ) (r : Invalidation) (l : Letter) → r.stream.node ≢ n → IsReceivable old n l → l.body ≡ RInv r
+pub store_here : (old new : Scene) (n : ℕ) (r : Invalidation) (l : Letter) → r.stream.node ≢ n → IsReceivable old n l → l.body ≡ RInv r
     → r.done ≤ (log (old.node n) r.stream).done → r.number ≡ next_kept (log (old.node n) r.stream)
     → Changes old new n (store (old.node n) r) nothing → moves.StoresNext (line old r.stream) (line new r.stream) n record { followers = r.followers; writes = r.writes }
 store_here old new n r l foreign g body low number c = record {
@@ -237,7 +237,7 @@ note_own_here old new n s i from l t home at_slot g sender body within c = recor
     }
 
 -- a change of one slot is quiet for the streams of the others
-other_slot : (n : Node) (t : Stream) (me s : ℕ) (l : Slot) → record { node = me; slot = s } ≢ t → IsQuiet n (with_slot n s l) t me
+pub other_slot : (n : Node) (t : Stream) (me s : ℕ) (l : Slot) → record { node = me; slot = s } ≢ t → IsQuiet n (with_slot n s l) t me
 other_slot n t me s l ne =
     slots-quiet n (with_slot n s l) t me refl refl refl refl
     (λ home.
@@ -324,7 +324,7 @@ drop-map : (ps : List Pending) → map as_kept (drop 1 ps) ≡ drop 1 (map as_ke
 drop-map [] = refl
 drop-map (p ∷ ps) = refl
 
-pass_own_here : (old new : Scene) (n s : ℕ) (t : Stream) → IsNumbered old → n ≡ t.node → s ≡ t.slot → 0 < length (slot (old.node n) s).pending
+pub pass_own_here : (old new : Scene) (n s : ℕ) (t : Stream) → IsNumbered old → n ≡ t.node → s ≡ t.slot → 0 < length (slot (old.node n) s).pending
     → passes (old.node n) (nth no_kept (own_kept (old.node n) s) 0) ≡ true → Changes old new n (pass_own (old.node n) s 1) nothing
     → moves.PassesFirst (line old t) (line new t) n
 unfolding own_kept
@@ -375,7 +375,7 @@ sees_pass_own old new t n s passed numbered some ok c =
     stream_at : ℕ → ℕ → Stream
     stream_at k j = record { node = k; slot = j }
 
-pass_kept_here : (old new : Scene) (s : Stream) (n : ℕ) → IsNumbered old → has s.node (old.node n).members ≡ false → s.node ≢ n
+pub pass_kept_here : (old new : Scene) (s : Stream) (n : ℕ) → IsNumbered old → has s.node (old.node n).members ≡ false → s.node ≢ n
     → 0 < length (log (old.node n) s).kept → passes (old.node n) (nth no_kept (log (old.node n) s).kept 0) ≡ true
     → Changes old new n (pass_kept (old.node n) s 1) nothing → moves.PassesFirst (line old s) (line new s) n
 pass_kept_here old new s n numbered out foreign some ok c = record {
@@ -444,7 +444,7 @@ commits_at old new x n home a room foreign done kept = record {
   kept = subst (λ (k : ℕ). new.kept k ≡ old.kept k ++ record { followers = x.followers; writes = x.writes; acks = [] } ∷ []) home kept;
 }
 
-commit_here : (old new : Scene) (n s passed : ℕ) (c : Current) (t : Stream) → Replicated (line old t) passed → n ≡ t.node → s ≡ t.slot
+pub commit_here : (old new : Scene) (n s passed : ℕ) (c : Current) (t : Stream) → Replicated (line old t) passed → n ≡ t.node → s ≡ t.slot
     → write_cause (old.node n) s c.tx ≡ None → Changes old new n (committing (old.node n) n s c) nothing
     → moves.Commits (line old t) (line new t) (entry_made (old.node n) n c)
 unfolding own_kept write_cause
@@ -477,7 +477,7 @@ commit_here old new n s passed c t replicated home at_slot free change =
     ∙ ap (λ (ks : List Kept). ks ++ record { followers = (entry_made (old.node n) n c).followers; writes = (entry_made (old.node n) n c).writes; acks = [] } ∷ []) (sym kept_is))
 
 -- a commit in one slot is quiet for the streams of the others
-commit_quiet : (n : Node) (t : Stream) (me s : ℕ) (c : Current) → record { node = me; slot = s } ≢ t → IsQuiet n (committing n me s c) t me
+pub commit_quiet : (n : Node) (t : Stream) (me s : ℕ) (c : Current) → record { node = me; slot = s } ≢ t → IsQuiet n (committing n me s c) t me
 commit_quiet n t me s c ne =
     slots-quiet n (committing n me s c) t me refl refl refl refl
     (λ home.

@@ -35,7 +35,7 @@ passes-top old new n m s =
       | inr other ↦ drops-top_other old new n (suc (old.done n)) m (passes-drops old new n s) other
     ]
 
-passes-kept : (old new : Line) (n : ℕ) → PassesFirst old new n → Has old n (old.done n)
+pub passes-kept : (old new : Line) (n : ℕ) → PassesFirst old new n → Has old n (old.done n)
 passes-kept old new n s = (omega arith, omega (arith, s.some))
 
 -- while the stream's own node lives, no other passes
@@ -49,7 +49,7 @@ passes-own old new passed n r s live =
 -- ---- an entry that has passed elsewhere
 
 -- is passed as it is known to have passed
-passes-raises : (old new : Line) (passed n : ℕ) → Replicated old passed → PassesFirst old new n → old.done n < passed → Raises old new passed n (suc (old.done n))
+pub passes-raises : (old new : Line) (passed n : ℕ) → Replicated old passed → PassesFirst old new n → old.done n < passed → Raises old new passed n (suc (old.done n))
 passes-raises old new passed n r s below =
     let d : Drops old new n (suc (old.done n)) = passes-drops old new n s in
     record {
