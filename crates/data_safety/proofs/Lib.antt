@@ -17,11 +17,26 @@ pub mod PassValidated
 pub mod RowsReach
 pub mod OrderAdvance
 pub mod OrderSorted
+pub mod OrderTurns
+pub mod OrderFinish
+pub mod RowsPasses
+pub mod RowsFinish
+pub mod RowsQuiet
+pub mod RowsTry
+pub mod RowsSteps
+pub mod RowsRuns
 pub mod Beginning
 pub mod OwnershipStill
 pub mod OwnershipFrame
 >>
+||||||| merged common ancestors
+||||||||| merged common ancestors
+||||||||||| 8e4fd89
+===========
+>>>>
+=========
 =======
+>>>>>>> 85b673b5410daea35a09052f9eac2884fa8c8827
 pub mod PassThins
 pub mod PassCopies
 pub mod PassLeft

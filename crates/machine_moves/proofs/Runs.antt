@@ -15,7 +15,7 @@ use Rattle.machine_moves.proofs.Steps.{IsStep, IsUsual, step_is_moves}
 use Rattle.machine_moves.proofs.Start.{start_usual, start-config}
 
 -- a step that fits the configuration of the world
-fitting_step : (c : Config) (txs : List TxDecl) (w : World) (s : Step) → w.config ≡ c → IsUsual w → StepFits c txs s → IsStep w (stepped w s)
+pub fitting_step : (c : Config) (txs : List TxDecl) (w : World) (s : Step) → w.config ≡ c → IsUsual w → StepFits c txs s → IsStep w (stepped w s)
 fitting_step c txs w s is u fits = step_is_moves w s txs u (rw is fits)
 
 pub usual_after : (w after : World) → IsUsual w → IsStep w after → IsUsual after

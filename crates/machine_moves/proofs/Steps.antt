@@ -23,7 +23,7 @@ use Rattle.zeus_model.specs.Commit.{finish}
 use Rattle.zeus_model.specs.Local.{try_slot}
 use Rattle.zeus_model.specs.Membership.{dropped, install, stop, tick}
 use Rattle.zeus_model.specs.World.{World, Event, no_node, node, tx_decl, link, all_posted, cut, refuse_step, begin_refused, begin_or_not, step_begin, tried_at, nth_letter, received_at, deliver_or_not, ticked_at, stopped_at, installed_at, last_view, view_refused, view_or_not, step_install, happens, stepped}
-use Rattle.machine_moves.specs.Scene.{Scene, scene, view, IsLive, nothing}
+use Rattle.machine_moves.specs.Scene.{Scene, scene, view, IsLive, NewView, nothing}
 use Rattle.machine_moves.specs.Move.{Move, Moves, none, next, makes_view, stops, installs}
 use Rattle.machine_moves.specs.Fits.{StepFits}
 use Rattle.machine_moves.proofs.Lists.{nth-put_same, nth-put_other, In-nothing}
@@ -61,11 +61,11 @@ refused_step w u =
 
 -- ---- a node has acted
 
-abbrev world_after : World → ℕ → Node → List Letter → Book → World
+abbrev pub world_after : World → ℕ → Node → List Letter → Book → World
 world_after w n after letters book =
     record { config = w.config; txs = w.txs; nodes = put no_node w.nodes n after; links = all_posted w.links letters; views = w.views; book = book }
 
-Became-after : (w : World) (n : ℕ) (after : Node) (letters : List Letter) (book : Book) → Became (scene w) (scene (world_after w n after letters book)) n after letters
+pub Became-after : (w : World) (n : ℕ) (after : Node) (letters : List Letter) (book : Book) → Became (scene w) (scene (world_after w n after letters book)) n after letters
 unfolding scene
 Became-after w n after letters book =
     record {
@@ -142,7 +142,7 @@ stopped_step w n u =
 
 -- ---- install
 
-abbrev viewed : Scene → ℕ → ℕ → Node
+abbrev pub viewed : Scene → ℕ → ℕ → Node
 viewed s n e = record (s.node n) { epoch = e; members = view s e; reported = []; gathers = dropped (s.node n).gathers }
 
 installs_moves : (s t : Scene) (n e : ℕ) → IsSteady s → IsLive s n → (s.node n).epoch < e → e ≤ length s.views → Became s t n (finish (viewed s n e)).node (take 64 (finish (viewed s n e)).sent) → Moves s t
@@ -215,15 +215,15 @@ kept_live true stopped live h = refl
 kept_live false true live h = absurd cc
 kept_live false false live h = absurd cc
 
-makes_view-move : (w : World) (set : List ℕ) → IsUsual w → IsRising set → view_refused w set ≡ None → Move (scene w) (scene (record w { views = w.views ++ set ∷ []; book = counted w.book }))
+pub new_view : (w : World) (set : List ℕ) → IsUsual w → IsRising set → view_refused w set ≡ None → NewView (scene w) (scene (record w { views = w.views ++ set ∷ []; book = counted w.book })) set
 unfolding view_refused scene
-makes_view-move w set u rising h =
+new_view w set u rising h =
     let first = or_else-none _ _ h in
     let second = or_else-none _ _ first.1 in
     let steady = u.steady in
     let members : (k : ℕ) → has k set ≡ true → has k (nth [] w.views (length w.views - 1)) ≡ true = λ k is.
     rw (last_view-nth w.views) at (not-false (has k (last_view w.views)) (where_true-none _ _ (first_of-none _ set k second.0 is))) in
-    makes_view set record {
+    record {
       config = refl;
       views = refl;
       nodes = λ m. refl;
@@ -243,7 +243,7 @@ view_or_not-step (Some m) w set u rising is = refused_step w u
 view_or_not-step None w set u rising is =
     let after : World = record w { views = w.views ++ set ∷ []; book = counted w.book } in
     record {
-      moves = next (scene w) (scene after) (scene after) (makes_view-move w set u rising is) (none (scene after) (scene after) (Same-refl (scene after)));
+      moves = next (scene w) (scene after) (scene after) (makes_view set (new_view w set u rising is)) (none (scene after) (scene after) (Same-refl (scene after)));
       ends = u.ends;
       config = refl;
     }

@@ -108,7 +108,7 @@ committed-length : (m : Node) (i : ℕ) (c : Current) (ran : Ran) (followers : L
 committed-length m i c ran followers writes =
     rw (committed-slot m i c ran followers writes) (omega (arith, length-append (slot m i).pending (new_pending c ran followers writes ∷ [])))
 
-commit_telling : (m : Node) (i : ℕ) (c : Current) (ran : Ran) (replicas : List ℕ) (writes : List Write) (l : Letter) → In l (to_each m (meet (without m.me replicas) m.members) (RInv (invalidation m i (without m.me replicas) writes))) → IsTellable (committed m i c ran (without m.me replicas) writes) l
+pub commit_telling : (m : Node) (i : ℕ) (c : Current) (ran : Ran) (replicas : List ℕ) (writes : List Write) (l : Letter) → In l (to_each m (meet (without m.me replicas) m.members) (RInv (invalidation m i (without m.me replicas) writes))) → IsTellable (committed m i c ran (without m.me replicas) writes) l
 commit_telling m i c ran replicas writes =
     let followers = without m.me replicas in
     let after = committed m i c ran followers writes in
