@@ -35,3 +35,5 @@ pub mod RowsTry
 pub mod Running
 pub mod SerialContents
 pub mod SerialRun
+pub mod Store
+pub mod StoreApplied
