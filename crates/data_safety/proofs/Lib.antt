@@ -32,3 +32,4 @@ pub mod PassLeft
 pub mod PassBooked
 pub mod PassMoves
 pub mod PassOwn
+pub mod RestTurned
