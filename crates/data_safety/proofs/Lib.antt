@@ -33,3 +33,4 @@ pub mod PassBooked
 pub mod PassMoves
 pub mod PassOwn
 pub mod RestTurned
+pub mod RestSame
