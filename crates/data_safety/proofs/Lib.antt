@@ -25,6 +25,8 @@ pub mod PassOwn
 pub mod PassThins
 pub mod PassValidated
 pub mod Raise
+pub mod RestSame
+pub mod RestTurned
 pub mod RowsFinish
 pub mod RowsPasses
 pub mod RowsQuiet
