@@ -39,3 +39,4 @@ pub mod SerialContents
 pub mod SerialRun
 pub mod Store
 pub mod StoreApplied
+pub mod StoryKeeps

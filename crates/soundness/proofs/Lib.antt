@@ -1,5 +1,7 @@
 pub mod Faithfulness
+pub mod Fitting
 pub mod Limits
+pub mod NeverAnswers
 pub mod NeverBare
 pub mod NeverCauses
 pub mod NeverLetters
