@@ -34,3 +34,4 @@ pub mod PassMoves
 pub mod PassOwn
 pub mod RestTurned
 pub mod RestSame
+pub mod RestBooked
