@@ -25,6 +25,7 @@ pub mod PassOwn
 pub mod PassThins
 pub mod PassValidated
 pub mod Raise
+pub mod RestBooked
 pub mod RestSame
 pub mod RestTurned
 pub mod RowsFinish
