@@ -1,5 +1,9 @@
 pub mod Beginning
 pub mod Booking
+pub mod CommitBooked
+pub mod CommitCauses
+pub mod CommitRewritten
+pub mod CommitSlots
 pub mod Consequences
 pub mod Names
 pub mod OrderAdvance
