@@ -35,9 +35,6 @@ acked_none (Some k) p same none = let at : p ≡ Some k = same k refl in absurd 
 some_entry : (a b : EntryId) → ◌≡◌ {A = Option EntryId} (Some a) (Some b) → a ≡ b
 some_entry a b e = cc
 
-entry_named : Stream → ℕ → EntryId
-entry_named t k = record { stream = t; number = k }
-
 module _ (y z : Story) (u : Truth) (f : Faithful y u) (n s : ℕ) (c : Current) (h : CommitsTx y z n s c) where
   begun_one : (c.tx ≡ tx_ops y c.id) × (is_some (record_of y.book c.id).begun ≡ true) × ((record_of y.book c.id).entry ≡ None) × ((record_of y.book c.id).point ≡ None)
       × ((record_of y.book c.id).refused ≡ false) × ((nth no_tx y.txs c.id).node ≡ n) × ((nth no_tx y.txs c.id).slot ≡ s)
@@ -190,3 +187,69 @@ module _ (y z : Story) (u : Truth) (f : Faithful y u) (n s : ℕ) (c : Current) 
 
       own_is : (t : Stream) → t.node ≡ n → t.slot ≡ s → record { node = n; slot = s } ≡ t
       own_is t a b = rw (← a, ← b) refl
+
+  -- what has ended is as it was
+  commit-begun : (j : ℕ) → (is_some (record_of z.book j).entry ≡ true) ⊎ ((is_some (record_of z.book j).point ≡ true) ⊎ ((record_of z.book j).refused ≡ true))
+      → is_some (record_of z.book j).begun ≡ true
+  commit-begun j ended = elim (same_or_not j c.id) [
+    | inl same ↦ ap (λ (o : Option ℕ). is_some o) (same_begun j) ∙ ap (λ (i : ℕ). is_some (record_of y.book i).begun) same ∙ begun_one.1
+    | inr other ↦ rw (commit-record_other y z n s c h j other) (f.booked.begun j (rw (commit-record_other y z n s c h j other) at ended))
+  ]
+
+  -- the new entry has not passed
+  commit-passed : (j : ℕ) (e : EntryId) → (record_of z.book j).entry ≡ Some e → (is_some (record_of z.book j).point ≡ true) ↔ (e.number < u.passed e.stream)
+  commit-passed j e is =
+      let point = ap (λ (o : Option ℕ). is_some o) (same_point j) in
+      elim (entry_cases j e is) [
+        | inr old ↦ let b = f.booked.passed j e old.1 in (λ some. b.0 (sym point ∙ some), λ low. point ∙ b.1 low)
+        | inl new_one ↦
+            let own : Stream = record { node = n; slot = s } in
+            let none : (record_of z.book j).point ≡ None = same_point j ∙ ap (λ (i : ℕ). (record_of y.book i).point) new_one.0 ∙ begun_one.3 in
+            let committed : u.passed own ≤ end (line y.scene own) = (f.replicated own).committed in
+            (λ some. absurd (cc (ap (λ (o : Option ℕ). is_some o) none, some)),
+            λ low. let low_here : end (line y.scene own) < u.passed own = subst (λ (i : EntryId). i.number < u.passed i.stream) new_one.1 low in absurd (omega (arith, low_here, committed)))
+      ]
+
+  commit-acked : (j : ℕ) (e : EntryId) → (record_of z.book j).entry ≡ Some e → (is_some (record_of z.book j).acked ≡ true) ↔ (e.number < (slot (z.scene.node e.stream.node) e.stream.slot).done)
+  commit-acked j e is =
+      let acked = ap (λ (o : Option ℕ). is_some o) (same_acked j) in
+      let done = commit-done y z n s c h e.stream.node e.stream.slot in
+      elim (entry_cases j e is) [
+        | inr old ↦ let b = f.booked.acked j e old.1 in (λ some. omega (arith, done, b.0 (sym acked ∙ some)), λ low. acked ∙ b.1 (omega (arith, low, done)))
+        | inl new_one ↦
+            let own : Stream = record { node = n; slot = s } in
+            let none : (record_of z.book j).acked ≡ None = same_acked j ∙ ap (λ (i : ℕ). (record_of y.book i).acked) new_one.0 ∙ unacked in
+            (λ some. absurd (cc (ap (λ (o : Option ℕ). is_some o) none, some)),
+            λ low.
+            let low_here : end (line y.scene own) < (slot (z.scene.node n) s).done = subst (λ (i : EntryId). i.number < (slot (z.scene.node i.stream.node) i.stream.slot).done) new_one.1 low in
+            absurd (omega (arith, low_here, commit-done y z n s c h n s, home-end y.scene own)))
+      ]
+
+  same_points : z.book.points ≡ y.book.points
+  same_points = ap (λ (b : Book). b.points) h.book
+
+  same_steps : z.book.steps ≡ y.book.steps
+  same_steps = ap (λ (b : Book). b.steps) h.book
+
+  pub commit-booked : IsBooked z u
+  commit-booked = record {
+    objects = λ j x m. rw h.change.config (f.booked.objects j x (rw (tx_ops-same y z j h.txs) at m));
+    entry = commit-entry;
+    one_entry = commit-one_entry;
+    below_end = commit-below_end;
+    pending = commit-pending;
+    current = commit-current;
+    begun = commit-begun;
+    begun_before = λ j step is. omega (arith, f.booked.begun_before j step (sym (same_begun j) ∙ is), same_steps);
+    point_after = λ j begin step started pointed.
+        let b = f.booked.point_after j begin step (sym (same_begun j) ∙ started) (sym (same_point j) ∙ pointed) in
+        (b.0, omega (arith, b.1, same_steps));
+    acked_at = λ j step is. same_point j ∙ f.booked.acked_at j step (sym (same_acked j) ∙ is);
+    once = λ j. omega (arith, f.booked.once j, ap (λ (ps : List Point). times j ps) same_points);
+    in_history = λ j. rw (same_point j, same_points) (f.booked.in_history j);
+    passed = commit-passed;
+    acked = commit-acked;
+    replies = ap (λ (ps : List Point). replies_of ps) same_points ∙ f.booked.replies
+        ∙ ap (λ (l : List (List Op)). serial_replies (start_map y.scene.config) l) (ap (λ (ps : List Point). txs_of y ps) (sym same_points) ∙ sym (txs_of-same y z z.book.points h.txs))
+        ∙ ap (λ (k : Config). serial_replies (start_map k) (txs_of z z.book.points)) (sym h.change.config);
+  }

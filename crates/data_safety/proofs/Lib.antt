@@ -2,6 +2,7 @@ pub mod Beginning
 pub mod Booking
 pub mod CommitBooked
 pub mod CommitCauses
+pub mod CommitFound
 pub mod CommitRewritten
 pub mod CommitSlots
 pub mod Consequences
