@@ -39,7 +39,7 @@ use Rattle.data_safety.proofs.Names.{run-named, raised-from}
 
 -- ---- the entries that a stream's own node keeps
 
-nth-kept : (ps : List Pending) (i : ℕ) → nth no_kept (map as_kept ps) i ≡ as_kept (nth no_pending ps i)
+pub nth-kept : (ps : List Pending) (i : ℕ) → nth no_kept (map as_kept ps) i ≡ as_kept (nth no_pending ps i)
 unfolding nth
 nth-kept [] i = refl
 nth-kept (p ∷ ps) zero = refl
@@ -51,7 +51,7 @@ home-done s t = rw (line-home s t) (own_done_is s t t.node refl)
 pub home-kept : (s : Scene) (t : Stream) → (line s t).kept (line s t).home ≡ own_kept (s.node t.node) t.slot
 home-kept s t = rw (line-home s t) (own_kept_is s t t.node refl)
 
-own-length : (n : Node) (s : ℕ) → length (own_kept n s) ≡ length (slot n s).pending
+pub own-length : (n : Node) (s : ℕ) → length (own_kept n s) ≡ length (slot n s).pending
 unfolding own_kept
 own-length n s = length-map (slot n s).pending as_kept
 
@@ -223,6 +223,7 @@ module _ (y : Story) (u : Truth) (f : Faithful y u) where
       true≢false (sym first ∙ sym (ap (λ (ms : List ℕ). has t.node ms) known.members) ∙ gone)
       in
       all_reported t k n live opened gone later alive
+
   -- ---- copies
 
   -- a copy of a clean object is what the history leaves
@@ -241,7 +242,7 @@ module _ (y : Story) (u : Truth) (f : Faithful y u) where
   -- a valid copy is what the history leaves
   pub read-valid : (n x : ℕ) (c : Copy) → x < length y.scene.config.objects → IsLive y.scene n → copy (y.scene.node n) x ≡ Some c → c.state ≡ Valid → content_of c ≡ left y x
   read-valid n x c within live is valid =
-      elim (f.copied.content n x c within live is) [ | inl same ↦ same | inr newer ↦ absurd (newer.not_valid valid) ]
+      elim (f.copied.content n x c within live is) [ inl same ↦ same | inr newer ↦ absurd (newer.not_valid valid) ]
 
   -- an open source of the latest placement, none of whose slots holds the object, has a clean object
   pub source-clean : (n x : ℕ) → IsLive y.scene n → is_open (y.scene.node n) ≡ true → is_source (y.scene.node n) (place_now y u x) ≡ true

@@ -11,16 +11,9 @@ use Rattle.zeus_model.specs.Tables.{nth}
 use Rattle.zeus_model.specs.World.{no_tx}
 use Rattle.zeus_model.specs.declared.state.Current.{Current}
 use Rattle.machine_moves.specs.Scene.{Scene, Changes, Same, nothing}
-use Rattle.machine_moves.specs.Move.{Move, own_kept, turns, passes_own, passes_kept, commits}
+use Rattle.machine_moves.specs.Move.{Move, own_kept}
+unfoldable pub use Rattle.machine_moves.specs.Plain.{IsPlain}
 use Rattle.data_safety.specs.Story.{Story}
-
--- the moves that write nothing into the book
-unfoldable pub IsPlain : (old new : Scene) → Move old new → Type 0
-IsPlain old new (turns n s c h) = ⊥
-IsPlain old new (passes_own n s a b c) = ⊥
-IsPlain old new (passes_kept n s a b c d e) = ⊥
-IsPlain old new (commits n s c a b d e) = ⊥
-IsPlain old new _ = Unit {0}
 
 pub data StoryMove (old new : Story) : Type 0 where
   plain : (move : Move old.scene new.scene) → IsPlain old.scene new.scene move → new.txs ≡ old.txs → new.book ≡ old.book → StoryMove old new

@@ -1,18 +1,16 @@
 -- What letters say of a stream, and how a change of a scene looks to it.
-use Rattle.std.specs.Prelude.{ℕ, ◌≡◌, ◌≢◌, ◌==◌, ◌<◌, Bool, true, false, List, [], ◌∷◌, ◌++◌, map, drop, length, Option, Some, None, if◌then◌else◌, ◌⊎◌}
-use Rattle.std.proofs.Common.{arith, refl, sym, ap, inl, inr, ◌∙◌, subst}
-use Rattle.std.proofs.lemmas.Bool.{eq-eqb, cases_Bool}
-use Rattle.std.proofs.lemmas.Bool.Decides.{nat_tests}
+use Rattle.std.specs.Prelude.{ℕ, ◌≡◌, List, [], ◌∷◌}
+use Rattle.std.proofs.Common.{refl, inl, inr, subst}
+use Rattle.std.proofs.lemmas.Bool.{cases_Bool}
 use Rattle.zeus_base.specs.Order.{same_stream}
-use Rattle.zeus_base.specs.OrderLaws.{same_stream-true, same_stream-refl, same_stream-from}
+use Rattle.zeus_base.specs.OrderLaws.{same_stream-true, same_stream-refl}
 use Rattle.zeus_base.specs.declared.order.Stream.{Stream}
-use Rattle.zeus_packet.specs.declared.letter.Body.{Body}
-use Rattle.zeus_packet.specs.declared.letter.Body.TheVariants.{RInv, RAck, RVal, OReq, OInv, OAck, ONack, OVal, Recovered}
+use Rattle.zeus_packet.specs.declared.letter.Body.TheVariants.{RInv, RAck, RVal, Recovered}
 use Rattle.zeus_packet.specs.declared.letter.Letter.{Letter}
 use Rattle.zeus_packet.specs.declared.letter.RInv.{RInv as Invalidation}
 use Rattle.zeus_model.specs.In.{In, here, there}
 use Rattle.machine_moves.specs.Scene.{Scene, Sends}
-use Rattle.replication_safety.specs.Line.{Line, Stores, Stored, Passes, Reports, Letter as Said}
+use Rattle.replication_safety.specs.Line.{Stores, Stored, Passes, Reports, Letter as Said}
 use Rattle.replication_safety.specs.Moves as moves
 use Rattle.ownership_safety.proofs.Basics.{In-append_left, In-append_right, In-append}
 use Rattle.invariants.specs.Lines.{line, about, said_of, only_of}

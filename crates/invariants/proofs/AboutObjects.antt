@@ -1,6 +1,6 @@
 -- What letters say of an object, and how a change of a scene looks to it.
-use Rattle.std.specs.Prelude.{ℕ, ◌≡◌, ◌≢◌, ◌==◌, ◌<◌, nat_lt, Bool, true, false, List, [], ◌∷◌, ◌++◌, Option, Some, None, if◌then◌else◌, ◌⊎◌}
-use Rattle.std.proofs.Common.{arith, refl, sym, ap, inl, inr, ◌∙◌, subst}
+use Rattle.std.specs.Prelude.{ℕ, ◌≡◌, ◌==◌, ◌<◌, List, [], ◌∷◌, Option}
+use Rattle.std.proofs.Common.{arith, refl, inl, inr, subst}
 use Rattle.std.proofs.lemmas.Bool.{lt-ltb, eq-eqb, cases_Bool}
 use Rattle.std.proofs.lemmas.Bool.Decides.{nat_tests}
 use Rattle.zeus_base.specs.declared.order.Stamp.{Stamp}
@@ -11,14 +11,12 @@ use Rattle.zeus_packet.specs.declared.place.Place.{Place}
 use Rattle.zeus_packet.specs.declared.place.Proposal.{Proposal}
 use Rattle.zeus_packet.specs.declared.write.Content.{Content}
 use Rattle.zeus_model.specs.In.{In, here, there}
-use Rattle.zeus_model.specs.State.{Node, entry, gather}
-use Rattle.zeus_model.specs.declared.state.Entry.{Entry}
-use Rattle.zeus_model.specs.declared.state.Gather.{Gather}
-use Rattle.machine_moves.specs.Scene.{Scene, IsLive, IsNumbered, Sends, Changes, Same}
-use Rattle.ownership_safety.specs.Object.{Object, Invalidates, Acknowledges, Validates, Letter as Said}
+use Rattle.zeus_model.specs.State.{entry, gather}
+use Rattle.machine_moves.specs.Scene.{Scene, Sends}
+use Rattle.ownership_safety.specs.Object.{Invalidates, Acknowledges, Validates, Letter as Said}
 use Rattle.ownership_safety.specs.Moves as moves
 use Rattle.ownership_safety.proofs.Basics.{In-append_left, In-append_right, In-append}
-use Rattle.invariants.specs.Objects.{object, about, said_of, only_about, declared_entry}
+use Rattle.invariants.specs.Objects.{object, about, said_of, only_about}
 
 -- what a letter says of the object
 abbrev pub says : ℕ → Letter → List Said

@@ -1,6 +1,6 @@
 -- What each change of a node leaves as it was.
 use Rattle.std.specs.Prelude.{ℕ, zero, suc, ◌≡◌, ◌≢◌, Bool, true, false, List, [], ◌∷◌, Option, Some, None, if◌then◌else◌, ◌==◌, nat_lt}
-use Rattle.std.proofs.Common.{arith, refl, sym, ap, ◌∙◌, inl, inr}
+use Rattle.std.proofs.Common.{refl, ap, ◌∙◌, inl, inr}
 use Rattle.std.proofs.lemmas.Bool.{cases_Bool}
 use Rattle.zeus_base.specs.Order.{is_below}
 use Rattle.zeus_base.specs.TableLaws.{nth-put_same, nth-put_other}
@@ -14,7 +14,6 @@ use Rattle.zeus_model.specs.State.{Node, no_entry, entry, gather, log, with_entr
 use Rattle.zeus_model.specs.Commit.{raise}
 use Rattle.zeus_model.specs.Membership.{dropped}
 use Rattle.zeus_model.specs.Ownership.{settle, settled_entry, gather_above, bring, brought, holding}
-use Rattle.zeus_model.specs.declared.state.Entry.{Entry}
 use Rattle.zeus_model.specs.declared.state.Gather.{Gather}
 
 -- what a change of a node must leave, for the object to see nothing of it

@@ -9,3 +9,5 @@ pub mod LineMoves
 pub mod LineSeen
 pub mod LineEntries
 pub mod LineKeeps
+pub mod Start
+pub mod Runs

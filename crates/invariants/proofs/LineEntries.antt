@@ -1,38 +1,34 @@
 -- What a stream sees of the moves of its entries.
-use Rattle.std.specs.Prelude.{ℕ, suc, zero, ◌≡◌, ◌≢◌, ◌==◌, ◌<◌, ◌≤◌, ◌+◌, ◌-◌, Bool, true, false, List, [], ◌∷◌, ◌++◌, map, take, drop, length, Option, Some, None, if◌then◌else◌, ◌⊎◌, nat_lt}
+use Rattle.std.specs.Prelude.{ℕ, suc, zero, ◌≡◌, ◌≢◌, ◌==◌, ◌<◌, ◌≤◌, ◌+◌, ◌-◌, true, false, List, [], ◌∷◌, ◌++◌, map, take, drop, length, Option, None, nat_lt}
 use Rattle.std.proofs.Common.{arith, refl, sym, ap, inl, inr, ◌∙◌, subst}
 use Rattle.std.proofs.lemmas.Bool.{cases_Bool, lt-ltb, eq-eqb}
-use Rattle.std.proofs.lemmas.Bool.Decides.{nat_tests}
 use Rattle.std.proofs.lemmas.List.{length-map}
 use Rattle.zeus_base.specs.Nodes.{has, without, meet, is_subset}
 use Rattle.zeus_base.specs.NodeLaws.{has-without_same}
 use Rattle.zeus_base.specs.TableLaws.{nth-put_other}
 use Rattle.zeus_base.specs.declared.order.Stream.{Stream}
-use Rattle.zeus_packet.specs.declared.letter.Body.TheVariants.{RInv, RAck, RVal}
+use Rattle.zeus_packet.specs.declared.letter.Body.TheVariants.{RInv, RAck}
 use Rattle.zeus_packet.specs.declared.letter.Letter.{Letter}
 use Rattle.zeus_packet.specs.declared.letter.RInv.{RInv as Invalidation}
-use Rattle.zeus_packet.specs.declared.write.Write.{Write}
 use Rattle.zeus_txn.specs.Ops.{named}
-use Rattle.zeus_txn.specs.declared.reply.Ran.{Ran}
 use Rattle.zeus_model.specs.In.{In}
 use Rattle.zeus_model.specs.Tables.{nth, put, or_else, where_true}
-use Rattle.zeus_model.specs.State.{Node, Slot, StreamLog, no_slot, no_log, slot, log, with_slot, with_log, with_copies, own_stream}
+use Rattle.zeus_model.specs.State.{Node, Slot, StreamLog, no_slot, slot, log, with_slot, with_log, with_copies}
 use Rattle.zeus_model.specs.Commit.{as_kept, each_write, applied, after_passing, raise, store, next_kept, no_kept, no_pending, passes, pass_own, pass_kept, acked_kept, acked_pending}
-use Rattle.zeus_model.specs.Local.{committed, rewritten_copy, write_cause, full_cause, run_here, new_writes, replicas_of, with_current}
+use Rattle.zeus_model.specs.Local.{committed, rewritten_copy, write_cause, full_cause, run_here, new_writes, replicas_of}
 use Rattle.zeus_model.specs.declared.state.Current.{Current}
 use Rattle.zeus_model.specs.declared.state.Kept.{Kept}
 use Rattle.zeus_model.specs.declared.state.Pending.{Pending}
 use Rattle.zeus_model.specs.declared.answer.Tried.{Tried}
 use Rattle.machine_moves.specs.Move.{IsRaising, by_entry, by_word, own_kept}
-use Rattle.machine_moves.specs.Scene.{Scene, IsLive, IsNumbered, IsReceivable, Sends, Changes, Same, NewView, nothing, view}
+use Rattle.machine_moves.specs.Scene.{Scene, IsNumbered, IsReceivable, Changes, nothing}
 use Rattle.replication_safety.specs.Line.{Line, Entry, Stores, Stored, Passes, Has, IsOut, kept_at, entry_of, top, Letter as Said}
 use Rattle.replication_safety.specs.Moves as moves
 use Rattle.replication_safety.specs.Replicated.{Replicated}
-use Rattle.invariants.specs.Lines.{line, about, done_of, kept_of}
+use Rattle.invariants.specs.Lines.{line}
 use Rattle.invariants.proofs.AboutLines.{says, about-in, says-rinv, says-rack, says-rval}
-use Rattle.invariants.proofs.ObjectSeen.{same_or_not}
-use Rattle.invariants.proofs.LineMoves.{IsQuiet, line-done, line-kept, line-home, line-epoch, own-done, own-kept, log-done, log-kept, acts_line, slots-quiet, logs-quiet, with_log-same, with_log-other, with_slot-same, with_slot-other}
-use Rattle.invariants.proofs.LineSeen.{Seen, raised, stored_next, noted, passed_first, committed_by, IsActor, actor, stream_cases, sees_nothing, outsider, quiet_sends, after_fields, before_fields, own_done_is, own_kept_is, log_done_is, log_kept_is}
+use Rattle.invariants.proofs.LineMoves.{IsQuiet, line-home, own-done, own-kept, log-done, log-kept, acts_line, slots-quiet, logs-quiet, with_log-same, with_log-other, with_slot-same, with_slot-other}
+use Rattle.invariants.proofs.LineSeen.{Seen, raised, stored_next, noted, passed_first, committed_by, actor, stream_cases, sees_nothing, quiet_sends, after_fields, before_fields, own_done_is, own_kept_is, log_done_is, log_kept_is}
 
 pub raise-taken : (n : Node) (s : Stream) (d : ℕ) → (log n s).done < d → log (raise n s d) s ≡ record { done = d; kept = drop (d - (log n s).done) (log n s).kept }
 unfolding raise

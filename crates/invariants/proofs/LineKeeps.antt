@@ -1,21 +1,21 @@
 -- Each move of the machine keeps every stream replicated.
-use Rattle.std.specs.Prelude.{ℕ, suc, ◌≡◌, ◌≢◌, ◌==◌, ◌<◌, ◌≤◌, Option, Bool, true, false, List, [], ◌∷◌, ◌⊎◌}
+use Rattle.std.specs.Prelude.{ℕ, suc, ◌≡◌, ◌==◌, ◌≤◌, Option, true, false}
 use Rattle.std.proofs.Common.{arith, refl, sym, ap, inl, inr, ◌∙◌}
 use Rattle.std.proofs.lemmas.Bool.{cases_Bool}
 use Rattle.zeus_base.specs.Nodes.{has}
 use Rattle.zeus_base.specs.Order.{is_below}
 use Rattle.zeus_base.specs.declared.order.Stamp.{Stamp}
 use Rattle.zeus_base.specs.declared.order.Stream.{Stream}
-use Rattle.zeus_model.specs.State.{Node, Slot, entry, gather, slot, with_slot, with_entry, with_gather, with_copy}
+use Rattle.zeus_model.specs.State.{Node, Slot, entry, gather, slot, with_entry, with_gather, with_copy}
 use Rattle.zeus_model.specs.Local.{with_current}
-use Rattle.zeus_model.specs.Ownership.{settle, settled_entry, gather_above, holding, driven, bring, brought, gather_for, noted}
+use Rattle.zeus_model.specs.Ownership.{settle, settled_entry, gather_above, holding, driven, bring, brought}
 use Rattle.zeus_packet.specs.Place.{new_place}
 use Rattle.zeus_packet.specs.declared.place.Place.{Place}
 use Rattle.zeus_packet.specs.declared.place.Proposal.{Proposal}
 use Rattle.zeus_packet.specs.declared.write.Content.{Content}
 use Rattle.zeus_model.specs.declared.state.Current.{Current}
-use Rattle.machine_moves.specs.Scene.{Scene, IsLive, IsNumbered, Changes, Same, nothing}
-use Rattle.machine_moves.specs.Move.{IsTellable, IsAboutProposal, Move, Moves, none, next, makes_view, stops, installs, tells, turns, settles, drives, accepts, redrives, gathers, decides, raises, stores, notes_own, notes_kept, passes_own, passes_kept, reports, hears, commits}
+use Rattle.machine_moves.specs.Scene.{Scene, IsLive, IsNumbered, Same, nothing}
+use Rattle.machine_moves.specs.Move.{IsTellable, Move, Moves, none, next, makes_view, stops, installs, tells, turns, settles, drives, accepts, redrives, gathers, decides, raises, stores, notes_own, notes_kept, passes_own, passes_kept, reports, hears, commits}
 use Rattle.machine_moves.proofs.Steady.{IsSteady, IsNumbered-steady, move_keep}
 use Rattle.replication_safety.specs.Line.{Line}
 use Rattle.replication_safety.specs.Moves as moves
@@ -30,7 +30,7 @@ use Rattle.replication_safety.proofs.Views.{keeps_Stops, keeps_Installs, keeps_N
 use Rattle.invariants.specs.Lines.{line}
 use Rattle.invariants.proofs.AboutLines.{sends_line}
 use Rattle.invariants.proofs.LineMoves.{IsQuiet, line-stopped, same_setting, tells_line, slots-quiet, with_slot-same, with_slot-other}
-use Rattle.invariants.proofs.LineSeen.{Seen, viewed, stopped, installed, told, reports_itself, heard, committed_by, stored_next, raised, noted as noted_ack, passed_first, IsActor, actor, standing, same_fields, sees_nothing, sees_proposal, sees_view, sees_stop, sees_install, sees_report, sees_hear, tellable-line}
+use Rattle.invariants.proofs.LineSeen.{Seen, viewed, stopped, installed, told, reports_itself, heard, committed_by, stored_next, raised, noted as noted_ack, passed_first, actor, standing, same_fields, sees_nothing, sees_proposal, sees_view, sees_stop, sees_install, sees_report, sees_hear, tellable-line}
 use Rattle.invariants.proofs.LineEntries.{sees_raise, sees_store, sees_note_own, sees_note_kept, sees_pass_own, sees_pass_kept, sees_commit}
 use Rattle.invariants.proofs.ObjectSeen.{same_or_not}
 

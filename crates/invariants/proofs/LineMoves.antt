@@ -1,18 +1,16 @@
 -- How each move of the machine looks to one stream.
-use Rattle.std.specs.Prelude.{ℕ, suc, zero, ◌≡◌, ◌≢◌, ◌==◌, ◌<◌, ◌≤◌, ◌+◌, ◌-◌, Bool, true, false, List, [], ◌∷◌, ◌++◌, map, drop, length, Option, Some, None, if◌then◌else◌, ◌⊎◌}
-use Rattle.std.proofs.Common.{arith, refl, sym, ap, inl, inr, ◌∙◌, subst}
-use Rattle.std.proofs.lemmas.Bool.{eq-eqb, ne_eqb, cases_Bool}
-use Rattle.std.proofs.lemmas.Bool.Decides.{nat_tests}
+use Rattle.std.specs.Prelude.{ℕ, ◌≡◌, ◌≢◌, List, [], map}
+use Rattle.std.proofs.Common.{refl, sym, ap, inl, inr, ◌∙◌}
+use Rattle.std.proofs.lemmas.Bool.{eq-eqb, ne_eqb}
 use Rattle.zeus_base.specs.TableLaws.{nth-put_same, nth-put_other}
 use Rattle.zeus_base.specs.declared.order.Stream.{Stream}
 use Rattle.zeus_packet.specs.declared.letter.Letter.{Letter}
 use Rattle.zeus_model.specs.In.{In}
 use Rattle.zeus_model.specs.Tables.{nth, put}
 use Rattle.zeus_model.specs.State.{Node, Slot, StreamLog, no_slot, no_log, slot, log, with_slot, with_log}
-use Rattle.zeus_model.specs.declared.state.Kept.{Kept}
 use Rattle.machine_moves.specs.Move.{own_kept}
-use Rattle.machine_moves.specs.Scene.{Scene, IsLive, IsNumbered, Sends, Changes, Same, NewView, nothing}
-use Rattle.replication_safety.specs.Line.{Line, Letter as Said}
+use Rattle.machine_moves.specs.Scene.{Scene, Changes}
+use Rattle.replication_safety.specs.Line.{Letter as Said}
 use Rattle.replication_safety.specs.Moves as moves
 use Rattle.invariants.specs.Lines.{line, done_of, kept_of}
 use Rattle.invariants.proofs.AboutLines.{says, sends_line}

@@ -1,34 +1,29 @@
 -- Each move of the machine, as each stream sees it.
-use Rattle.std.specs.Prelude.{ℕ, suc, zero, ◌≡◌, ◌≢◌, ◌==◌, ◌<◌, ◌≤◌, ◌+◌, ◌-◌, Bool, true, false, List, [], ◌∷◌, ◌++◌, map, take, drop, length, Option, Some, None, if◌then◌else◌, ◌⊎◌, nat_lt}
+use Rattle.std.specs.Prelude.{ℕ, ◌≡◌, ◌≢◌, ◌==◌, ◌<◌, ◌≤◌, ◌+◌, ◌-◌, true, false, List, [], ◌∷◌, ◌++◌, map, length, if◌then◌else◌, ◌⊎◌}
 use Rattle.std.proofs.Common.{arith, refl, sym, ap, inl, inr, ◌∙◌, subst}
-use Rattle.std.proofs.lemmas.Bool.{cases_Bool, lt-ltb}
+use Rattle.std.proofs.lemmas.Bool.{cases_Bool}
 use Rattle.std.proofs.lemmas.List.{length-map}
-use Rattle.std.proofs.lemmas.Bool.Decides.{nat_tests}
-use Rattle.zeus_base.specs.Nodes.{has, with_node, without, meet, is_subset}
+use Rattle.zeus_base.specs.Nodes.{has, with_node, is_subset}
 use Rattle.zeus_base.specs.Order.{same_stream}
 use Rattle.zeus_base.specs.OrderLaws.{same_stream-true, same_stream-from}
 use Rattle.zeus_base.specs.declared.order.Stream.{Stream}
-use Rattle.zeus_packet.specs.declared.letter.Body.TheVariants.{RInv, RAck, RVal, OInv, OAck, Recovered}
+use Rattle.zeus_packet.specs.declared.letter.Body.TheVariants.{Recovered}
 use Rattle.zeus_packet.specs.declared.letter.Letter.{Letter}
-use Rattle.zeus_packet.specs.declared.letter.RInv.{RInv as Invalidation}
 use Rattle.zeus_packet.specs.declared.place.Proposal.{Proposal}
 use Rattle.zeus_model.specs.In.{In}
-use Rattle.zeus_model.specs.Tables.{nth, put}
-use Rattle.zeus_model.specs.State.{Node, Slot, StreamLog, no_slot, no_log, slot, log, with_slot, with_log, own_stream}
-use Rattle.zeus_model.specs.Act.{letter}
-use Rattle.zeus_model.specs.Commit.{as_kept, after_passing, raise, store, next_kept, no_kept, no_pending, passes, pass_own, pass_kept, acked_kept, acked_pending}
+use Rattle.zeus_model.specs.Tables.{nth}
+use Rattle.zeus_model.specs.State.{Node, Slot, StreamLog, no_slot, no_log, slot, log, own_stream}
+use Rattle.zeus_model.specs.Commit.{as_kept, no_kept}
 use Rattle.zeus_model.specs.declared.state.Kept.{Kept}
-use Rattle.zeus_model.specs.declared.state.Pending.{Pending}
-use Rattle.machine_moves.specs.Move.{IsTellable, IsAboutProposal, request, advice, placement, reported, own_entry, kept_entry, stored, own_passed, kept_passed, to_arbiter, to_collector, IsRaising, by_entry, by_word, own_kept}
-use Rattle.machine_moves.specs.Scene.{Scene, IsLive, IsNumbered, IsReceivable, Sends, Changes, Same, NewView, nothing, view}
+use Rattle.machine_moves.specs.Move.{IsTellable, IsAboutProposal, request, advice, placement, reported, own_entry, kept_entry, stored, own_passed, kept_passed, to_arbiter, to_collector, own_kept}
+use Rattle.machine_moves.specs.Scene.{Scene, IsLive, IsNumbered, IsReceivable, Changes, NewView, nothing}
 use Rattle.replication_safety.specs.Line.{Line, Entry, Stores, Stored, Passes, Reports, Has, IsOut, kept_at, entry_of, top, Letter as Said}
 use Rattle.replication_safety.specs.Moves as moves
-use Rattle.replication_safety.specs.Replicated.{Replicated}
-use Rattle.invariants.specs.Lines.{line, about, said_of, only_of, done_of, kept_of}
-use Rattle.invariants.proofs.AboutLines.{says, about-in, only_of-from, says-rinv, says-rack, says-rval, says-recovered, sends_line}
+use Rattle.invariants.specs.Lines.{line, about, said_of, done_of, kept_of}
+use Rattle.invariants.proofs.AboutLines.{says, about-in, only_of-from, says-recovered, sends_line}
 use Rattle.invariants.proofs.AboutObjects.{In-one}
-use Rattle.invariants.proofs.ObjectSeen.{same_or_not, installed_node}
-use Rattle.invariants.proofs.LineMoves.{IsQuiet, line-done, line-kept, line-home, line-reported, line-epoch, line-stopped, own-done, own-kept, log-done, log-kept, same_setting, same_others, acts_line, tells_line, slots-quiet, logs-quiet, with_log-same, with_log-other, with_slot-same, with_slot-other}
+use Rattle.invariants.proofs.ObjectSeen.{installed_node}
+use Rattle.invariants.proofs.LineMoves.{IsQuiet, line-done, line-kept, line-home, line-reported, own-done, own-kept, log-done, log-kept, same_setting, same_others, acts_line, tells_line}
 
 -- what a stream sees of a move
 pub data Seen (old new : Line) (passed : ℕ) : Type 0 where

@@ -1,12 +1,11 @@
 -- Each move of the machine keeps every object in order.
-use Rattle.std.specs.Prelude.{ℕ, ◌≡◌, ◌++◌, List, [], ◌∷◌, ◌⊎◌}
+use Rattle.std.specs.Prelude.{ℕ, ◌≡◌, ◌++◌, List, [], ◌∷◌}
 use Rattle.std.proofs.Common.{arith, refl, sym, ap, inl, inr, ◌∙◌}
 use Rattle.zeus_base.specs.OrderLaws.{is_below-irrefl}
-use Rattle.zeus_base.specs.declared.order.Stream.{Stream}
 use Rattle.zeus_packet.specs.declared.place.Proposal.{Proposal}
 use Rattle.zeus_model.specs.State.{Node}
 use Rattle.zeus_model.specs.declared.state.Entry.{Entry}
-use Rattle.machine_moves.specs.Scene.{Scene, IsNumbered, Changes, Same, nothing}
+use Rattle.machine_moves.specs.Scene.{Scene, IsNumbered, Same, nothing}
 use Rattle.machine_moves.specs.Move.{IsTellable, Move, Moves, none, next, makes_view, stops, installs, tells, turns, settles, drives, accepts, redrives, gathers, decides, raises, stores, notes_own, notes_kept, passes_own, passes_kept, reports, hears, commits}
 use Rattle.ownership_safety.specs.Object.{Object, Invalidates, Acknowledges, In, rank, Letter as Said}
 use Rattle.ownership_safety.specs.Moves as moves
@@ -19,7 +18,7 @@ use Rattle.ownership_safety.proofs.Quiet.{Quiet, gather-grows}
 use Rattle.machine_moves.proofs.Steady.{IsSteady, IsNumbered-steady, move_keep}
 use Rattle.invariants.specs.Objects.{object}
 use Rattle.invariants.proofs.AboutObjects.{sends_object}
-use Rattle.invariants.proofs.Frames.{IsQuiet, raise-quiet}
+use Rattle.invariants.proofs.Frames.{raise-quiet}
 use Rattle.invariants.proofs.ObjectMoves.{tells_object, same_setting, same_stopped, same_epoch, same_entry_as, same_gather_as}
 use Rattle.invariants.proofs.ObjectSteps.{tellable-says}
 use Rattle.invariants.proofs.ObjectSeen.{Seen, viewed, stopped, installed, settled, driven_by, accepted, redriven, noted_by, decided, told, sees_nothing, sees_view, sees_stop, sees_install, sees_settle, sees_drive, sees_accept, sees_redrive, sees_gather, sees_decide}

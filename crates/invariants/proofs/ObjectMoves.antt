@@ -1,16 +1,14 @@
 -- How each move of the machine looks to one object.
-use Rattle.std.specs.Prelude.{ℕ, suc, ◌≡◌, ◌≢◌, ◌==◌, ◌<◌, ◌≤◌, ◌+◌, nat_lt, Bool, true, false, List, [], ◌∷◌, ◌++◌, length, Option, Some, None, is_some, if◌then◌else◌, ◌⊎◌}
-use Rattle.std.proofs.Common.{arith, refl, sym, ap, inl, inr, ◌∙◌, subst}
-use Rattle.std.proofs.lemmas.Bool.{lt-ltb, eq-eqb, cases_Bool}
-use Rattle.std.proofs.lemmas.Bool.Decides.{nat_tests}
+use Rattle.std.specs.Prelude.{ℕ, ◌≡◌, ◌≢◌, ◌<◌, nat_lt, false, Option, None, if◌then◌else◌}
+use Rattle.std.proofs.Common.{refl, sym, ap, ◌∙◌}
 use Rattle.zeus_base.specs.declared.config.Config.{Config}
 use Rattle.zeus_packet.specs.declared.letter.Letter.{Letter}
-use Rattle.zeus_model.specs.In.{In, here, there}
+use Rattle.zeus_model.specs.In.{In}
 use Rattle.zeus_model.specs.State.{Node, entry, gather}
 use Rattle.zeus_model.specs.declared.state.Entry.{Entry}
 use Rattle.zeus_model.specs.declared.state.Gather.{Gather}
-use Rattle.machine_moves.specs.Scene.{Scene, IsLive, IsNumbered, Sends, Changes, Same, NewView, nothing}
-use Rattle.ownership_safety.specs.Object.{Object, Invalidates, Acknowledges, Validates, Letter as Said}
+use Rattle.machine_moves.specs.Scene.{Scene, IsLive, IsNumbered, Changes, nothing}
+use Rattle.ownership_safety.specs.Object.{Validates, Letter as Said}
 use Rattle.ownership_safety.specs.Moves as moves
 use Rattle.invariants.specs.Objects.{object, declared_entry}
 use Rattle.invariants.proofs.AboutObjects.{says, object-entry, object-gather, sends_object}

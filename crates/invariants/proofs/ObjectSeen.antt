@@ -21,19 +21,19 @@ use Rattle.zeus_model.specs.In.{In}
 use Rattle.zeus_model.specs.Tables.{where_true}
 use Rattle.zeus_model.specs.State.{Node, entry, gather, with_gather}
 use Rattle.zeus_model.specs.Membership.{dropped}
-use Rattle.zeus_model.specs.Ownership.{settle, settled_entry, gather_above, holding, is_source, is_node, driven, greater_cause, greater_gather, gather_for, noted, is_decidable, bring}
+use Rattle.zeus_model.specs.Ownership.{settle, holding, is_source, driven, greater_cause, greater_gather, gather_for, noted, is_decidable, bring}
 use Rattle.zeus_model.specs.declared.state.Gather.{Gather}
-use Rattle.machine_moves.specs.Scene.{Scene, IsLive, IsNumbered, IsReceivable, Changes, Same, NewView, nothing, view}
+use Rattle.machine_moves.specs.Scene.{Scene, IsLive, IsNumbered, IsReceivable, Changes, NewView, nothing, view}
 use Rattle.machine_moves.specs.Move.{IsAboutProposal, HasAcked, IsSettling, MayDrive, MayAccept}
 use Rattle.ownership_safety.specs.Object.{Object, Invalidates, Acknowledges, IsSaid, Letter as Said, chain_stamp, place_at, first_stamp}
 use Rattle.ownership_safety.specs.Moves as moves
 use Rattle.ownership_safety.specs.Ordered.{Ordered, IsDecided}
 use Rattle.ownership_safety.proofs.Arbiters.{arbiters-directory, arbiters-source}
-use Rattle.invariants.specs.Objects.{object, about, said_of, declared_entry}
+use Rattle.invariants.specs.Objects.{object, about, declared_entry}
 use Rattle.invariants.proofs.AboutObjects.{sends_object, says, says-oinv, says-oack, about-in}
 use Rattle.invariants.proofs.Frames.{IsQuiet, settle-entry, settle-gather, settle-stopped, settle-epoch, settle-other, holding-entry, holding-other, with_gather-other, bring-quiet, quiet-then, settle-away, dropped-none}
-use Rattle.invariants.proofs.ObjectMoves.{TellsPlace, object-live, acts_object, entry_after, gather_after, entry_before, gather_before, tells_object, quiet_object, quiet_sends, nothing_heard, same_setting, same_others, same_stopped, same_epoch, same_entry_as, same_gather_as}
-use Rattle.invariants.proofs.ObjectSteps.{IsActor, actor, object_view, about_proposal-other, about_proposal-heard, acked-heard, is_node-some, settling-decided, above-first}
+use Rattle.invariants.proofs.ObjectMoves.{object-live, acts_object, entry_after, gather_after, entry_before, gather_before, tells_object, quiet_object, quiet_sends, same_setting, same_others, same_stopped, same_epoch, same_entry_as, same_gather_as}
+use Rattle.invariants.proofs.ObjectSteps.{actor, object_view, about_proposal-other, about_proposal-heard, acked-heard, is_node-some, settling-decided, above-first}
 
 -- what an object sees of a move
 pub data Seen (old new : Object) (chain : List Proposal) : Type 0 where
@@ -197,7 +197,7 @@ received : (old : Scene) (x n : ℕ) → (old.node n).epoch ≡ (object old x).e
 unfolding object
 received old x n = refl
 
-drive_here : (old new : Scene) (n x requester : ℕ) (want : Want) → IsNumbered old → MayDrive old n x requester want
+pub drive_here : (old new : Scene) (n x requester : ℕ) (want : Want) → IsNumbered old → MayDrive old n x requester want
     → Changes old new n (holding (old.node n) x (driven (old.node n) x requester want)) (IsAboutProposal (old.node n) x (driven (old.node n) x requester want))
     → HasAcked new (old.node n) x (driven (old.node n) x requester want) → moves.Drives (object old x) (object new x) n (driven (old.node n) x requester want)
 drive_here old new n x requester want numbered may c acked = record {
@@ -272,7 +272,7 @@ accept_said old x n p l body r =
     subst (λ (e : ℕ). In (Invalidates l.from l.to e p) (about x old.letters)) r.1 said in
     inl (l.from, l.to, now)
 
-accept_here : (old new : Scene) (n x : ℕ) (p : Proposal) (chain : List Proposal) → IsNumbered old → Ordered (object old x) chain → MayAccept old n x p
+pub accept_here : (old new : Scene) (n x : ℕ) (p : Proposal) (chain : List Proposal) → IsNumbered old → Ordered (object old x) chain → MayAccept old n x p
     → Changes old new n (holding (old.node n) x p) (IsAboutProposal (old.node n) x p) → HasAcked new (old.node n) x p
     → moves.Accepts (object old x) (object new x) n p
 accept_here old new n x p chain numbered ordered may c acked = record {
@@ -303,7 +303,7 @@ sees_accept old new x n y p chain numbered ordered may c acked =
           (accepted n p (accept_here old new n y p chain numbered (subst (λ (k : ℕ). Ordered (object old k) chain) (sym same) ordered) may c acked))
     ]
 
-redrive_here : (old new : Scene) (n x : ℕ) (p : Proposal) → IsNumbered old → (entry (old.node n) x).proposal ≡ Some p
+pub redrive_here : (old new : Scene) (n x : ℕ) (p : Proposal) → IsNumbered old → (entry (old.node n) x).proposal ≡ Some p
     → Changes old new n (old.node n) (IsAboutProposal (old.node n) x p) → moves.Redrives (object old x) (object new x) n p
 redrive_here old new n x p numbered held c = record {
   acts = acts_object old new x n (old.node n) (IsAboutProposal (old.node n) x p) c refl refl;
@@ -406,7 +406,7 @@ decidable-complete n g h =
 abbrev pub deciding : Scene → ℕ → ℕ → Gather → Content → Node
 deciding s n x g co = bring (settle (s.node n) x g.proposal.stamp (new_place g.proposal)) x g.proposal co
 
-decide_here : (old new : Scene) (n x : ℕ) (g : Gather) (co : Content) (chain : List Proposal) → IsNumbered old → Ordered (object old x) chain
+pub decide_here : (old new : Scene) (n x : ℕ) (g : Gather) (co : Content) (chain : List Proposal) → IsNumbered old → Ordered (object old x) chain
     → gather (old.node n) x ≡ Some g → is_decidable (old.node n) g ≡ true → g.content ≡ Some co
     → Changes old new n (deciding old n x g co) nothing → moves.Decides (object old x) (object new x) n g
 decide_here old new n x g co chain numbered ordered gathered decidable content c = record {

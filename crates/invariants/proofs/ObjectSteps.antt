@@ -1,5 +1,5 @@
 -- Each move of the machine is a move of each object.
-use Rattle.std.specs.Prelude.{ℕ, suc, zero, ◌≡◌, ◌≢◌, ◌==◌, ◌<◌, ◌≤◌, ◌+◌, nat_lt, Bool, true, false, ◌||◌, ◌&&◌, List, [], ◌∷◌, ◌++◌, length, Option, Some, None, is_some, if◌then◌else◌, ◌⊎◌, ◌↔◌}
+use Rattle.std.specs.Prelude.{ℕ, ◌≡◌, ◌≢◌, true, List, Option, Some, None, is_some, ◌↔◌}
 use Rattle.std.proofs.Common.{arith, refl, sym, ap, inl, inr, ◌∙◌, subst}
 use Rattle.std.proofs.lemmas.Bool.{cases_Bool, eq-eqb}
 use Rattle.std.proofs.lemmas.Bool.Decides.{nat_tests}
@@ -7,28 +7,26 @@ use Rattle.zeus_base.specs.Nodes.{has}
 use Rattle.zeus_base.specs.Order.{is_below}
 use Rattle.zeus_base.specs.declared.order.Stamp.{Stamp}
 use Rattle.zeus_packet.specs.Place.{source, arbiters}
-use Rattle.zeus_packet.specs.declared.letter.Body.TheVariants.{OInv, OAck, OVal}
+use Rattle.zeus_packet.specs.declared.letter.Body.TheVariants.{OAck}
 use Rattle.zeus_packet.specs.declared.letter.Cause.{Cause}
-use Rattle.zeus_packet.specs.declared.letter.Cause.TheVariants.{NoCopy}
 use Rattle.zeus_packet.specs.declared.letter.Letter.{Letter}
 use Rattle.zeus_packet.specs.declared.place.Place.{Place}
 use Rattle.zeus_packet.specs.declared.place.Proposal.{Proposal}
 use Rattle.zeus_packet.specs.declared.write.Content.{Content}
-use Rattle.zeus_model.specs.In.{In, here, there}
+use Rattle.zeus_model.specs.In.{In}
 use Rattle.zeus_model.specs.Tables.{or_else}
 use Rattle.zeus_model.specs.Act.{letter}
-use Rattle.zeus_model.specs.State.{Node, entry, gather, copy, holder}
-use Rattle.zeus_model.specs.Ownership.{settle, settled_entry, gather_above, holding, is_node, is_source, own_content, content_of, unready_cause, missing_cause, held_cause, state_cause}
+use Rattle.zeus_model.specs.State.{Node, entry, copy, holder}
+use Rattle.zeus_model.specs.Ownership.{is_node, is_source, own_content, content_of, unready_cause, missing_cause, held_cause, state_cause}
 use Rattle.zeus_model.specs.declared.state.Copy.{Copy}
-use Rattle.machine_moves.specs.Scene.{Scene, IsLive, IsNumbered, IsReceivable, Sends, Changes, Same, NewView, nothing, view}
+use Rattle.machine_moves.specs.Scene.{Scene, IsLive, IsNumbered}
 use Rattle.machine_moves.specs.Move.{IsTellable, IsAboutProposal, HasAcked, request, advice, placement, reported, own_entry, kept_entry, stored, own_passed, kept_passed, to_arbiter, to_collector, IsSettling, by_invalidation, by_acknowledgement, by_decision}
 use Rattle.ownership_safety.specs.Object.{Object, Invalidates, Acknowledges, Validates, Letter as Said, chain_stamp, place_at, first_stamp}
 use Rattle.ownership_safety.specs.Moves as moves
 use Rattle.ownership_safety.specs.Ordered.{Ordered, IsDecided, IsProposal}
-use Rattle.invariants.specs.Objects.{object, about, said_of, only_about}
-use Rattle.invariants.proofs.AboutObjects.{says, says-oinv, says-oack, says-oval, says-from, Says, by_oinv, by_oack, by_oval, about-in, object-entry, sends_object, only_about-from, In-one}
-use Rattle.invariants.proofs.Frames.{IsQuiet, settle-entry, settle-gather, settle-stopped, settle-epoch, settle-other}
-use Rattle.invariants.proofs.ObjectMoves.{TellsPlace, acts_object, entry_after, gather_after, entry_before, gather_before, tells_object, quiet_object, quiet_sends, same_setting, same_others}
+use Rattle.invariants.specs.Objects.{object, about, said_of}
+use Rattle.invariants.proofs.AboutObjects.{says, says-oinv, says-oack, says-oval, about-in, only_about-from}
+use Rattle.invariants.proofs.ObjectMoves.{TellsPlace}
 
 -- ---- what is told of an object
 

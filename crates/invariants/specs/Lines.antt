@@ -5,7 +5,6 @@ use Rattle.zeus_base.specs.declared.order.Stream.{Stream}
 use Rattle.zeus_packet.specs.declared.letter.Body.{Body}
 use Rattle.zeus_packet.specs.declared.letter.Body.TheVariants.{RInv, RAck, RVal, Recovered}
 use Rattle.zeus_packet.specs.declared.letter.Letter.{Letter}
-use Rattle.zeus_packet.specs.declared.letter.RInv.{RInv as Invalidation}
 use Rattle.zeus_model.specs.State.{Node, slot, log}
 use Rattle.zeus_model.specs.declared.state.Kept.{Kept}
 use Rattle.machine_moves.specs.Move.{own_kept}

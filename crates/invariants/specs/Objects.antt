@@ -1,12 +1,11 @@
 -- One object of a scene, as the ownership protocol sees it.
-use Rattle.std.specs.Prelude.{ℕ, ◌==◌, nat_lt, List, [], ◌∷◌, ◌++◌, Option, Some, None, if◌then◌else◌}
+use Rattle.std.specs.Prelude.{ℕ, ◌==◌, nat_lt, List, [], ◌∷◌, ◌++◌, None, if◌then◌else◌}
 use Rattle.zeus_base.specs.declared.config.Config.{Config}
 use Rattle.zeus_base.specs.declared.config.ObjectDecl.{ObjectDecl}
 use Rattle.zeus_base.specs.declared.value.Value.TheVariants.{Num}
 use Rattle.zeus_packet.specs.declared.letter.Body.{Body}
 use Rattle.zeus_packet.specs.declared.letter.Body.TheVariants.{OInv, OAck, OVal}
 use Rattle.zeus_packet.specs.declared.letter.Letter.{Letter}
-use Rattle.zeus_packet.specs.declared.place.Place.{Place}
 use Rattle.zeus_model.specs.Tables.{nth}
 use Rattle.zeus_model.specs.State.{entry, gather}
 use Rattle.zeus_model.specs.World.{start_entry}

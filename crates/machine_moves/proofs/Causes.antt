@@ -1,17 +1,16 @@
 -- What it says that no cause stands against: each test of a list of causes.
-use Rattle.std.specs.Prelude.{ℕ, zero, suc, ◌≡◌, ◌≢◌, ◌+◌, ◌-◌, ◌<◌, ◌≤◌, Bool, true, false, ◌&&◌, ◌||◌, not, ◌==◌, List, [], ◌∷◌, length, Option, Some, None, is_none, is_some, ◌⊎◌, if◌then◌else◌}
-use Rattle.std.proofs.Common.{arith, refl, sym, ap, ◌∙◌, inl, inr}
-use Rattle.std.proofs.lemmas.Bool.{and_cases, or_parts, not-true, not-false, eqb-false}
+use Rattle.std.specs.Prelude.{ℕ, suc, ◌≡◌, ◌≢◌, ◌≤◌, Bool, true, false, ◌||◌, not, ◌==◌, List, [], ◌∷◌, length, Option, Some, None, is_none, is_some, ◌⊎◌, if◌then◌else◌}
+use Rattle.std.proofs.Common.{arith, refl, inl, inr}
+use Rattle.std.proofs.lemmas.Bool.{and_cases, or_parts, not-false, eqb-false}
 use Rattle.zeus_base.specs.Nodes.{has, with_node, without, meet}
 use Rattle.zeus_packet.specs.Place.{source, with_optional, arbiters}
-use Rattle.zeus_packet.specs.declared.letter.Cause.{Cause}
 use Rattle.zeus_packet.specs.declared.place.Place.{Place}
 use Rattle.zeus_packet.specs.declared.place.Proposal.{Proposal}
 use Rattle.zeus_packet.specs.declared.place.Want.{Want}
 use Rattle.zeus_packet.specs.declared.place.Want.TheVariants.{Own, Read, Leave}
 use Rattle.zeus_model.specs.Tables.{or_else, where_true}
 use Rattle.zeus_model.specs.State.{Node, entry}
-use Rattle.zeus_model.specs.Ownership.{is_source, is_held, kept_cause, unready_cause, source_cause, proposed_cause, want_cause, leave_cause, drive_cause, request_cause, greater_cause, accept_cause, hold_cause}
+use Rattle.zeus_model.specs.Ownership.{is_source, is_held, kept_cause, unready_cause, source_cause, proposed_cause, want_cause, drive_cause, request_cause, greater_cause, accept_cause, hold_cause}
 
 -- ---- options
 

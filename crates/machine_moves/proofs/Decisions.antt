@@ -1,6 +1,6 @@
 -- The letters by which proposals are decided, and the word that a node has reported.
-use Rattle.std.specs.Prelude.{ℕ, zero, suc, ◌≡◌, ◌≢◌, ◌+◌, ◌-◌, ◌<◌, ◌≤◌, Bool, true, false, ◌&&◌, not, ◌==◌, List, [], ◌∷◌, ◌++◌, length, take, Option, Some, None, is_none, is_some, ◌⊎◌, if◌then◌else◌}
-use Rattle.std.proofs.Common.{arith, refl, sym, ap, ◌∙◌, inl, inr, subst}
+use Rattle.std.specs.Prelude.{ℕ, ◌≡◌, true, ◌==◌, [], take, Option, Some, None, if◌then◌else◌}
+use Rattle.std.proofs.Common.{refl, sym, ap, ◌∙◌, subst}
 use Rattle.std.proofs.lemmas.Bool.{cond_both}
 use Rattle.zeus_base.specs.Nodes.{has, without, with_node}
 use Rattle.zeus_base.specs.Order.{is_below, same_stamp}
@@ -15,25 +15,25 @@ use Rattle.zeus_packet.specs.declared.letter.Letter.{Letter}
 use Rattle.zeus_packet.specs.declared.place.Place.{Place}
 use Rattle.zeus_packet.specs.declared.place.Proposal.{Proposal}
 use Rattle.zeus_packet.specs.declared.write.Content.{Content}
-use Rattle.zeus_model.specs.In.{In, here, there}
-use Rattle.zeus_model.specs.Tables.{nth, put, or_else}
+use Rattle.zeus_model.specs.In.{In}
 use Rattle.zeus_model.specs.declared.answer.Outcome.{Outcome}
-use Rattle.zeus_model.specs.declared.answer.Outcome.TheVariants.{Taken, Again, Older, Refused}
+use Rattle.zeus_model.specs.declared.answer.Outcome.TheVariants.{Taken, Again, Refused}
 use Rattle.zeus_model.specs.declared.state.Entry.{Entry}
 use Rattle.zeus_model.specs.declared.state.Gather.{Gather}
 use Rattle.zeus_model.specs.State.{Node, entry, gather, with_copy, with_gather}
-use Rattle.zeus_model.specs.Act.{Act, Did, just, still, letter, to_each}
-use Rattle.zeus_model.specs.Ownership.{settle, settled_entry, answer_settled, takes_over, rebased, is_decidable, brought, bring, decide_with, decide_on, decide_gathered, decide, gather_for, greater_gather, noted, is_noted, take_ack, gather_or_older, collect_cause, collect_or_refuse, oack_on_base, on_oack, on_oval}
+use Rattle.zeus_model.specs.Act.{Act, Did, just, still, letter}
+use Rattle.zeus_model.specs.Ownership.{settle, settled_entry, answer_settled, takes_over, rebased, is_decidable, brought, bring, decide_with, decide_on, decide_gathered, decide, gather_for, greater_gather, noted, take_ack, gather_or_older, collect_cause, collect_or_refuse, oack_on_base, on_oack, on_oval}
 use Rattle.zeus_model.specs.Receive.{on_recovered}
-use Rattle.machine_moves.specs.Scene.{Scene, IsLive, IsReceivable}
+use Rattle.machine_moves.specs.Scene.{Scene}
 use Rattle.machine_moves.specs.Move.{placement, IsTellable, settles, gathers, decides, hears, IsSettling, by_acknowledgement, by_decision}
+use Rattle.machine_moves.specs.Plain.{IsPlain}
 use Rattle.machine_moves.proofs.Lists.{nth-put_same}
 use Rattle.machine_moves.proofs.Within.{Keeps, Keeps-settle, Keeps-bring, Keeps-trans, Keeps-with_gather, Keeps-reported}
-use Rattle.machine_moves.proofs.Steady.{IsKnown, fair_acknowledgement}
-use Rattle.machine_moves.proofs.Reach.{Became, Reaches, Reached, Answered, IsReady, known, still_reaches, quiet_reaches, then_reaches, cut_none, quiet_then_tells, did_then_reaches}
+use Rattle.machine_moves.proofs.Steady.{fair_acknowledgement}
+use Rattle.machine_moves.proofs.Reach.{PlainReached as Reached, PlainAnswered as Answered, IsReady, still_reaches, plain_reaches, then_reaches, cut_none, quiet_then_tells}
 use Rattle.machine_moves.proofs.Passing.{to_each-each}
 use Rattle.machine_moves.proofs.Entries.{Received, received_after}
-use Rattle.machine_moves.proofs.Proposals.{Rebased, IsRebased, rebased-is, settle-entry, answers_settled}
+use Rattle.machine_moves.proofs.Proposals.{IsRebased, rebased-is, settle-entry, answers_settled}
 
 -- ---- a decision
 
@@ -62,11 +62,12 @@ decision_telling m x p c below =
     to_each-each (IsTellable after) m (without m.me m.members) (OVal x p.stamp (new_place p)) (λ to _. placement_as after m to x p.stamp (new_place p) keeps.me keeps.epoch (ap (λ (e : Entry). e.stamp) is) (ap (λ (e : Entry). e.place) is))
 
 decides_reached : (s : Scene) (n k x : ℕ) (g : Gather) (c : Content) → IsReady s n → gather (s.node n) x ≡ Some g → is_decidable (s.node n) g ≡ true → g.content ≡ Some c → is_below (entry (s.node n) x).stamp g.proposal.stamp ≡ true → Reached s n k (decide_with (s.node n) x g.proposal c)
+unfolding IsPlain
 decides_reached s n k x g c ready is decidable content below =
     let m = s.node n in
     let after = (decide_with m x g.proposal c).node in
     quiet_then_tells s n k after (decide_with m x g.proposal c).sent ready
-    (quiet_reaches s n after ready.live (Keeps-decided m x g.proposal c) (λ ch. decides n x g c is decidable content ch))
+    (plain_reaches s n after ready.live (Keeps-decided m x g.proposal c) (λ ch. decides n x g c is decidable content ch) (λ _. tt))
     (decision_telling m x g.proposal c below)
 
 decide_on-reached : (content : Option Content) (s : Scene) (n k x : ℕ) (g : Gather) → IsReady s n → gather (s.node n) x ≡ Some g → is_decidable (s.node n) g ≡ true → g.content ≡ content → is_below (entry (s.node n) x).stamp g.proposal.stamp ≡ true → Reached s n k (decide_on (s.node n) x g.proposal content)
@@ -96,14 +97,14 @@ decide-reached s n k x g ready is below =
     subst (λ (o : Option Gather). Reached s n k (decide_gathered (s.node n) x o)) (sym is) (decide_gathered-reached s n k x g ready is below)
 
 takes_ack : (s : Scene) (n from k x : ℕ) (p : Proposal) (c : Option Content) → IsReady s n → Received s n from (OAck x p c) → is_below (entry (s.node n) x).stamp p.stamp ≡ true → greater_gather p.stamp (gather (s.node n) x) ≡ None → Answered s n k (take_ack (s.node n) from x c (gather_for p (gather (s.node n) x)))
-unfolding take_ack
+unfolding take_ack IsPlain
 takes_ack s n from k x p c ready got below none =
     let m = s.node n in
     let g : Gather = noted (gather_for p (gather m x)) from c in
     let after = with_gather m x (Some g) in
     let above : is_below (entry m x).stamp g.proposal.stamp ≡ true = rw (gather_for-stamp p (gather m x)) below in
     then_reaches s n after (decide x after).node [] (take k (decide x after).sent) ready
-    (quiet_reaches s n after ready.live (Keeps-with_gather m x (Some g)) (λ ch. gathers n x from p c got.letter got.is got.by got.at below none ch))
+    (plain_reaches s n after ready.live (Keeps-with_gather m x (Some g)) (λ ch. gathers n x from p c got.letter got.is got.by got.at below none ch) (λ _. tt))
     (λ t rt b.
     subst (λ (y : Node). gather y x ≡ Some g → is_below (entry y x).stamp g.proposal.stamp ≡ true → Reached t n k (decide x y)) b.node
     (λ is higher. decide-reached t n k x g rt is higher)
@@ -153,7 +154,7 @@ settling_decision l x stamp place is =
     subst (λ (b : Body). IsSettling x stamp place record { from = l.from; to = l.to; epoch = l.epoch; body = b }) (sym is) (by_decision l.from l.to l.epoch)
 
 pub on_oval-answered : (s : Scene) (n from k x : ℕ) (stamp : Stamp) (place : Place) → IsReady s n → Received s n from (OVal x stamp place) → Answered s n k (on_oval (s.node n) x stamp place)
-unfolding on_oval
+unfolding on_oval IsPlain
 on_oval-answered s n from k x stamp place ready got =
     let m = s.node n in
     let refused : Did Outcome = just m (Refused OwnPlace) in
@@ -163,16 +164,16 @@ on_oval-answered s n from k x stamp place ready got =
     (λ below. cond_both (takes_over m x place) refused taken (λ (d : Did Outcome). Answered s n k d)
     (λ _. cut_none s n m k (still_reaches s n))
     (λ _. cut_none s n (settle m x stamp place) k
-    (quiet_reaches s n (settle m x stamp place) ready.live (Keeps-settle m x stamp place) (λ ch. settles n x stamp place got.letter got.at (settling_decision got.letter x stamp place got.is) below ch))))
+    (plain_reaches s n (settle m x stamp place) ready.live (Keeps-settle m x stamp place) (λ ch. settles n x stamp place got.letter got.at (settling_decision got.letter x stamp place got.is) below ch) (λ _. tt))))
     (λ _. cut_none s n m k (still_reaches s n))
 
 -- ---- a node has reported
 
 pub on_recovered-answered : (s : Scene) (n from k : ℕ) → IsReady s n → Received s n from Recovered → Answered s n k (on_recovered (s.node n) from)
-unfolding on_recovered
+unfolding on_recovered IsPlain
 on_recovered-answered s n from k ready got =
     let m = s.node n in
     let after = record m { reported = with_node from m.reported } in
     cond_both (has from m.reported) (just m Again) (just after Taken) (λ (d : Did Outcome). Answered s n k d)
     (λ _. cut_none s n m k (still_reaches s n))
-    (λ _. cut_none s n after k (quiet_reaches s n after ready.live (Keeps-reported m (with_node from m.reported)) (λ ch. hears n from got.letter got.is got.by got.at ch)))
+    (λ _. cut_none s n after k (plain_reaches s n after ready.live (Keeps-reported m (with_node from m.reported)) (λ ch. hears n from got.letter got.is got.by got.at ch) (λ _. tt)))

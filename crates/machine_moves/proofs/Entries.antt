@@ -1,7 +1,7 @@
 -- The letters of replication: an entry, an acknowledgement of one, and the word that entries have passed.
-use Rattle.std.specs.Prelude.{ℕ, zero, suc, ◌≡◌, ◌≢◌, ◌+◌, ◌-◌, ◌<◌, ◌≤◌, Bool, true, false, ◌&&◌, not, ◌==◌, nat_lt, List, [], ◌∷◌, ◌++◌, length, take, drop, Option, Some, None, ◌⊎◌, if◌then◌else◌}
+use Rattle.std.specs.Prelude.{ℕ, ◌≡◌, ◌≢◌, ◌+◌, ◌-◌, ◌<◌, ◌≤◌, true, ◌&&◌, not, ◌==◌, nat_lt, List, [], ◌∷◌, ◌++◌, length, take, drop, if◌then◌else◌}
 use Rattle.std.proofs.Common.{arith, refl, sym, ap, ◌∙◌, inl, inr, subst, length-append}
-use Rattle.std.proofs.lemmas.Bool.{cases_lt, cond_both, cond-true, cond-false, and_parts, not-true, ltb-true, ltb-false, eqb-true, eqb-false, lt-ltb, le-ltb}
+use Rattle.std.proofs.lemmas.Bool.{cases_lt, cond_both, and_parts, not-true, ltb-true, ltb-false, eqb-true, eqb-false, le-ltb}
 use Rattle.zeus_base.specs.Nodes.{has}
 use Rattle.zeus_base.specs.declared.order.Stream.{Stream}
 use Rattle.zeus_packet.specs.declared.letter.Body.{Body}
@@ -17,11 +17,11 @@ use Rattle.zeus_model.specs.declared.state.Kept.{Kept}
 use Rattle.zeus_model.specs.State.{Node, StreamLog, slot, log, with_slot, with_log, with_copies}
 use Rattle.zeus_model.specs.Act.{Did, just, sends, letter}
 use Rattle.zeus_model.specs.Commit.{after_passing, raise, store, next_kept, stored_rinv, on_rinv, is_within, no_pending, no_kept, acked_pending, acked_kept, on_own_rack, on_kept_rack, on_rack, on_rval}
-use Rattle.machine_moves.specs.Scene.{Scene, IsLive, IsReceivable}
+use Rattle.machine_moves.specs.Scene.{Scene, IsReceivable}
 use Rattle.machine_moves.specs.Move.{stored, raises, stores, notes_own, notes_kept, IsRaising, by_entry, by_word, IsTellable}
+use Rattle.machine_moves.specs.Plain.{IsPlain}
 use Rattle.machine_moves.proofs.Within.{log-with_log_same, Keeps, Keeps-raise, Keeps-store, Keeps-with_slot, Keeps-with_log}
-use Rattle.machine_moves.proofs.Steady.{IsKnown}
-use Rattle.machine_moves.proofs.Reach.{Became, Reaches, Answered, IsReady, known, still_reaches, quiet_reaches, then_reaches, cut_none, cut_tells, quiet_then_tells}
+use Rattle.machine_moves.proofs.Reach.{Became, PlainReaches as Reaches, PlainAnswered as Answered, IsReady, known, still_reaches, plain_reaches, then_reaches, cut_none, cut_tells, quiet_then_tells}
 
 -- a letter with this body from this node came to the node in its epoch
 pub record Received (s : Scene) (n from : ℕ) (body : Body) : Type 0 where
@@ -52,9 +52,10 @@ raise-done m t d =
     (λ h. ltb-false done d h)
 
 raised : (s : Scene) (n : ℕ) (t : Stream) (d : ℕ) (l : Letter) → IsReady s n → t.node ≢ n → IsReceivable s n l → IsRaising t d l → Reaches s n (raise (s.node n) t d) []
+unfolding IsPlain
 raised s n t d l ready foreign at says =
     elim (cases_lt (log (s.node n) t).done d) [
-      | inl less ↦ quiet_reaches s n (raise (s.node n) t d) ready.live (Keeps-raise (s.node n) t d) (λ ch. raises n d t l foreign at says less ch)
+      | inl less ↦ plain_reaches s n (raise (s.node n) t d) ready.live (Keeps-raise (s.node n) t d) (λ ch. raises n d t l foreign at says less ch) (λ _. tt)
       | inr more ↦ rw (raise-none (s.node n) t d more) (still_reaches s n)
     ]
 
@@ -81,12 +82,13 @@ stored_letter m to number t foreign less l (here _ _ e) = rw e (stored to number
 stored_letter m to number t foreign less l (there _ _ i) = elim i [ ]
 
 stores_entry : (s : Scene) (n from k : ℕ) (r : Invalidation) → IsReady s n → Received s n from (RInv r) → r.stream.node ≢ n → r.done ≤ (log (s.node n) r.stream).done → r.number ≡ next_kept (log (s.node n) r.stream) → length (log (s.node n) r.stream).kept ≢ 16 → Reaches s n (store (s.node n) r) (take k (letter (s.node n) from (RAck r.stream r.number) ∷ []))
+unfolding IsPlain
 stores_entry s n from k r ready got foreign done number room =
     let m = s.node n in
     let me = known s n ready in
     let other : r.stream.node ≢ m.me = rw (me.me) foreign in
     quiet_then_tells s n k (store m r) (letter m from (RAck r.stream r.number) ∷ []) ready
-    (quiet_reaches s n (store m r) ready.live (Keeps-store m r) (λ ch. stores n r got.letter foreign got.at got.is done number room ch))
+    (plain_reaches s n (store m r) ready.live (Keeps-store m r) (λ ch. stores n r got.letter foreign got.at got.is done number room ch) (λ _. tt))
     (stored_letter (store m r) from r.number r.stream other (store-next m r number))
 
 again_stored : (s : Scene) (n from k : ℕ) (r : Invalidation) → IsReady s n → r.stream.node ≢ n → r.number < next_kept (log (s.node n) r.stream) → Reaches s n (s.node n) (take k (letter (s.node n) from (RAck r.stream r.number) ∷ []))
@@ -141,7 +143,7 @@ within-parts number done count h =
     (omega arith, omega arith)
 
 on_own_rack-answered : (s : Scene) (n from k i number : ℕ) → IsReady s n → Received s n from (RAck record { node = n; slot = i } number) → Answered s n k (on_own_rack (s.node n) from i number)
-unfolding on_own_rack
+unfolding on_own_rack IsPlain
 on_own_rack-answered s n from k i number ready got =
     let m = s.node n in
     let l = slot m i in
@@ -152,12 +154,12 @@ on_own_rack-answered s n from k i number ready got =
     (λ h.
     let within = within-parts number l.done (length l.pending) (and_parts (is_within number l.done (length l.pending)) fresh h).0 in
     cut_none s n after k
-    (quiet_reaches s n after ready.live (Keeps-with_slot m i _)
-    (λ ch. notes_own n i place from got.letter got.at got.by (got.is ∙ ap (λ (j : ℕ). RAck record { node = n; slot = i } j) within.0) within.1 ch)))
+    (plain_reaches s n after ready.live (Keeps-with_slot m i _)
+    (λ ch. notes_own n i place from got.letter got.at got.by (got.is ∙ ap (λ (j : ℕ). RAck record { node = n; slot = i } j) within.0) within.1 ch) (λ _. tt)))
     (λ _. cut_none s n m k (still_reaches s n))
 
 on_kept_rack-answered : (s : Scene) (n from k : ℕ) (t : Stream) (number : ℕ) → IsReady s n → t.node ≢ n → Received s n from (RAck t number) → Answered s n k (on_kept_rack (s.node n) from t number)
-unfolding on_kept_rack
+unfolding on_kept_rack IsPlain
 on_kept_rack-answered s n from k t number ready foreign got =
     let m = s.node n in
     let l = log m t in
@@ -168,8 +170,8 @@ on_kept_rack-answered s n from k t number ready foreign got =
     (λ h.
     let within = within-parts number l.done (length l.kept) (and_parts (is_within number l.done (length l.kept)) fresh h).0 in
     cut_none s n after k
-    (quiet_reaches s n after ready.live (Keeps-with_log m t _)
-    (λ ch. notes_kept n place from t got.letter foreign got.at got.by (got.is ∙ ap (λ (j : ℕ). RAck t j) within.0) within.1 ch)))
+    (plain_reaches s n after ready.live (Keeps-with_log m t _)
+    (λ ch. notes_kept n place from t got.letter foreign got.at got.by (got.is ∙ ap (λ (j : ℕ). RAck t j) within.0) within.1 ch) (λ _. tt)))
     (λ _. cut_none s n m k (still_reaches s n))
 
 received_as : (s : Scene) (n from : ℕ) (a b : Body) → a ≡ b → Received s n from a → Received s n from b

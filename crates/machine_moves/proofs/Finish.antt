@@ -1,24 +1,23 @@
 -- The finish: own streams advance, then those of nodes that are no members, then the node reports.
-use Rattle.std.specs.Prelude.{ℕ, zero, suc, ◌≡◌, ◌≢◌, ◌+◌, ◌-◌, ◌<◌, ◌≤◌, Bool, true, false, ◌&&◌, not, ◌==◌, List, [], ◌∷◌, ◌++◌, length, take, Option, Some, None, ◌⊎◌, if◌then◌else◌}
-use Rattle.std.proofs.Common.{arith, refl, sym, ap, ◌∙◌, inl, inr, subst}
-use Rattle.std.proofs.lemmas.Bool.{cases_eq, cases_lt, cond_both, cases_Bool, and_parts, eqb-true}
-use Rattle.std.proofs.lemmas.Bool.Decides.{nat_tests}
+use Rattle.std.specs.Prelude.{ℕ, zero, suc, ◌≡◌, ◌+◌, ◌<◌, ◌≤◌, Bool, true, false, ◌&&◌, not, ◌==◌, List, [], ◌∷◌, ◌++◌, length, ◌⊎◌, if◌then◌else◌}
+use Rattle.std.proofs.Common.{arith, refl, ap, inl, inr}
+use Rattle.std.proofs.lemmas.Bool.{cases_eq, cases_lt, cond_both, and_parts, eqb-true}
 use Rattle.zeus_base.specs.Nodes.{has, without, with_node}
 use Rattle.zeus_base.specs.NodeLaws.{has-with_same}
 use Rattle.zeus_base.specs.declared.order.Stream.{Stream}
 use Rattle.zeus_packet.specs.declared.letter.Body.TheVariants.{Recovered}
 use Rattle.zeus_packet.specs.declared.letter.Letter.{Letter}
 use Rattle.zeus_model.specs.In.{In, here, there}
-use Rattle.zeus_model.specs.Tables.{nth, below, numbers_from}
+use Rattle.zeus_model.specs.Tables.{below, numbers_from}
 use Rattle.zeus_model.specs.State.{Node, StreamLog, no_log, log}
 use Rattle.zeus_model.specs.Act.{Act, in_turn, to_each, still, and_then}
 use Rattle.zeus_model.specs.Commit.{advance_own, advance_kept, streams_of, streams_outside, outside, none_stored, report, finish}
-use Rattle.machine_moves.specs.Scene.{Scene, IsLive}
+use Rattle.machine_moves.specs.Scene.{Scene}
 use Rattle.machine_moves.specs.Move.{reported, reports, IsTellable}
-use Rattle.machine_moves.proofs.Lists.{In-append, In-append_left, In-append_right, nth-past, In-nothing}
-use Rattle.machine_moves.proofs.Within.{IsWithin, Keeps, Keeps-reported}
-use Rattle.machine_moves.proofs.Steady.{IsKnown}
-use Rattle.machine_moves.proofs.Reach.{Reaches, Reached, IsReady, known, still_reaches, quiet_reaches, cut_none, quiet_then_tells, act_then}
+use Rattle.machine_moves.specs.Plain.{IsPlain}
+use Rattle.machine_moves.proofs.Lists.{In-append, In-append_left, In-append_right, nth-past}
+use Rattle.machine_moves.proofs.Within.{IsWithin, Keeps-reported}
+use Rattle.machine_moves.proofs.Reach.{Reached, PlainReaches, PlainReached, IsReady, known, any_reaches, still_reaches, plain_reaches, cut_none, quiet_then_tells, act_then}
 use Rattle.machine_moves.proofs.Passing.{to_each-each, advance_own-reached, advance_kept-reached}
 
 -- ---- streams in turn
@@ -105,23 +104,24 @@ none_outside bound m w h t out =
       | inr past ↦ w.kept t (omega (arith, w.slots))
     ]
 
-reports_reached : (s : Scene) (n self : ℕ) → self ≡ n → IsReady s n → none_stored (s.node n) (outside (s.node n)) ≡ true → Reaches s n (record (s.node n) { reported = with_node self (s.node n).reported }) []
+reports_reached : (s : Scene) (n self : ℕ) → self ≡ n → IsReady s n → none_stored (s.node n) (outside (s.node n)) ≡ true → PlainReaches s n (record (s.node n) { reported = with_node self (s.node n).reported }) []
+unfolding IsPlain
 reports_reached s n self same ready h =
     let m = s.node n in
     let k = known s n ready in
-    rw same (quiet_reaches s n (record m { reported = with_node n m.reported }) ready.live (Keeps-reported m (with_node n m.reported)) (λ ch. reports n (none_outside s.config.slots m k.rows h) ch))
+    rw same (plain_reaches s n (record m { reported = with_node n m.reported }) ready.live (Keeps-reported m (with_node n m.reported)) (λ ch. reports n (none_outside s.config.slots m k.rows h) ch) (λ _. tt))
 
 report_telling : (m : Node) (l : Letter) → In l (to_each m (without m.me m.members) Recovered) → IsTellable (record m { reported = with_node m.me m.reported }) l
 report_telling m =
     to_each-each (IsTellable (record m { reported = with_node m.me m.reported })) m (without m.me m.members) Recovered (λ to h. reported to (has-with_same m.me m.reported))
 
-report-reached : (s : Scene) (n k : ℕ) → IsReady s n → Reached s n k (report (s.node n))
+pub report-reached : (s : Scene) (n k : ℕ) → IsReady s n → PlainReached s n k (report (s.node n))
 unfolding report
 report-reached s n k ready =
     let m = s.node n in
     let me = known s n ready in
     let after : Act = record { node = record m { reported = with_node m.me m.reported }; sent = to_each m (without m.me m.members) Recovered; passed = [] } in
-    cond_both (not (has m.me m.reported) && none_stored m (outside m)) after (still m) (λ a. Reached s n k a)
+    cond_both (not (has m.me m.reported) && none_stored m (outside m)) after (still m) (λ a. PlainReached s n k a)
     (λ h. quiet_then_tells s n k after.node after.sent ready (reports_reached s n m.me me.me ready (and_parts (not (has m.me m.reported)) (none_stored m (outside m)) h).1) (report_telling m))
     (λ _. cut_none s n m k (still_reaches s n))
 
@@ -133,4 +133,4 @@ finish-reached s n k ready =
     (λ t j rt _.
     act_then t n j (in_turn advance_kept (t.node n) (outside (t.node n))) report rt
     (kept_in_turn (outside (t.node n)) t n j rt (λ u i. let x = t.node n in streams_outside-node x.members (below (length x.slots)) (below (length x.logs)) u i))
-    (λ u i ru _. report-reached u n i ru))
+    (λ u i ru _. any_reaches u n _ _ (report-reached u n i ru)))

@@ -1,13 +1,13 @@
 -- The letters on the links of a world: which there are, before and after more are sent.
-use Rattle.std.specs.Prelude.{ℕ, zero, suc, ◌≡◌, ◌≢◌, List, [], ◌∷◌, ◌++◌, Option, Some, None, ◌⊎◌}
-use Rattle.std.proofs.Common.{arith, refl, sym, ap, ◌∙◌, inl, inr}
+use Rattle.std.specs.Prelude.{ℕ, zero, suc, ◌≡◌, ◌≢◌, List, [], ◌∷◌, ◌++◌, Some, ◌⊎◌}
+use Rattle.std.proofs.Common.{refl, sym, ap, inl, inr}
 use Rattle.std.proofs.lemmas.Bool.{cases_eq}
 use Rattle.zeus_packet.specs.declared.letter.Letter.{Letter}
 use Rattle.zeus_model.specs.In.{In, here, there}
 use Rattle.zeus_model.specs.Tables.{nth, put}
 use Rattle.zeus_model.specs.World.{link, posted, all_posted, nth_letter}
 use Rattle.machine_moves.specs.Scene.{all_of}
-use Rattle.machine_moves.proofs.Lists.{In-nothing, In-append_left, In-append_right, In-append, nth-put_same, nth-put_other}
+use Rattle.machine_moves.proofs.Lists.{In-append_left, In-append_right, In-append, nth-put_same, nth-put_other}
 
 -- the letter stands on one of the links
 pub record IsOn (links : List (List (List Letter))) (l : Letter) : Type 0 where

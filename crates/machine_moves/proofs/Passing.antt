@@ -1,6 +1,6 @@
 -- Streams advance: entries pass one after another, and then it is told.
-use Rattle.std.specs.Prelude.{ℕ, zero, suc, ◌≡◌, ◌≢◌, ◌+◌, ◌-◌, ◌<◌, ◌≤◌, Bool, true, false, List, [], ◌∷◌, ◌++◌, length, take, drop, map, Option, Some, None, ◌⊎◌, if◌then◌else◌}
-use Rattle.std.proofs.Common.{arith, refl, sym, ap, ◌∙◌, inl, inr, subst, append_assoc}
+use Rattle.std.specs.Prelude.{ℕ, zero, suc, ◌≡◌, ◌≢◌, ◌+◌, ◌<◌, ◌≤◌, Bool, true, false, List, [], ◌∷◌, ◌++◌, length, take, drop, map, Option, None, if◌then◌else◌}
+use Rattle.std.proofs.Common.{arith, refl, ap, ◌∙◌, subst, append_assoc}
 use Rattle.std.proofs.lemmas.List.{length-map}
 use Rattle.zeus_base.specs.Nodes.{has, without, meet}
 use Rattle.zeus_base.specs.NodeLaws.{has-head, has-tail, has-without, has-meet, has-without_same}
@@ -13,14 +13,13 @@ use Rattle.zeus_model.specs.In.{In, here, there}
 use Rattle.zeus_model.specs.Tables.{nth, put, front}
 use Rattle.zeus_model.specs.declared.state.Copy.{Copy}
 use Rattle.zeus_model.specs.declared.state.Kept.{Kept}
-use Rattle.zeus_model.specs.State.{Node, Slot, StreamLog, no_slot, no_log, slot, log, with_slot, with_log, with_copies, own_stream}
-use Rattle.zeus_model.specs.Act.{Act, letter, to_each}
-use Rattle.zeus_model.specs.Commit.{validated, each_write, writes_of, as_kept, no_kept, passes, passing, after_passing, followers_of, pass_own, advance_own, advance_own_by, pass_kept, advance_kept, advance_kept_by, told}
-use Rattle.machine_moves.specs.Scene.{Scene, IsLive}
+use Rattle.zeus_model.specs.State.{Node, Slot, StreamLog, no_slot, no_log, slot, log, own_stream}
+use Rattle.zeus_model.specs.Act.{letter, to_each}
+use Rattle.zeus_model.specs.Commit.{validated, each_write, writes_of, as_kept, no_kept, passes, passing, followers_of, pass_own, advance_own, advance_own_by, pass_kept, advance_kept, advance_kept_by, told}
+use Rattle.machine_moves.specs.Scene.{Scene}
 use Rattle.machine_moves.specs.Move.{own_kept, own_passed, kept_passed, passes_own, passes_kept, IsTellable}
 use Rattle.machine_moves.proofs.Lists.{put-put, nth-put_same}
 use Rattle.machine_moves.proofs.Within.{slot-with_slot_same, log-with_log_same, Keeps-pass_own, Keeps-pass_kept}
-use Rattle.machine_moves.proofs.Steady.{IsKnown}
 use Rattle.machine_moves.proofs.Reach.{Reaches, Reached, IsReady, known, still_reaches, quiet_reaches, then_reaches, cut_none, quiet_then_tells}
 
 -- ---- letters to each of a list of nodes
@@ -38,7 +37,7 @@ front-cases : (first : Bool) (length rest c : ℕ) → suc c ≤ (if first then 
 front-cases true length rest c h = (omega arith, refl, omega arith)
 front-cases false length rest c h = absurd (omega arith)
 
-front-parts : {A : Type 0} (f : A → Bool) (d : A) (xs : List A) (c : ℕ) → suc c ≤ front f xs → (0 < length xs) × (f (nth d xs 0) ≡ true) × (c ≤ front f (drop 1 xs))
+pub front-parts : {A : Type 0} (f : A → Bool) (d : A) (xs : List A) (c : ℕ) → suc c ≤ front f xs → (0 < length xs) × (f (nth d xs 0) ≡ true) × (c ≤ front f (drop 1 xs))
 unfolding front nth
 front-parts f d [] c h = absurd (omega arith)
 front-parts f d (x ∷ xs) c h = front-cases (f x) (length xs) (front f xs) c h
@@ -63,7 +62,7 @@ take-more zero [] = refl
 take-more (suc k) [] = refl
 take-more k (x ∷ xs) = refl
 
-each_write-append : (f : Write → Option Copy → Option Copy) (copies : List (Option Copy)) (a b : List Write) → each_write f (each_write f copies a) b ≡ each_write f copies (a ++ b)
+pub each_write-append : (f : Write → Option Copy → Option Copy) (copies : List (Option Copy)) (a b : List Write) → each_write f (each_write f copies a) b ≡ each_write f copies (a ++ b)
 unfolding each_write
 each_write-append f copies [] b = refl
 each_write-append f copies (w ∷ ws) b = each_write-append f (put None copies w.obj (f w (nth None copies w.obj))) ws b
@@ -78,18 +77,18 @@ copies-more copies k ks = rw (each_write-append, writes_of-append, take-more k k
 
 -- ---- an own stream
 
-pass_own-slot : (m : Node) (i k : ℕ) → slot (pass_own m i k) i ≡ record { current = (slot m i).current; done = (slot m i).done + k; pending = drop k (slot m i).pending }
+pub pass_own-slot : (m : Node) (i k : ℕ) → slot (pass_own m i k) i ≡ record { current = (slot m i).current; done = (slot m i).done + k; pending = drop k (slot m i).pending }
 pass_own-slot m i k = slot-with_slot_same m i record { current = (slot m i).current; done = (slot m i).done + k; pending = drop k (slot m i).pending }
 
 pass_own-kept : (m : Node) (i k : ℕ) → own_kept (pass_own m i k) i ≡ drop k (own_kept m i)
 unfolding own_kept
 pass_own-kept m i k = rw (pass_own-slot m i k) (drop-map as_kept k (slot m i).pending)
 
-node_by : (m : Node) (c d : List (Option Copy)) (a b : List Slot) → c ≡ d → a ≡ b → ◌≡◌ {A = Node} (record m { copies = c; slots = a }) (record m { copies = d; slots = b })
+pub node_by : (m : Node) (c d : List (Option Copy)) (a b : List Slot) → c ≡ d → a ≡ b → ◌≡◌ {A = Node} (record m { copies = c; slots = a }) (record m { copies = d; slots = b })
 node_by m c d a b e h = λ j. record m { copies = e j; slots = h j }
 
 -- entries of a slot that is given pass
-abbrev pass_of : Node → ℕ → Slot → ℕ → Node
+abbrev pub pass_of : Node → ℕ → Slot → ℕ → Node
 pass_of m i l k =
     record m {
       copies = each_write validated m.copies (writes_of (take k (map as_kept l.pending)));
@@ -108,7 +107,7 @@ pass_of-more m i l k =
 pub pass_own-more : (m : Node) (i k : ℕ) → pass_own (pass_own m i 1) i k ≡ pass_own m i (suc k)
 pass_own-more m i k = ap (λ (l : Slot). pass_of (pass_own m i 1) i l k) (pass_own-slot m i 1) ∙ pass_of-more m i (slot m i) k
 
-own_kept-length : (m : Node) (i : ℕ) → length (own_kept m i) ≡ length (slot m i).pending
+pub own_kept-length : (m : Node) (i : ℕ) → length (own_kept m i) ≡ length (slot m i).pending
 unfolding own_kept
 own_kept-length m i = length-map (slot m i).pending as_kept
 
@@ -119,7 +118,7 @@ own_pass s n i ready h =
     quiet_reaches s n (pass_own m i 1) ready.live (Keeps-pass_own m i 1) (λ ch. passes_own n i (rw (own_kept-length m i) at first.0) first.1 ch)
 
 -- after a pass the next entries can still pass
-own_front : (m : Node) (i c : ℕ) → suc (suc c) ≤ front (passes m) (own_kept m i) → suc c ≤ front (passes (pass_own m i 1)) (own_kept (pass_own m i 1) i)
+pub own_front : (m : Node) (i c : ℕ) → suc (suc c) ≤ front (passes m) (own_kept m i) → suc c ≤ front (passes (pass_own m i 1)) (own_kept (pass_own m i 1) i)
 unfolding passes
 own_front m i c h = rw (pass_own-kept m i 1) (front-parts (passes m) no_kept (own_kept m i) (suc c) h).2
 
@@ -133,7 +132,7 @@ own_passes (suc c) s n i ready h =
     rw (← pass_own-more m i (suc c))
     (subst (λ (x : Node). suc c ≤ front (passes x) (own_kept x i) → Reaches t n (pass_own x i (suc c)) []) b.node (own_passes c t n i rt) (own_front m i c h)))
 
-length-take_most : {A : Type 0} (k : ℕ) (xs : List A) → length (take k xs) ≤ k
+pub length-take_most : {A : Type 0} (k : ℕ) (xs : List A) → length (take k xs) ≤ k
 length-take_most zero xs = omega arith
 length-take_most (suc k) [] = omega arith
 length-take_most (suc k) (x ∷ xs) = omega (arith, length-take_most k xs)
@@ -176,14 +175,14 @@ advance_own-reached s n i k ready =
 
 -- ---- a stream whose node is no member
 
-pass_kept-log : (m : Node) (t : Stream) (k : ℕ) → log (pass_kept m t k) t ≡ record { done = (log m t).done + k; kept = drop k (log m t).kept }
+pub pass_kept-log : (m : Node) (t : Stream) (k : ℕ) → log (pass_kept m t k) t ≡ record { done = (log m t).done + k; kept = drop k (log m t).kept }
 pass_kept-log m t k = log-with_log_same m t record { done = (log m t).done + k; kept = drop k (log m t).kept }
 
-node_with_logs : (m : Node) (c d : List (Option Copy)) (a b : List (List StreamLog)) → c ≡ d → a ≡ b → ◌≡◌ {A = Node} (record m { copies = c; logs = a }) (record m { copies = d; logs = b })
+pub node_with_logs : (m : Node) (c d : List (Option Copy)) (a b : List (List StreamLog)) → c ≡ d → a ≡ b → ◌≡◌ {A = Node} (record m { copies = c; logs = a }) (record m { copies = d; logs = b })
 node_with_logs m c d a b e h = λ j. record m { copies = e j; logs = h j }
 
 -- entries of a log that is given pass
-abbrev pass_kept_of : Node → Stream → StreamLog → ℕ → Node
+abbrev pub pass_kept_of : Node → Stream → StreamLog → ℕ → Node
 pass_kept_of m t l k =
     record m {
       copies = each_write validated m.copies (writes_of (take k l.kept));
@@ -191,7 +190,7 @@ pass_kept_of m t l k =
     }
 
 logs-put : (logs : List (List StreamLog)) (node slot : ℕ) (a b : StreamLog) → put [] (put [] logs node (put no_log (nth [] logs node) slot a)) node (put no_log (nth [] (put [] logs node (put no_log (nth [] logs node) slot a)) node) slot b) ≡ put [] logs node (put no_log (nth [] logs node) slot b)
-logs-put logs node slot a b = rw (nth-put_same [] logs node (put no_log (nth [] logs node) slot a), put-put, put-put) refl
+logs-put logs node slot a b = rw (nth-put_same [] logs node (put no_log (nth [] logs node) slot a), put-put no_log (nth [] logs node) slot a b, put-put) refl
 
 log-more : (l : StreamLog) (k : ℕ) → ◌≡◌ {A = StreamLog} (record { done = l.done + 1 + k; kept = drop k (drop 1 l.kept) }) (record { done = l.done + suc k; kept = drop (suc k) l.kept })
 log-more l k = let sum : l.done + 1 + k ≡ l.done + suc k = omega arith in rw (sum, drop-more k l.kept) refl
@@ -224,7 +223,7 @@ kept_pass s n t ready out h =
     let first = front-parts (passes m) no_kept (log m t).kept 0 h in
     quiet_reaches s n (pass_kept m t 1) ready.live (Keeps-pass_kept m t 1) (λ ch. passes_kept n t out (outsider_other s n t.node ready out) first.0 first.1 ch)
 
-kept_front : (m : Node) (t : Stream) (c : ℕ) → suc (suc c) ≤ front (passes m) (log m t).kept → suc c ≤ front (passes (pass_kept m t 1)) (log (pass_kept m t 1) t).kept
+pub kept_front : (m : Node) (t : Stream) (c : ℕ) → suc (suc c) ≤ front (passes m) (log m t).kept → suc c ≤ front (passes (pass_kept m t 1)) (log (pass_kept m t 1) t).kept
 unfolding passes
 kept_front m t c h = rw (pass_kept-log m t 1) (front-parts (passes m) no_kept (log m t).kept (suc c) h).2
 

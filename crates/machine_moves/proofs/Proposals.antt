@@ -1,5 +1,5 @@
 -- The letters by which proposals are made and held.
-use Rattle.std.specs.Prelude.{ℕ, zero, suc, ◌≡◌, ◌≢◌, ◌+◌, ◌-◌, ◌<◌, ◌≤◌, Bool, true, false, ◌&&◌, ◌||◌, not, ◌==◌, List, [], ◌∷◌, ◌++◌, length, take, Option, Some, None, is_none, is_some, ◌⊎◌, if◌then◌else◌}
+use Rattle.std.specs.Prelude.{ℕ, suc, ◌≡◌, ◌<◌, ◌≤◌, true, false, List, [], ◌∷◌, ◌++◌, length, take, Option, Some, None, if◌then◌else◌}
 use Rattle.std.proofs.Common.{arith, refl, sym, ap, ◌∙◌, inl, inr, subst}
 use Rattle.std.proofs.lemmas.Bool.{cond_both, cond-true}
 use Rattle.zeus_base.specs.Nodes.{has, without}
@@ -8,7 +8,7 @@ use Rattle.zeus_base.specs.OrderLaws.{is_below-irrefl}
 use Rattle.zeus_base.specs.declared.order.Stamp.{Stamp}
 use Rattle.zeus_packet.specs.Place.{arbiters}
 use Rattle.zeus_packet.specs.declared.letter.Body.{Body}
-use Rattle.zeus_packet.specs.declared.letter.Body.TheVariants.{OReq, OInv, OAck, ONack, OVal}
+use Rattle.zeus_packet.specs.declared.letter.Body.TheVariants.{OReq, OInv, ONack, OVal}
 use Rattle.zeus_packet.specs.declared.letter.Cause.{Cause}
 use Rattle.zeus_packet.specs.declared.letter.Cause.TheVariants.{OwnPlace}
 use Rattle.zeus_packet.specs.declared.letter.Letter.{Letter}
@@ -20,16 +20,17 @@ use Rattle.zeus_model.specs.Tables.{nth}
 use Rattle.zeus_model.specs.declared.answer.Outcome.{Outcome}
 use Rattle.zeus_model.specs.State.{Node, entry, is_open, with_entry, with_gather}
 use Rattle.zeus_model.specs.Act.{Did, letter, to_each}
-use Rattle.zeus_model.specs.Ownership.{settle, settled_entry, gather_above, holding, is_source, own_content, unready_cause, driven, invalidations, acknowledgement, drive, answer_request, request_cause, on_oreq, answer_settled, takes_over, rebased, hold_cause, advice as advice_letters, refuse_proposal, collector, hold_or_refuse, oinv_on_base, on_oinv}
-use Rattle.machine_moves.specs.Scene.{Scene, IsLive, IsReceivable, Changes}
-use Rattle.machine_moves.specs.Move.{advice, placement, to_arbiter, to_collector, IsTellable, IsAboutProposal, HasAcked, MayDrive, MayAccept, Move, drives, accepts, settles, IsSettling, by_invalidation}
+use Rattle.zeus_model.specs.Ownership.{settle, settled_entry, gather_above, holding, is_source, unready_cause, driven, invalidations, acknowledgement, drive, answer_request, request_cause, on_oreq, answer_settled, takes_over, rebased, hold_cause, advice as advice_letters, refuse_proposal, collector, hold_or_refuse, oinv_on_base, on_oinv}
+use Rattle.machine_moves.specs.Scene.{Scene, IsReceivable}
+use Rattle.machine_moves.specs.Move.{advice, placement, to_arbiter, to_collector, IsTellable, IsAboutProposal, drives, accepts, settles, IsSettling, by_invalidation}
+use Rattle.machine_moves.specs.Plain.{IsPlain}
 use Rattle.machine_moves.proofs.Lists.{In-append, In-take, In-take_last}
-use Rattle.machine_moves.proofs.Within.{entry-with_entry_same, Keeps, Keeps-settle, Keeps-holding}
-use Rattle.machine_moves.proofs.Steady.{IsKnown, fair_proposal}
-use Rattle.machine_moves.proofs.Reach.{Became, Became-changed, Changes-became, changed, Reaches, Answered, IsReady, known, still_reaches, move_reaches, quiet_reaches, then_reaches, cut_none, cut_tells}
+use Rattle.machine_moves.proofs.Within.{entry-with_entry_same, Keeps-settle, Keeps-holding}
+use Rattle.machine_moves.proofs.Steady.{fair_proposal}
+use Rattle.machine_moves.proofs.Reach.{Became-changed, Changes-became, changed, PlainReaches as Reaches, PlainAnswered as Answered, IsReady, known, still_reaches, move_reaches, plain_reaches, then_reaches, cut_none, cut_tells}
 use Rattle.machine_moves.proofs.Passing.{to_each-each, without-member}
 use Rattle.machine_moves.proofs.Entries.{Received, received_after}
-use Rattle.machine_moves.proofs.Causes.{arbiters-length, request_cause-none, hold_cause-none, MayRequest, MayHold}
+use Rattle.machine_moves.proofs.Causes.{arbiters-length, request_cause-none, hold_cause-none}
 
 -- the sender of a letter of the node's epoch is a member of its view
 pub sender_member : (s : Scene) (n from : ℕ) (body : Body) → IsReady s n → Received s n from body → has from (s.node n).members ≡ true
@@ -72,6 +73,7 @@ advice_letter m to x stamp cause l (there _ _ i) = elim i [ ]
 -- ---- a request
 
 drives_request : (s : Scene) (n from k x : ℕ) (want : Want) → IsReady s n → Received s n from (OReq x want) → is_open (s.node n) ≡ true → length (s.node n).directory ≤ 8 → 10 ≤ k → request_cause (s.node n) x from want ≡ None → Answered s n k (drive (s.node n) from x (driven (s.node n) x from want))
+unfolding IsPlain
 drives_request s n from k x want ready got opened few room none =
     let m = s.node n in
     let me = known s n ready in
@@ -93,7 +95,7 @@ drives_request s n from k x want ready got opened few room none =
       ready = may.ready;
     }
     (Changes-became s (changed s n (holding m x p) sent) n (holding m x p) sent (IsAboutProposal m x p) ready.live b (λ l i. about l (In-take l k _ i)))
-    (from, b.new _ (In-take_last (acknowledgement m from x p) k (invalidations m x p) [] small)))
+    (from, b.new _ (In-take_last (acknowledgement m from x p) k (invalidations m x p) [] small))) (λ _. tt)
 
 answer_request-answered : (cause : Option Cause) (s : Scene) (n from k x : ℕ) (want : Want) → IsReady s n → Received s n from (OReq x want) → is_open (s.node n) ≡ true → length (s.node n).directory ≤ 8 → 10 ≤ k → request_cause (s.node n) x from want ≡ cause → Answered s n k (answer_request (s.node n) from x want cause)
 unfolding answer_request
@@ -131,19 +133,20 @@ IsRebased s n x p None = Unit {0}
 IsRebased s n x p (Some m) = Rebased s n x p m
 
 rebased_settled : (s : Scene) (n x : ℕ) (p : Proposal) (l : Letter) → IsReady s n → IsReceivable s n l → IsSettling x p.base p.base_place l → is_below p.base p.stamp ≡ true → is_below (entry (s.node n) x).stamp p.base ≡ true → Rebased s n x p (settle (s.node n) x p.base p.base_place)
+unfolding IsPlain
 rebased_settled s n x p l ready at says above below =
     let m = s.node n in
     let after = settle m x p.base p.base_place in
     let is = settle-entry m x p.base p.base_place below in
     record {
-      reaches = quiet_reaches s n after ready.live (Keeps-settle m x p.base p.base_place) (λ ch. settles n x p.base p.base_place l at says below ch);
+      reaches = plain_reaches s n after ready.live (Keeps-settle m x p.base p.base_place) (λ ch. settles n x p.base p.base_place l at says below ch) (λ _. tt);
       opened = is_open-settle m x p.base p.base_place;
       not_below = rw is (is_below-irrefl p.base);
       below = rw is above;
     }
 
 pub rebased-is : (s : Scene) (n x : ℕ) (p : Proposal) (l : Letter) → IsReady s n → IsReceivable s n l → IsSettling x p.base p.base_place l → is_below p.base p.stamp ≡ true → is_below (entry (s.node n) x).stamp p.stamp ≡ true → IsRebased s n x p (rebased (s.node n) x p)
-unfolding rebased IsRebased
+unfolding rebased IsRebased IsPlain
 rebased-is s n x p l ready at says above below =
     let m = s.node n in
     let settled : Option Node = Some (settle m x p.base p.base_place) in
@@ -181,6 +184,7 @@ unfolding collector
 collector-requester m p other h = cond-true (has p.requester m.members) p.requester other h
 
 holds_proposal : (s : Scene) (n from k x : ℕ) (p : Proposal) → IsReady s n → Received s n from (OInv x p) → is_open (s.node n) ≡ true → 10 ≤ k → is_below (entry (s.node n) x).stamp p.base ≡ false → is_below (entry (s.node n) x).stamp p.stamp ≡ true → hold_cause (s.node n) x p ≡ None → Reaches s n (holding (s.node n) x p) (take k (acknowledgement (s.node n) (collector (s.node n) p from) x p ∷ []))
+unfolding IsPlain
 holds_proposal s n from k x p ready got opened room not_below below none =
     let m = s.node n in
     let me = known s n ready in
@@ -200,7 +204,7 @@ holds_proposal s n from k x p ready got opened room not_below below none =
       ready = may.ready;
     }
     (Changes-became s (changed s n (holding m x p) sent) n (holding m x p) sent (IsAboutProposal m x p) ready.live b (λ l i. about l (In-take l k _ i)))
-    (to, b.new _ (In-take_last (acknowledgement m to x p) k [] [] (omega arith))))
+    (to, b.new _ (In-take_last (acknowledgement m to x p) k [] [] (omega arith)))) (λ _. tt)
 
 hold_or_refuse-answered : (cause : Option Cause) (s : Scene) (n from k x : ℕ) (p : Proposal) → IsReady s n → Received s n from (OInv x p) → is_open (s.node n) ≡ true → 10 ≤ k → is_below (entry (s.node n) x).stamp p.base ≡ false → is_below (entry (s.node n) x).stamp p.stamp ≡ true → hold_cause (s.node n) x p ≡ cause → Answered s n k (hold_or_refuse (s.node n) from x p cause)
 unfolding hold_or_refuse

@@ -1,19 +1,18 @@
 -- A letter that is delivered: what the node does with it is a sequence of moves.
-use Rattle.std.specs.Prelude.{ℕ, ◌≡◌, ◌≢◌, ◌<◌, ◌≤◌, Bool, true, false, ◌&&◌, not, ◌==◌, List, [], ◌∷◌, length, Option, Some, None, ◌⊎◌}
-use Rattle.std.proofs.Common.{arith, refl, sym, ap, ◌∙◌, inl, inr}
-use Rattle.std.proofs.lemmas.Bool.{not-false, eqb-true, and_cases, cases_Bool}
+use Rattle.std.specs.Prelude.{ℕ, ◌≡◌, ◌≤◌, true, false, not, ◌==◌, length, Option, Some, None}
+use Rattle.std.proofs.Common.{refl, inl, inr}
+use Rattle.std.proofs.lemmas.Bool.{not-false, eqb-true, and_cases}
 use Rattle.zeus_packet.specs.declared.letter.Body.{Body}
 use Rattle.zeus_packet.specs.declared.letter.Body.TheVariants.{RInv, RAck, RVal, OReq, OInv, OAck, ONack, OVal, Recovered}
 use Rattle.zeus_packet.specs.declared.letter.Letter.{Letter}
 use Rattle.zeus_model.specs.In.{In}
 use Rattle.zeus_model.specs.declared.answer.Outcome.{Outcome}
 use Rattle.zeus_model.specs.State.{Node, is_open}
-use Rattle.zeus_model.specs.Act.{Did, just}
 use Rattle.zeus_model.specs.Commit.{finish}
 use Rattle.zeus_model.specs.Receive.{needs_open, row, untaken, receive_or_not, receive}
-use Rattle.machine_moves.specs.Scene.{Scene, IsLive, IsReceivable}
-use Rattle.machine_moves.proofs.Steady.{IsSteady, IsKnown}
-use Rattle.machine_moves.proofs.Reach.{Answered, IsReady, known, still_reaches, cut_none, did_then_reaches}
+use Rattle.machine_moves.specs.Scene.{Scene}
+use Rattle.machine_moves.proofs.Steady.{IsSteady}
+use Rattle.machine_moves.proofs.Reach.{Answered, PlainAnswered, IsReady, known, any_reaches, still_reaches, cut_none, did_then_reaches}
 use Rattle.machine_moves.proofs.Finish.{finish-reached}
 use Rattle.machine_moves.proofs.Entries.{Received, on_rinv-answered, on_rack-answered, on_rval-answered}
 use Rattle.machine_moves.proofs.Causes.{or_else-none, where_true-none}
@@ -21,7 +20,7 @@ use Rattle.machine_moves.proofs.Proposals.{on_oreq-answered, on_oinv-answered}
 use Rattle.machine_moves.proofs.Decisions.{on_oack-answered, on_oval-answered, on_recovered-answered}
 
 -- the rule of each body is a sequence of moves
-row-answered : (body : Body) (s : Scene) (n from k : ℕ) → IsReady s n → Received s n from body → (needs_open body ≡ true → is_open (s.node n) ≡ true) → length (s.node n).directory ≤ 8 → 10 ≤ k → Answered s n k (row (s.node n) from body)
+pub row-answered : (body : Body) (s : Scene) (n from k : ℕ) → IsReady s n → Received s n from body → (needs_open body ≡ true → is_open (s.node n) ≡ true) → length (s.node n).directory ≤ 8 → 10 ≤ k → PlainAnswered s n k (row (s.node n) from body)
 unfolding row needs_open
 row-answered (RInv r) s n from k ready got opened few room = on_rinv-answered s n from k r ready got
 row-answered (RAck t number) s n from k ready got opened few room = on_rack-answered s n from k t number ready got
@@ -40,7 +39,7 @@ pub record IsTaken (m : Node) (l : Letter) : Type 0 where
   pub epoch : l.epoch ≡ m.epoch
   pub opened : needs_open l.body ≡ true → is_open m ≡ true
 
-untaken-none : (m : Node) (l : Letter) → untaken m l ≡ None → IsTaken m l
+pub untaken-none : (m : Node) (l : Letter) → untaken m l ≡ None → IsTaken m l
 unfolding untaken
 untaken-none m l h =
     let first = or_else-none _ _ h in
@@ -65,7 +64,8 @@ receive_or_not-answered None s n k l steady at to few room is =
     let ready : IsReady s n = record { steady = steady; live = taken.live } in
     let me = known s n ready in
     let got : Received s n l.from l.body = record { letter = l; is = refl; by = refl; at = (to, taken.epoch, at) } in
-    did_then_reaches s n k (row m l.from l.body) finish ready (row-answered l.body s n l.from k ready got taken.opened (rw (me.directory) few) room)
+    did_then_reaches s n k (row m l.from l.body) finish ready
+    (any_reaches s n _ _ (row-answered l.body s n l.from k ready got taken.opened (rw (me.directory) few) room))
     (λ t j rt. finish-reached t n j rt)
 
 -- a delivered letter

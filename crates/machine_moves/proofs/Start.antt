@@ -1,26 +1,22 @@
 -- The start of a run is as every moment is.
-use Rattle.std.specs.Prelude.{ℕ, zero, suc, ◌≡◌, ◌≢◌, ◌+◌, ◌-◌, ◌<◌, ◌≤◌, Bool, true, false, List, [], ◌∷◌, length, map, replicate, Option, Some, None, ◌⊎◌}
-use Rattle.std.proofs.Common.{arith, refl, sym, ap, ◌∙◌, inl, inr}
-use Rattle.std.proofs.lemmas.Bool.{cases_eq, cases_lt}
+use Rattle.std.specs.Prelude.{ℕ, zero, suc, ◌≡◌, ◌+◌, ◌-◌, ◌<◌, ◌≤◌, true, false, List, [], ◌∷◌, length, map, replicate, None}
+use Rattle.std.proofs.Common.{arith, refl, ap, inl, inr}
+use Rattle.std.proofs.lemmas.Bool.{cases_lt}
 use Rattle.std.proofs.lemmas.List.{length-replicate}
 use Rattle.zeus_base.specs.Limits.{KeepsLimits}
 use Rattle.zeus_base.specs.Nodes.{has}
 use Rattle.zeus_base.specs.NodeLaws.{length-below}
-use Rattle.zeus_base.specs.Order.{is_below}
 use Rattle.zeus_base.specs.declared.config.Config.{Config}
 use Rattle.zeus_base.specs.declared.config.ObjectDecl.{ObjectDecl}
-use Rattle.zeus_base.specs.declared.order.Stream.{Stream}
 use Rattle.zeus_packet.specs.declared.letter.Letter.{Letter}
-use Rattle.zeus_packet.specs.declared.place.Proposal.{Proposal}
 use Rattle.zeus_txn.specs.declared.tx.TxDecl.{TxDecl}
 use Rattle.zeus_model.specs.In.{In}
 use Rattle.zeus_model.specs.Tables.{nth, below}
-use Rattle.zeus_model.specs.declared.state.Entry.{Entry}
-use Rattle.zeus_model.specs.State.{Node, Slot, StreamLog, no_entry, no_slot, no_log, slot, log, entry}
-use Rattle.zeus_model.specs.World.{World, no_node, node, link, start, start_node, start_entry}
-use Rattle.machine_moves.specs.Scene.{Scene, scene, IsLive}
+use Rattle.zeus_model.specs.State.{Slot, StreamLog, no_entry, no_slot, no_log}
+use Rattle.zeus_model.specs.World.{no_node, node, link, start, start_node, start_entry}
+use Rattle.machine_moves.specs.Scene.{scene}
 use Rattle.machine_moves.proofs.Lists.{In-nothing, nth-past, nth-map_numbers, length-map_numbers, nth-replicate, has-numbers_from}
-use Rattle.machine_moves.proofs.Links.{HasEnds, IsOn, In-to_link}
+use Rattle.machine_moves.proofs.Links.{HasEnds, In-to_link}
 use Rattle.machine_moves.proofs.Within.{IsWithin}
 use Rattle.machine_moves.proofs.Steady.{IsSteady, IsKnown}
 use Rattle.machine_moves.proofs.Steps.{IsUsual}

@@ -1,6 +1,6 @@
 -- What holds at every moment, whatever the moves: live nodes know their numbers and views, and letters have fair senders.
-use Rattle.std.specs.Prelude.{ℕ, zero, suc, ◌≡◌, ◌≢◌, ◌+◌, ◌-◌, ◌<◌, ◌≤◌, Bool, true, false, List, [], ◌∷◌, ◌++◌, length, Option, Some, None, ◌⊎◌}
-use Rattle.std.proofs.Common.{arith, refl, sym, ap, ◌∙◌, inl, inr, length-append}
+use Rattle.std.specs.Prelude.{ℕ, suc, ◌≡◌, ◌-◌, ◌<◌, ◌≤◌, true, List, [], ◌∷◌, ◌++◌, length, Option}
+use Rattle.std.proofs.Common.{arith, refl, ◌∙◌, inl, inr, length-append}
 use Rattle.std.proofs.lemmas.Bool.{cases_eq, cases_lt}
 use Rattle.zeus_base.specs.Nodes.{has}
 use Rattle.zeus_base.specs.Order.{is_below}
@@ -17,18 +17,16 @@ use Rattle.zeus_model.specs.Membership.{dropped}
 use Rattle.zeus_packet.specs.declared.letter.Body.{Body}
 use Rattle.zeus_packet.specs.declared.letter.Body.TheVariants.{RInv, RAck, RVal, OReq, OInv, OAck, ONack, OVal, Recovered}
 use Rattle.zeus_packet.specs.declared.letter.Letter.{Letter}
-use Rattle.zeus_packet.specs.declared.place.Place.{Place}
 use Rattle.zeus_packet.specs.declared.place.Proposal.{Proposal}
 use Rattle.zeus_packet.specs.Place.{new_place}
 use Rattle.zeus_model.specs.In.{In}
-use Rattle.zeus_model.specs.Tables.{nth, put}
-use Rattle.zeus_model.specs.State.{Node, slot, log, entry, with_slot, with_copies}
+use Rattle.zeus_model.specs.Tables.{nth}
+use Rattle.zeus_model.specs.State.{Node, slot, log, entry, with_copies}
 use Rattle.zeus_model.specs.Act.{letter}
-use Rattle.zeus_model.specs.Commit.{as_kept, no_kept, no_pending, acked_kept, acked_pending}
 use Rattle.zeus_model.specs.Local.{committed, with_current, run_here}
 use Rattle.zeus_model.specs.Ownership.{settle, holding, driven}
-use Rattle.machine_moves.specs.Scene.{Scene, IsLive, IsNumbered, Changes, NewView, Same, Sends, nothing}
-use Rattle.machine_moves.specs.Move.{IsTellable, request, advice, placement, reported, own_entry, kept_entry, stored, own_passed, kept_passed, own_kept, IsAboutProposal, to_arbiter, to_collector, Move, makes_view, stops, installs, tells, turns, settles, drives, accepts, redrives, gathers, decides, raises, stores, notes_own, notes_kept, passes_own, passes_kept, reports, hears, commits, Moves, none, next}
+use Rattle.machine_moves.specs.Scene.{Scene, IsLive, IsNumbered, Changes, NewView, Same, nothing}
+use Rattle.machine_moves.specs.Move.{IsTellable, request, advice, placement, reported, own_entry, kept_entry, stored, own_passed, kept_passed, IsAboutProposal, to_arbiter, to_collector, Move, makes_view, stops, installs, tells, turns, settles, drives, accepts, redrives, gathers, decides, raises, stores, notes_own, notes_kept, passes_own, passes_kept, reports, hears, commits, Moves, none, next}
 use Rattle.machine_moves.proofs.Lists.{nth-append, nth-last}
 use Rattle.machine_moves.proofs.Within.{IsWithin, Keeps, not_empty, IsWithin-with_slot, IsWithin-with_log, IsWithin-with_copies, IsWithin-with_gather, IsWithin-settle, IsWithin-holding, IsWithin-bring, IsWithin-raise, IsWithin-store, IsWithin-pass_own, IsWithin-pass_kept, Keeps-trans, Keeps-with_slot, Keeps-with_log, Keeps-with_gather, Keeps-settle, Keeps-holding, Keeps-bring, Keeps-raise, Keeps-store, Keeps-pass_own, Keeps-pass_kept, Keeps-reported, Keeps-committed}
 

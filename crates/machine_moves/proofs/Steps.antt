@@ -1,40 +1,35 @@
 -- Each step of the world is a sequence of moves of its scene.
-use Rattle.std.specs.Prelude.{ℕ, zero, suc, ◌≡◌, ◌≢◌, ◌+◌, ◌-◌, ◌<◌, ◌≤◌, Bool, true, false, ◌&&◌, not, ◌==◌, nat_lt, List, [], ◌∷◌, ◌++◌, length, take, Option, Some, None, ◌⊎◌, if◌then◌else◌}
-use Rattle.std.proofs.Common.{arith, refl, sym, ap, ◌∙◌, inl, inr, subst}
-use Rattle.std.proofs.lemmas.Bool.{cond_both, cases_eq, or_cases, eqb-true, not-false, ltb-true, ltb-false}
-use Rattle.zeus_base.specs.Nodes.{has, is_subset}
+use Rattle.std.specs.Prelude.{ℕ, suc, ◌≡◌, ◌-◌, ◌<◌, ◌≤◌, Bool, true, false, ◌&&◌, not, ◌==◌, nat_lt, List, [], ◌∷◌, ◌++◌, length, take, Option, Some, None, ◌⊎◌, if◌then◌else◌}
+use Rattle.std.proofs.Common.{arith, refl, ap, ◌∙◌, inl, inr, subst}
+use Rattle.std.proofs.lemmas.Bool.{cond_both, or_cases, eqb-true, not-false, ltb-true, ltb-false}
+use Rattle.zeus_base.specs.Nodes.{has}
 use Rattle.zeus_base.specs.NodeLaws.{IsRising, is_subset-from_members}
-use Rattle.zeus_base.specs.declared.config.Config.{Config}
 use Rattle.zeus_base.specs.declared.step.Step.{Step}
 use Rattle.zeus_base.specs.declared.step.Step.TheVariants.{Begin, Try, Deliver, Tick, Stop, View, Install}
 use Rattle.zeus_packet.specs.declared.letter.Letter.{Letter}
-use Rattle.zeus_packet.specs.declared.place.View.{View as NewViewOf}
 use Rattle.zeus_txn.specs.declared.tx.TxDecl.{TxDecl}
-use Rattle.zeus_model.specs.In.{In, here, there}
-use Rattle.zeus_model.specs.Tables.{nth, put, or_else, where_true, first_of}
+use Rattle.zeus_model.specs.Tables.{nth, put, first_of}
 use Rattle.zeus_model.specs.declared.answer.Answer.{Answer}
 use Rattle.zeus_model.specs.declared.answer.Answer.TheVariants.{NoView}
 use Rattle.zeus_model.specs.declared.answer.Install.{Install as Installing}
 use Rattle.zeus_model.specs.declared.answer.Install.TheVariants.{Installed, Stopped as InstallStopped, Old}
 use Rattle.zeus_model.specs.declared.answer.Made.{Made}
-use Rattle.zeus_model.specs.declared.answer.Made.TheVariants.{Empty, NotMember, NotStopped}
 use Rattle.zeus_model.specs.declared.answer.Stop.{Stop as Stopping}
 use Rattle.zeus_model.specs.declared.answer.Stop.TheVariants.{Done, Stopped as StopStopped}
 use Rattle.zeus_model.specs.State.{Node}
 use Rattle.zeus_model.specs.Act.{Did, just, did_then}
 use Rattle.zeus_model.specs.Book.{Book, counted, book_passes, in_stream_order}
 use Rattle.zeus_model.specs.Commit.{finish}
-use Rattle.zeus_model.specs.Local.{begin, try_slot}
+use Rattle.zeus_model.specs.Local.{try_slot}
 use Rattle.zeus_model.specs.Membership.{dropped, install, stop, tick}
-use Rattle.zeus_model.specs.Receive.{receive}
-use Rattle.zeus_model.specs.World.{World, Event, no_node, node, tx_decl, link, all_posted, cut, refuse_step, acted, begin_refused, begun_at, begin_or_not, step_begin, tried_at, nth_letter, received_at, deliver_or_not, ticked_at, stopped_at, installed_at, last_view, is_empty, view_refused, view_or_not, step_install, happens, stepped}
-use Rattle.machine_moves.specs.Scene.{Scene, scene, view, IsLive, NewView, Same, nothing}
+use Rattle.zeus_model.specs.World.{World, Event, no_node, node, tx_decl, link, all_posted, cut, refuse_step, begin_refused, begin_or_not, step_begin, tried_at, nth_letter, received_at, deliver_or_not, ticked_at, stopped_at, installed_at, last_view, view_refused, view_or_not, step_install, happens, stepped}
+use Rattle.machine_moves.specs.Scene.{Scene, scene, view, IsLive, NewView, nothing}
 use Rattle.machine_moves.specs.Move.{Move, Moves, none, next, makes_view, stops, installs}
 use Rattle.machine_moves.specs.Fits.{StepFits}
 use Rattle.machine_moves.proofs.Lists.{nth-put_same, nth-put_other, In-nothing}
-use Rattle.machine_moves.proofs.Links.{HasEnds, HasEnds-all_posted, IsOn, In-from_link, nth_letter-In, sent-stay, sent-new, sent-only}
-use Rattle.machine_moves.proofs.Steady.{IsSteady, IsKnown, move_keep}
-use Rattle.machine_moves.proofs.Reach.{Became, Became-changed, Became-trans, Changes-became, changed, Reaches, Answered, IsReady, Moves-reaches, Same-became, Same-refl, still_reaches, Leads}
+use Rattle.machine_moves.proofs.Links.{HasEnds, HasEnds-all_posted, In-from_link, nth_letter-In, sent-stay, sent-new, sent-only}
+use Rattle.machine_moves.proofs.Steady.{IsSteady, move_keep}
+use Rattle.machine_moves.proofs.Reach.{Became, Became-changed, Became-trans, Changes-became, changed, Reaches, IsReady, Moves-reaches, any_reaches, Same-became, Same-refl, still_reaches}
 use Rattle.machine_moves.proofs.Finish.{finish-reached}
 use Rattle.machine_moves.proofs.Causes.{or_else-none, where_true-none}
 use Rattle.machine_moves.proofs.Receiving.{receive-answered}
@@ -66,11 +61,11 @@ refused_step w u =
 
 -- ---- a node has acted
 
-abbrev world_after : World → ℕ → Node → List Letter → Book → World
+abbrev pub world_after : World → ℕ → Node → List Letter → Book → World
 world_after w n after letters book =
     record { config = w.config; txs = w.txs; nodes = put no_node w.nodes n after; links = all_posted w.links letters; views = w.views; book = book }
 
-Became-after : (w : World) (n : ℕ) (after : Node) (letters : List Letter) (book : Book) → Became (scene w) (scene (world_after w n after letters book)) n after letters
+pub Became-after : (w : World) (n : ℕ) (after : Node) (letters : List Letter) (book : Book) → Became (scene w) (scene (world_after w n after letters book)) n after letters
 unfolding scene
 Became-after w n after letters book =
     record {
@@ -123,7 +118,7 @@ deliver_or_not-step (Some l) w from to i u is =
 
 ticked_step : (w : World) (n : ℕ) → IsUsual w → IsStep w (ticked_at w n (tick (node w n))).world
 unfolding ticked_at scene
-ticked_step w n u = reached_step w n _ _ _ u (tick-answered (scene w) n 64 u.steady)
+ticked_step w n u = reached_step w n _ _ _ u (any_reaches (scene w) n _ _ (tick-answered (scene w) n 64 u.steady))
 
 -- ---- stop
 
@@ -147,7 +142,7 @@ stopped_step w n u =
 
 -- ---- install
 
-abbrev viewed : Scene → ℕ → ℕ → Node
+abbrev pub viewed : Scene → ℕ → ℕ → Node
 viewed s n e = record (s.node n) { epoch = e; members = view s e; reported = []; gathers = dropped (s.node n).gathers }
 
 installs_moves : (s t : Scene) (n e : ℕ) → IsSteady s → IsLive s n → (s.node n).epoch < e → e ≤ length s.views → Became s t n (finish (viewed s n e)).node (take 64 (finish (viewed s n e)).sent) → Moves s t
@@ -220,15 +215,15 @@ kept_live true stopped live h = refl
 kept_live false true live h = absurd cc
 kept_live false false live h = absurd cc
 
-makes_view-move : (w : World) (set : List ℕ) → IsUsual w → IsRising set → view_refused w set ≡ None → Move (scene w) (scene (record w { views = w.views ++ set ∷ []; book = counted w.book }))
+pub new_view : (w : World) (set : List ℕ) → IsUsual w → IsRising set → view_refused w set ≡ None → NewView (scene w) (scene (record w { views = w.views ++ set ∷ []; book = counted w.book })) set
 unfolding view_refused scene
-makes_view-move w set u rising h =
+new_view w set u rising h =
     let first = or_else-none _ _ h in
     let second = or_else-none _ _ first.1 in
     let steady = u.steady in
     let members : (k : ℕ) → has k set ≡ true → has k (nth [] w.views (length w.views - 1)) ≡ true = λ k is.
     rw (last_view-nth w.views) at (not-false (has k (last_view w.views)) (where_true-none _ _ (first_of-none _ set k second.0 is))) in
-    makes_view set record {
+    record {
       config = refl;
       views = refl;
       nodes = λ m. refl;
@@ -248,7 +243,7 @@ view_or_not-step (Some m) w set u rising is = refused_step w u
 view_or_not-step None w set u rising is =
     let after : World = record w { views = w.views ++ set ∷ []; book = counted w.book } in
     record {
-      moves = next (scene w) (scene after) (scene after) (makes_view-move w set u rising is) (none (scene after) (scene after) (Same-refl (scene after)));
+      moves = next (scene w) (scene after) (scene after) (makes_view set (new_view w set u rising is)) (none (scene after) (scene after) (Same-refl (scene after)));
       ends = u.ends;
       config = refl;
     }

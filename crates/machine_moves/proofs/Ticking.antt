@@ -1,10 +1,10 @@
 -- A tick: what a node says again, and the proposals that it drives again.
-use Rattle.std.specs.Prelude.{ℕ, zero, suc, ◌≡◌, ◌≢◌, ◌+◌, ◌-◌, ◌<◌, ◌≤◌, Bool, true, false, ◌&&◌, not, ◌==◌, nat_lt, List, [], ◌∷◌, ◌++◌, length, take, map, Option, Some, None, is_none, is_some, ◌⊎◌, if◌then◌else◌}
-use Rattle.std.proofs.Common.{arith, refl, sym, ap, ◌∙◌, inl, inr, subst}
-use Rattle.std.proofs.lemmas.Bool.{cond_both, and_parts, and_cases, cases_Bool}
+use Rattle.std.specs.Prelude.{ℕ, suc, ◌≡◌, ◌≢◌, ◌+◌, ◌<◌, Bool, true, false, ◌&&◌, nat_lt, List, [], ◌∷◌, ◌++◌, length, take, map, Option, Some, None, is_none, is_some, if◌then◌else◌}
+use Rattle.std.proofs.Common.{arith, refl, inl, inr, subst}
+use Rattle.std.proofs.lemmas.Bool.{cond_both, and_parts}
 use Rattle.std.proofs.lemmas.List.{length-map}
 use Rattle.zeus_base.specs.Nodes.{has, without, meet}
-use Rattle.zeus_base.specs.NodeLaws.{has-head, has-tail}
+use Rattle.zeus_base.specs.NodeLaws.{has-tail}
 use Rattle.zeus_base.specs.declared.order.Stream.{Stream}
 use Rattle.zeus_packet.specs.Place.{source}
 use Rattle.zeus_packet.specs.declared.letter.Body.{Body}
@@ -25,12 +25,13 @@ use Rattle.zeus_model.specs.Commit.{as_kept, no_kept, outside}
 use Rattle.zeus_model.specs.Local.{requests, not_owned, not_copied}
 use Rattle.zeus_model.specs.Ownership.{is_source, unready_cause, invalidations, acknowledgement, collector}
 use Rattle.zeus_model.specs.Membership.{letters_of, others, apart, repeat_report, repeat_entries, repeat_own, repeat_kept, repeat_requests, own_acknowledgement, repeat_proposal, repeat_proposals, repeat_done, leaves, repeat_leave, repeats, tick}
-use Rattle.machine_moves.specs.Scene.{Scene, IsLive}
+use Rattle.machine_moves.specs.Scene.{Scene}
 use Rattle.machine_moves.specs.Move.{own_kept, entry_letter, reported, kept_entry, own_passed, IsTellable, IsAboutProposal, redrives}
+use Rattle.machine_moves.specs.Plain.{IsPlain}
 use Rattle.machine_moves.proofs.Lists.{In-append, In-take}
 use Rattle.machine_moves.proofs.Within.{Keeps-refl}
-use Rattle.machine_moves.proofs.Steady.{IsSteady, IsKnown}
-use Rattle.machine_moves.proofs.Reach.{Became, Became-changed, Changes-became, changed, Reaches, Answered, IsReady, known, still_reaches, move_reaches, cut_none, cut_then, tells_at}
+use Rattle.machine_moves.proofs.Steady.{IsSteady}
+use Rattle.machine_moves.proofs.Reach.{Became-changed, Changes-became, changed, PlainReaches as Reaches, PlainAnswered as Answered, IsReady, still_reaches, move_reaches, cut_none, cut_then, tells_at}
 use Rattle.machine_moves.proofs.Passing.{to_each-each, without-member, without-other, meet-left, meet-right}
 use Rattle.machine_moves.proofs.Finish.{streams_outside-node}
 use Rattle.machine_moves.proofs.Causes.{is_none-false}
@@ -168,7 +169,7 @@ own_acknowledgement_about m x p l i =
     (λ h. acknowledgement_about m x to p (collector-requester m p m.me) (ready_where (is_source m p.base_place) (unready_cause m x) h) l)) i
 
 redrive_at : (s : Scene) (n k x : ℕ) (p : Proposal) → IsReady s n → (entry (s.node n) x).proposal ≡ Some p → is_open (s.node n) ≡ true → Reaches s n (s.node n) (take k (repeat_proposal (s.node n) x (Some p)))
-unfolding repeat_proposal
+unfolding repeat_proposal IsPlain
 redrive_at s n k x p ready held opened =
     let m = s.node n in
     let all = invalidations m x p ++ own_acknowledgement m x p in
@@ -181,7 +182,7 @@ redrive_at s n k x p ready held opened =
     (λ _. cut_none s n m k (still_reaches s n))
     (λ some. move_reaches s n m sent (Keeps-refl m)
     (redrives n x p held opened (is_none-false (source p.base_place m.members) some)
-    (Changes-became s (changed s n m sent) n m sent (IsAboutProposal m x p) ready.live (Became-changed s n m sent) (λ l i. about l (In-take l k all i)))))
+    (Changes-became s (changed s n m sent) n m sent (IsAboutProposal m x p) ready.live (Became-changed s n m sent) (λ l i. about l (In-take l k all i)))) (λ _. tt))
 
 redrive_or_not : (held : Option Proposal) (n : ℕ) (m : Node) (x : ℕ) → (entry m x).proposal ≡ held → is_open m ≡ true → Speaks n m (repeat_proposal m x held)
 unfolding repeat_proposal

@@ -1,9 +1,9 @@
 -- A slot's transaction: begun, read, refused, or committed.
-use Rattle.std.specs.Prelude.{ℕ, zero, suc, ◌≡◌, ◌≢◌, ◌+◌, ◌-◌, ◌<◌, ◌≤◌, Bool, true, false, ◌&&◌, not, ◌==◌, List, [], ◌∷◌, ◌++◌, length, take, map, Option, Some, None, ◌⊎◌, if◌then◌else◌}
-use Rattle.std.proofs.Common.{arith, refl, sym, ap, ◌∙◌, inl, inr, subst, length-append}
+use Rattle.std.specs.Prelude.{ℕ, ◌≡◌, ◌≢◌, ◌+◌, ◌<◌, true, List, [], ◌∷◌, ◌++◌, length, take, map, Option, Some, None}
+use Rattle.std.proofs.Common.{arith, refl, ap, ◌∙◌, subst, length-append}
 use Rattle.std.proofs.lemmas.Bool.{cond_both}
 use Rattle.zeus_base.specs.Nodes.{has, without, meet}
-use Rattle.zeus_packet.specs.declared.letter.Body.TheVariants.{RInv, OReq}
+use Rattle.zeus_packet.specs.declared.letter.Body.TheVariants.{RInv}
 use Rattle.zeus_packet.specs.declared.letter.Letter.{Letter}
 use Rattle.zeus_packet.specs.declared.place.Want.{Want}
 use Rattle.zeus_packet.specs.declared.write.Write.{Write}
@@ -23,12 +23,11 @@ use Rattle.zeus_model.specs.State.{Node, Slot, slot, own_stream, next_number}
 use Rattle.zeus_model.specs.Act.{Did, just, sends, letter, to_each}
 use Rattle.zeus_model.specs.Commit.{as_kept, no_kept, advance_own}
 use Rattle.zeus_model.specs.Local.{with_current, begin_free, begin, driver, ask, requests, not_owned, not_copied, Hindrance, Missing, Unready, hindrance, run_here, read_missing, read_row, write_cause, new_writes, replicas_of, invalidation, committed, commit_entry, commit, write_row, try_current, try_slot}
-use Rattle.machine_moves.specs.Scene.{Scene, IsLive}
+use Rattle.machine_moves.specs.Scene.{Scene}
 use Rattle.machine_moves.specs.Move.{own_kept, entry_letter, request, own_entry, IsTellable, turns, commits}
-use Rattle.machine_moves.proofs.Lists.{nth-last}
-use Rattle.machine_moves.proofs.Within.{slot-with_slot_same, Keeps, Keeps-with_slot, Keeps-committed}
-use Rattle.machine_moves.proofs.Steady.{IsSteady, IsKnown}
-use Rattle.machine_moves.proofs.Reach.{Became, Reaches, Answered, IsReady, known, still_reaches, quiet_reaches, then_reaches, cut_none, cut_tells, quiet_then_tells, did_then_reaches}
+use Rattle.machine_moves.proofs.Within.{slot-with_slot_same, Keeps-with_slot, Keeps-committed}
+use Rattle.machine_moves.proofs.Steady.{IsSteady}
+use Rattle.machine_moves.proofs.Reach.{Reaches, Answered, IsReady, known, still_reaches, quiet_reaches, cut_none, cut_tells, quiet_then_tells, did_then_reaches}
 use Rattle.machine_moves.proofs.Passing.{to_each-each, meet-left, meet-right, without-other, advance_own-reached}
 
 -- the slot's current transaction comes or goes
@@ -109,7 +108,7 @@ committed-length : (m : Node) (i : ℕ) (c : Current) (ran : Ran) (followers : L
 committed-length m i c ran followers writes =
     rw (committed-slot m i c ran followers writes) (omega (arith, length-append (slot m i).pending (new_pending c ran followers writes ∷ [])))
 
-commit_telling : (m : Node) (i : ℕ) (c : Current) (ran : Ran) (replicas : List ℕ) (writes : List Write) (l : Letter) → In l (to_each m (meet (without m.me replicas) m.members) (RInv (invalidation m i (without m.me replicas) writes))) → IsTellable (committed m i c ran (without m.me replicas) writes) l
+pub commit_telling : (m : Node) (i : ℕ) (c : Current) (ran : Ran) (replicas : List ℕ) (writes : List Write) (l : Letter) → In l (to_each m (meet (without m.me replicas) m.members) (RInv (invalidation m i (without m.me replicas) writes))) → IsTellable (committed m i c ran (without m.me replicas) writes) l
 commit_telling m i c ran replicas writes =
     let followers = without m.me replicas in
     let after = committed m i c ran followers writes in

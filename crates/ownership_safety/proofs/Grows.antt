@@ -14,7 +14,7 @@ use Rattle.zeus_model.specs.Tables.{nth}
 use Rattle.ownership_safety.specs.Object.{Object, Invalidates, Acknowledges, IsView, IsMember, IsSource, IsArbiter, IsSaid, HasAcked, HasAckedStamp, IsChosen, IsBlocked, rank, no_proposal, chain_stamp, chain_place, place_at}
 use Rattle.ownership_safety.specs.Moves.{SameOthers}
 use Rattle.ownership_safety.specs.Ordered.{IsProposal, IsAck, IsLink, IsDecided}
-use Rattle.ownership_safety.specs.Kept.{Grows}
+use Rattle.ownership_safety.specs.Kept.{Grows, Rises}
 use Rattle.ownership_safety.proofs.Basics.{nth-append}
 
 -- a chain that begins with the other
@@ -28,6 +28,12 @@ Extends-refl chain = record { at_least = le_refl (length chain); same = λ v h. 
 pub Extends-append : (chain more : List Proposal) → Extends chain (chain ++ more)
 Extends-append chain more =
     record { at_least = simp length-append (omega arith); same = λ v h. nth-append no_proposal chain more v h }
+
+pub Extends-trans : (a b c : List Proposal) → Extends a b → Extends b c → Extends a c
+Extends-trans a b c one two =
+    let first = one.at_least in
+    let second = two.at_least in
+    record { at_least = omega arith; same = λ v h. two.same v (omega arith) ∙ one.same v h }
 
 module _ (chain longer : List Proposal) (extends : Extends chain longer) where
   pub chain_stamp-longer : (v : ℕ) → v ≤ length chain → chain_stamp longer v ≡ chain_stamp chain v
@@ -187,3 +193,34 @@ module _ (old new : Object) (grows : Grows old new) where
         content = (λ s. source-grows e p.base_place from v (is.content.0 s), λ s. is.content.1 (source-back e p.base_place from v s));
         to_requester = λ m. is.to_requester (member-back e p.requester v m);
       }
+
+-- ---- one move after another
+
+pub Rises-refl : (o : Object) → Rises o o
+Rises-refl o =
+    record {
+      directory = refl;
+      declared = refl;
+      viewed = λ e v. v;
+      views = λ e v. refl;
+      stopped = λ n h. h;
+      epoch = λ n. le_refl (o.epoch n);
+      rank = λ n. is_below-irrefl (rank o n);
+      settled = λ n. is_below-irrefl (o.entry n).stamp;
+      letters = λ l m. m;
+    }
+
+-- a move after others
+pub Rises-further : (old mid new : Object) → Rises old mid → Grows mid new → Rises old new
+Rises-further old mid new one two =
+    record {
+      directory = two.directory ∙ one.directory;
+      declared = two.declared ∙ one.declared;
+      viewed = λ e v. two.viewed e (one.viewed e v);
+      views = λ e v. two.views e (one.viewed e v) ∙ one.views e v;
+      stopped = λ n h. two.stopped n (one.stopped n h);
+      epoch = λ n. omega (arith, one.epoch n, two.epoch n);
+      rank = λ n. not_below-trans (rank old n) (rank mid n) (rank new n) (one.rank n) (two.rank n);
+      settled = λ n. not_below-trans (old.entry n).stamp (mid.entry n).stamp (new.entry n).stamp (one.settled n) (two.settled n);
+      letters = λ l m. two.letters l (one.letters l m);
+    }

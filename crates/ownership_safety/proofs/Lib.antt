@@ -14,3 +14,4 @@ pub mod KeepsSettled
 pub mod Received
 pub mod Start
 pub mod Reached
+pub mod OneNode

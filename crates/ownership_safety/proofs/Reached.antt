@@ -4,8 +4,9 @@ use Rattle.std.proofs.Common.{arith, inl, inr}
 use Rattle.zeus_packet.specs.declared.place.Proposal.{Proposal}
 use Rattle.ownership_safety.specs.Object.{Object}
 use Rattle.ownership_safety.specs.Ordered.{Ordered}
-use Rattle.ownership_safety.specs.Kept.{Grows, IsAgain, IsFirst}
-use Rattle.ownership_safety.specs.Run.{IsMove, IsReached, makes_view, stops, installs, settles, drives, accepts, redrives, notes, tells, decides_again, decides_first, begins, moves}
+use Rattle.ownership_safety.specs.Kept.{Grows, Rises, IsAgain, IsFirst}
+use Rattle.ownership_safety.proofs.Grows.{Extends, Extends-refl, Extends-append, Extends-trans, Rises-refl, Rises-further}
+use Rattle.ownership_safety.specs.Run.{IsMove, IsReached, makes_view, stops, installs, settles, drives, accepts, redrives, notes, tells, decides_again, decides_first, begins, moves, IsRun, none, further}
 use Rattle.ownership_safety.proofs.KeepsViews.{keeps_NewView, keeps_Stops, keeps_Installs, grows_NewView, grows_Stops, grows_Installs}
 use Rattle.ownership_safety.proofs.KeepsSpeech.{keeps_Drives, keeps_Accepts, keeps_Redrives, grows_Drives, grows_Accepts, grows_Redrives}
 use Rattle.ownership_safety.proofs.KeepsGathers.{keeps_Notes, keeps_Tells, grows_Notes, grows_Tells}
@@ -52,3 +53,42 @@ pub reached-ordered : (o : Object) (chain : List Proposal) → IsReached o chain
 reached-ordered o chain (begins _ start) = start-ordered o start
 reached-ordered o chain (moves old _ before _ reached move) =
     move-ordered old o before chain (reached-ordered old before reached) move
+
+pub move-extends : (old new : Object) (chain longer : List Proposal) → IsMove old new chain longer → Extends chain longer
+move-extends old new chain longer (decides_first n g is last) = Extends-append chain (g.proposal ∷ [])
+move-extends old new chain longer (makes_view set is) = Extends-refl chain
+move-extends old new chain longer (stops n is) = Extends-refl chain
+move-extends old new chain longer (installs n e is) = Extends-refl chain
+move-extends old new chain longer (settles n u is) = Extends-refl chain
+move-extends old new chain longer (drives n p is) = Extends-refl chain
+move-extends old new chain longer (accepts n p is) = Extends-refl chain
+move-extends old new chain longer (redrives n p is) = Extends-refl chain
+move-extends old new chain longer (notes n p a c is) = Extends-refl chain
+move-extends old new chain longer (tells n is) = Extends-refl chain
+move-extends old new chain longer (decides_again n g is inside) = Extends-refl chain
+
+-- ---- moves one after another
+
+module _ (old : Object) (chain : List Proposal) where
+  pub run-ordered : (new : Object) (longer : List Proposal) → Ordered old chain → IsRun old chain new longer → Ordered new longer
+  run-ordered new longer ordered none = ordered
+  run-ordered new longer ordered (further mid _ before _ run move) =
+      move-ordered mid new before longer (run-ordered mid before ordered run) move
+
+  pub run-rises : (new : Object) (longer : List Proposal) → Ordered old chain → IsRun old chain new longer → Rises old new
+  run-rises new longer ordered none = Rises-refl old
+  run-rises new longer ordered (further mid _ before _ run move) =
+      Rises-further old mid new (run-rises mid before ordered run) (move-grows mid new before longer (run-ordered mid before ordered run) move)
+
+  pub run-extends : (new : Object) (longer : List Proposal) → IsRun old chain new longer → Extends chain longer
+  run-extends new longer none = Extends-refl chain
+  run-extends new longer (further mid _ before _ run move) =
+      Extends-trans chain before longer (run-extends mid before run) (move-extends mid new before longer move)
+
+  pub run-one : (new : Object) (longer : List Proposal) → IsMove old new chain longer → IsRun old chain new longer
+  run-one new longer move = further old new chain longer none move
+
+  pub run-append : (mid : Object) (before : List Proposal) → IsRun old chain mid before → (new : Object) (longer : List Proposal) → IsRun mid before new longer → IsRun old chain new longer
+  run-append mid before one new longer none = one
+  run-append mid before one new longer (further there _ so_far _ run move) =
+      further there new so_far longer (run-append mid before one there so_far run) move

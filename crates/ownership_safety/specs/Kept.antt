@@ -50,6 +50,18 @@ pub record Grows (old new : Object) : Type 0 where
   pub acks : (from to e : ℕ) (p : Proposal) (c : Option Content) → In (Acknowledges from to e p c) new.letters
       → In (Acknowledges from to e p c) old.letters ⊎ IsVoter old from p e
 
+-- what many moves leave: views, letters and stops stay, and epochs, ranks and settled stamps do not fall
+pub record Rises (old new : Object) : Type 0 where
+  pub directory : new.directory ≡ old.directory
+  pub declared : new.declared ≡ old.declared
+  pub viewed : (e : ℕ) → IsView old e → IsView new e
+  pub views : (e : ℕ) → IsView old e → view new e ≡ view old e
+  pub stopped : (n : ℕ) → old.stopped n ≡ true → new.stopped n ≡ true
+  pub epoch : (n : ℕ) → old.epoch n ≤ new.epoch n
+  pub rank : (n : ℕ) → is_below (rank new n) (rank old n) ≡ false
+  pub settled : (n : ℕ) → is_below (new.entry n).stamp (old.entry n).stamp ≡ false
+  pub letters : (l : Letter) → In l old.letters → In l new.letters
+
 -- a decision of what is decided already: another node asked for it, and it settles like any decided stamp
 pub record IsAgain (old new : Object) (chain : List Proposal) (n : ℕ) (p : Proposal) : Type 0 where
   pub inside : p.base.ver < length chain

@@ -24,3 +24,8 @@ pub data IsMove (old new : Object) (chain : List Proposal) : List Proposal → T
 pub data IsReached : Object → List Proposal → Type 0 where
   begins : (o : Object) → IsStart o → IsReached o []
   moves : (old new : Object) (chain longer : List Proposal) → IsReached old chain → IsMove old new chain longer → IsReached new longer
+
+-- moves one after another
+pub data IsRun (old : Object) (chain : List Proposal) : Object → List Proposal → Type 0 where
+  none : IsRun old chain old chain
+  further : (mid new : Object) (before after : List Proposal) → IsRun old chain mid before → IsMove mid new before after → IsRun old chain new after

@@ -16,8 +16,8 @@ ghost use Rattle.zeus_model.specs.declared.state.Gather.{Gather};
 ghost use Rattle.ownership_safety.specs.Object.{Object, Invalidates, Acknowledges, Validates, In, IsLive, IsArbiter, IsOwner, IsSaid, IsChosen, HasGiven, view, latest, chain_stamp};
 ghost use Rattle.ownership_safety.specs.Moves.{NewView, Stops, Installs, Settles, Drives, Accepts, Redrives, Notes, Decides, Tells};
 ghost use Rattle.ownership_safety.specs.Ordered.{Ordered};
-ghost use Rattle.ownership_safety.specs.Kept.{IsStart, Grows, IsAgain, IsFirst};
-ghost use Rattle.ownership_safety.specs.Run.{IsMove, IsReached};
+ghost use Rattle.ownership_safety.specs.Kept.{IsStart, Grows, Rises, IsAgain, IsFirst};
+ghost use Rattle.ownership_safety.specs.Run.{IsMove, IsReached, IsRun};
 
 /// What is in order in the beginning stays so, whatever move is made: only the first decision of a proposal makes the chain longer.
 pub fn order_kept()
@@ -32,11 +32,13 @@ pub fn order_kept()
     ensures notes { (old new : Object) (chain : List Proposal) (n a : ℕ) (p : Proposal) (c : Option Content) → Ordered old chain → Notes old new n p a c → Ordered new chain }
     ensures decides { (old new : Object) (chain : List Proposal) (n : ℕ) (g : Gather) → Ordered old chain → Decides old new n g → IsAgain old new chain n g.proposal ⊎ IsFirst old new chain n g.proposal }
     ensures tells { (old new : Object) (chain : List Proposal) (n : ℕ) → Ordered old chain → Tells old new n → Ordered new chain }
+    ensures run { (old new : Object) (chain longer : List Proposal) → Ordered old chain → IsRun old chain new longer → Ordered new longer }
 {}
 
 /// A move takes nothing back: letters and stops stay, and epochs, ranks and settled stamps do not fall.
 pub fn nothing_falls()
-    ensures { (old new : Object) (chain longer : List Proposal) → Ordered old chain → IsMove old new chain longer → Grows old new }
+    ensures one { (old new : Object) (chain longer : List Proposal) → Ordered old chain → IsMove old new chain longer → Grows old new }
+    ensures run { (old new : Object) (chain longer : List Proposal) → Ordered old chain → IsRun old chain new longer → Rises old new }
 {}
 
 /// Whatever moves were made from the beginning on, in whatever epochs: of each version at most one proposal is ever chosen.
@@ -59,4 +61,9 @@ pub fn letters_fit()
     ensures base { (o : Object) (chain : List Proposal) (n e : ℕ) (p : Proposal) → IsReached o chain → IsLive o n → IsSaid o p e → is_below (o.entry n).stamp p.base ≡ true → p.base_place.owner ≡ n → (o.entry n).place.owner ≡ n }
     ensures told { (o : Object) (chain : List Proposal) (n : ℕ) (t : Stamp) (place : Place) → IsReached o chain → IsLive o n → In (Validates t place) o.letters → is_below (o.entry n).stamp t ≡ true → place.owner ≡ n → (o.entry n).place.owner ≡ n }
     ensures taken_over { (o : Object) (chain : List Proposal) (a n : ℕ) (p : Proposal) (c : Option Content) → IsReached o chain → IsLive o n → In (Acknowledges a n (o.epoch n) p c) o.letters → is_below (o.entry n).stamp p.base ≡ false → is_below (o.entry n).stamp p.stamp ≡ true → (new_place p).owner ≡ n → p.requester ≢ n → (o.entry n).place.owner ≡ n }
+{}
+
+/// The rules can be met: some moves from the beginning on decide a proposal.
+pub fn rules_can_be_met()
+    ensures { (o : Object) × (chain : List Proposal) × IsReached o chain × (length chain ≡ 1) }
 {}

@@ -4,3 +4,4 @@ pub mod NamedLemmas
 pub mod Rests
 pub mod RunLemmas
 pub mod WriteLemmas
+pub mod WrittenLemmas

@@ -121,6 +121,10 @@ HasRoom-mentioned x ks ns h g =
           omega arith
     ] refl
 
+pub HasRoom-few : (ks ns : List ℕ) → HasRoom ks ns → length ks ≤ length ns
+unfolding HasRoom
+HasRoom-few ks ns h = omega arith
+
 pub HasRoom-stored : (ws : List (ℕ × Value)) (x : ℕ) (o : Option Value) (ns : List ℕ) → HasRoom (keys ws) ns → mentions x ns ≡ true → HasRoom (keys (stored ws x o)) ns
 unfolding stored
 HasRoom-stored ws x None ns h g = h

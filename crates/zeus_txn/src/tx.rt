@@ -1,7 +1,7 @@
 //! Transactions as they are declared.
-ghost use Rattle.std.specs.Prelude.{◌≡◌, ◌↔◌, IsTrue, [], length, nat_lt, None, Some, if◌then◌else◌, option_copied, slice_get};
+ghost use Rattle.std.specs.Prelude.{◌≡◌, ◌≤◌, ◌∷◌, ◌↔◌, IsTrue, [], length, nat_lt, None, Some, if◌then◌else◌, option_copied, slice_get};
 ghost use Rattle.std.specs.List.{list_any};
-ghost use Rattle.zeus_txn.specs.Ops.{is_write, mentions, named, stores};
+ghost use Rattle.zeus_txn.specs.Ops.{is_write, mentions, named, stores, written, written_after};
 ghost use Rattle.zeus_txn.specs.Tx.{IsTx, made_tx};
 
 use crate::lists::Named;
@@ -75,6 +75,18 @@ impl Tx {
         named(*self.ops.allocator(), self.ops.as_slice()).unwrap()
     }
 
+    /// The objects that its puts and adds name, in the order of first naming by one of these.
+    pub fn written(&self) -> Named
+        ensures { result ≡ written self.now }
+    {
+        let mut all = Named::new(self.allocator());
+        let ops = self.ops();
+        for op in ops {
+            add_written(&mut all, op);
+        }
+        all
+    }
+
     // The allocator that its lists are made with.
     pub(crate) fn allocator(&self) -> Global {
         *self.ops.allocator()
@@ -112,6 +124,18 @@ fn named(alloc: Global, ops: &[Op]) -> Option<Named>
         }
     }
     Some(all)
+}
+
+// Adds the object of an operation that stores, where it is new.
+#[tactic(auto, unfolding(crate::specs::Ops::mentioned, crate::specs::Ops::written_after))]
+fn add_written(all: &mut Named, op: &Op)
+    requires { length (written_after all.old (op.now ∷ [])) ≤ 8 }
+    ensures { all.new ≡ written_after all.old (op.now ∷ []) }
+{
+    let obj = op.object();
+    if op.stores() && !mentions(obj, all.as_slice()) {
+        all.push(obj);
+    }
 }
 
 // Whether the object is in the list.

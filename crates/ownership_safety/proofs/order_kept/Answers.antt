@@ -3,6 +3,7 @@ use Rattle.ownership_safety.proofs.KeepsSpeech.{keeps_Drives, keeps_Accepts, kee
 use Rattle.ownership_safety.proofs.KeepsGathers.{keeps_Notes, keeps_Tells}
 use Rattle.ownership_safety.proofs.KeepsSettled.{keeps_Settles, keeps_Decides}
 use Rattle.ownership_safety.proofs.Start.{start-ordered}
+use Rattle.ownership_safety.proofs.Reached.{run-ordered}
 use Rattle.ownership_safety.proofs.order_kept.Goals as goal
 
 pub returns-clause-start : goal.returns-clause-start
@@ -37,3 +38,6 @@ returns-clause-decides c = λ old new chain n g ordered move. keeps_Decides old 
 
 pub returns-clause-tells : goal.returns-clause-tells
 returns-clause-tells c = λ old new chain n ordered move. keeps_Tells old new n move chain ordered
+
+pub returns-clause-run : goal.returns-clause-run
+returns-clause-run c = λ old new chain longer ordered run. run-ordered old chain new longer ordered run
