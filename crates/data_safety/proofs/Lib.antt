@@ -32,7 +32,10 @@ pub mod PassOwn
 pub mod PassThins
 pub mod PassValidated
 pub mod Raise
+pub mod ReadMoves
+pub mod ReadRun
 pub mod RestBooked
+pub mod RestMoves
 pub mod RestSame
 pub mod RestTurned
 pub mod RowsFinish
