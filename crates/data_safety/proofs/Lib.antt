@@ -35,3 +35,6 @@ pub mod PassOwn
 pub mod RestTurned
 pub mod RestSame
 pub mod RestBooked
+pub mod RestMoves
+pub mod ReadRun
+pub mod ReadMoves
