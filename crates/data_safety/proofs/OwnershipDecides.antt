@@ -49,7 +49,7 @@ use Rattle.data_safety.specs.Faithful.{Faithful, IsClean, left, content_of}
 use Rattle.data_safety.proofs.Consequences.{numbered, clean-copy, home-done, home-end}
 use Rattle.data_safety.proofs.OwnershipStill.{SameRows, same-rows}
 use Rattle.data_safety.proofs.OwnershipFrame.{IsSameObject, IsRenewed, with_chains}
-use Rattle.data_safety.proofs.OwnershipMoves.{still-ordered, place-same, given-before, changed-frame, changed-low, changed-owned, low-before, framed-faithful}
+use Rattle.data_safety.proofs.OwnershipMoves.{still-ordered, place-same, given-before, changed-frame, changed-rows, changed-low, changed-owned, low-before, framed-faithful}
 use Rattle.data_safety.proofs.OwnershipProposals.{pending-within}
 use Rattle.data_safety.proofs.OwnershipSettles.{SameTables, settle-tables, owner-top}
 
@@ -126,7 +126,7 @@ decides-with : (y z : Story) (u : Truth) (f : Faithful y u) (n x : ℕ) (p : Pro
     → Faithful z (with_chains u chain)
 unfolding owns
 decides-with y z u f n x p co chain move c txs book others objects ordered owned given =
-    framed-faithful y z u chain f (changed-frame y z u f n (decided_node (y.scene.node n) x p co) nothing move c (decided-rows (y.scene.node n) x p co) txs book) move
+    framed-faithful y z u chain f (changed-frame y z u f n (decided_node (y.scene.node n) x p co) nothing move c (decided-rows (y.scene.node n) x p co) txs book) (changed-rows y.scene z.scene n (decided_node (y.scene.node n) x p co) nothing c (decided-rows (y.scene.node n) x p co)) move
     (λ w within. elim (same_or_not x w) [
       | inl same ↦ subst (λ (v : ℕ). IsSameObject y z u (with_chains u chain) v ⊎ IsRenewed y z u (with_chains u chain) v) same (objects (rw same within))
       | inr other ↦ inl record { place = place-same y z u (with_chains u chain) w c.config (others w other); copies = copies w other }

@@ -33,7 +33,7 @@ use Rattle.invariants.proofs.LineSeen.{Seen}
 use Rattle.data_safety.specs.Story.{Story, Truth, tx_ops, txs_of, place_now, pending_at, Lives, running, overwritten}
 use Rattle.data_safety.specs.Faithful.{Faithful, IsCopied, IsEntered, IsBooked, IsClean, IsNewer, IsWritten, IsRun, left, found_at, raised, content_of}
 use Rattle.data_safety.proofs.Consequences.{lives-named, written-named, kept-lives, kept-writes, clean-copy}
-use Rattle.data_safety.proofs.OwnershipStill.{SameRows, IsSamePending, still-replicated, still-alive, WasSent, still-sent, rows-done, rows-end, rows-had, rows-has, rows-entry}
+use Rattle.data_safety.proofs.OwnershipStill.{SameRows, SameSlots, IsSamePending, still-replicated, still-alive, WasSent, still-sent, rows-had, rows-has, rows-entry}
 
 -- ---- what the history leaves
 
@@ -76,7 +76,9 @@ pub record IsFramed (y z : Story) (u : Truth) : Type 0 where
   pub txs : z.txs ≡ y.txs
   pub book : z.book ≡ y.book
   pub live : (n : ℕ) → IsLive z.scene n → IsLive y.scene n
-  pub rows : (n : ℕ) → SameRows (y.scene.node n) (z.scene.node n)
+  pub slots : (n : ℕ) → SameSlots (y.scene.node n) (z.scene.node n)
+  pub dones : (t : Stream) (m : ℕ) → (line z.scene t).done m ≡ (line y.scene t).done m
+  pub ends : (t : Stream) → end (line z.scene t) ≡ end (line y.scene t)
   pub seen : (t : Stream) → Seen (line y.scene t) (line z.scene t) (u.passed t)
   pub first : (n : ℕ) → has n (view y.scene 1) ≡ true → has n (view z.scene 1) ≡ true
 
@@ -97,13 +99,13 @@ pub record IsRenewed (y z : Story) (u v : Truth) (x : ℕ) : Type 0 where
 
 module _ (y z : Story) (u : Truth) (chain : ℕ → List Proposal) (f : Faithful y u) (s : IsFramed y z u) where
   pub framed-replicated : (t : Stream) → Replicated (line z.scene t) (u.passed t)
-  framed-replicated t = still-replicated (line y.scene t) (line z.scene t) (u.passed t) (f.replicated t) (rows-done y.scene z.scene s.rows t) (s.seen t)
+  framed-replicated t = still-replicated (line y.scene t) (line z.scene t) (u.passed t) (f.replicated t) (s.dones t) (s.seen t)
 
   pub framed-lives : (t : Stream) (k : ℕ) → Lives z u t k → Lives y u t k
-  framed-lives t k alive = still-alive (line y.scene t) (line z.scene t) (u.passed t) k (f.replicated t) (rows-done y.scene z.scene s.rows t) (rows-end y.scene z.scene s.rows t) (s.seen t) alive
+  framed-lives t k alive = still-alive (line y.scene t) (line z.scene t) (u.passed t) k (f.replicated t) (s.dones t) (s.ends t) (s.seen t) alive
 
   pub framed-pending : (t : Stream) (k : ℕ) → IsSamePending (pending_at y t k) (pending_at z t k)
-  framed-pending t k = rw ((s.rows t.node).done t.slot) ((s.rows t.node).pending t.slot (k - (slot (y.scene.node t.node) t.slot).done))
+  framed-pending t k = rw ((s.slots t.node).done t.slot) ((s.slots t.node).pending t.slot (k - (slot (y.scene.node t.node) t.slot).done))
 
   pub framed-left : left z ≡ left y
   framed-left = left-same y z s.config s.txs s.book
@@ -124,9 +126,6 @@ module _ (y z : Story) (u : Truth) (chain : ℕ → List Proposal) (f : Faithful
   pub framed-ops : (id : ℕ) → tx_ops z id ≡ tx_ops y id
   framed-ops id = ap (λ (t : List TxDecl). (nth no_tx t id).tx) s.txs
 
-  framed-kept : (t : Stream) (n k : ℕ) → (kept_at (line z.scene t) n k).writes ≡ (kept_at (line y.scene t) n k).writes
-  framed-kept t n k = ap (λ (e : Entry). e.writes) (rows-entry y.scene z.scene s.rows t n k)
-
   pub framed-within : (x : ℕ) → x < length z.scene.config.objects → x < length y.scene.config.objects
   framed-within x h = rw s.config at h
 
@@ -136,7 +135,11 @@ module _ (y z : Story) (u : Truth) (chain : ℕ → List Proposal) (f : Faithful
 
   -- ---- copies
 
-  module _ (objects : (x : ℕ) → x < length y.scene.config.objects → IsSameObject y z u (with_chains u chain) x ⊎ IsRenewed y z u (with_chains u chain) x) where
+  module _ (rows : (n : ℕ) → SameRows (y.scene.node n) (z.scene.node n))
+      (objects : (x : ℕ) → x < length y.scene.config.objects → IsSameObject y z u (with_chains u chain) x ⊎ IsRenewed y z u (with_chains u chain) x) where
+    framed-kept : (t : Stream) (n k : ℕ) → (kept_at (line z.scene t) n k).writes ≡ (kept_at (line y.scene t) n k).writes
+    framed-kept t n k = ap (λ (e : Entry). e.writes) (rows-entry y.scene z.scene rows t n k)
+
     framed-placed : (n x : ℕ) → x < length z.scene.config.objects → IsLive z.scene n
         → (is_some (copy (z.scene.node n) x) ≡ true) ↔ (has n (place_now z (with_chains u chain) x).replicas ≡ true)
     framed-placed n x within live =
@@ -153,7 +156,7 @@ module _ (y z : Story) (u : Truth) (chain : ℕ → List Proposal) (f : Faithful
         record {
           above = rw framed-left newer.above;
           not_valid = newer.not_valid;
-          written = (w.0, w.1, w.2, rows-has y.scene z.scene s.rows w.0 n w.1 w.3, rw (framed-kept w.0 n w.1) w.4);
+          written = (w.0, w.1, w.2, rows-has y.scene z.scene rows w.0 n w.1 w.3, rw (framed-kept w.0 n w.1) w.4);
         }
 
     framed-content : (n x : ℕ) (c : Copy) → x < length z.scene.config.objects → IsLive z.scene n → copy (z.scene.node n) x ≡ Some c
@@ -177,7 +180,7 @@ module _ (y z : Story) (u : Truth) (chain : ℕ → List Proposal) (f : Faithful
     framed-taken : (n : ℕ) (t : Stream) (k : ℕ) (w : Write) (c : Copy) → w.obj < length z.scene.config.objects → IsLive z.scene n → Has (line z.scene t) n k → u.passed t ≤ k
         → In w (kept_at (line z.scene t) n k).writes → copy (z.scene.node n) w.obj ≡ Some c → w.ver ≤ c.ver
     framed-taken n t k w c within live h above i is =
-        let had : Has (line y.scene t) n k = rows-had y.scene z.scene s.rows t n k h in
+        let had : Has (line y.scene t) n k = rows-had y.scene z.scene rows t n k h in
         let i' : In w (kept_at (line y.scene t) n k).writes = rw (framed-kept t n k) at i in
         elim (objects w.obj (framed-within w.obj within)) [
           | inl same ↦ f.copied.taken n t k w c (framed-within w.obj within) (s.live n live) had above i' (sym (same.copies n live) ∙ is)

@@ -31,7 +31,7 @@ use Rattle.invariants.specs.Objects.{object}
 use Rattle.data_safety.specs.Story.{Story, Truth, tx_ops, txs_of, place_now, pending_at, Lives}
 use Rattle.data_safety.specs.Faithful.{Faithful, IsEntered, IsBooked, IsClean, IsRun, left, found_at, raised}
 use Rattle.data_safety.proofs.Consequences.{written-named}
-use Rattle.data_safety.proofs.OwnershipStill.{SameRows, IsSamePending, still-sent, rows-end}
+use Rattle.data_safety.proofs.OwnershipStill.{IsSamePending, still-sent}
 use Rattle.data_safety.proofs.OwnershipFrame.{IsFramed, IsSameObject, IsRenewed, with_chains, txs-same, framed-lives, framed-pending, framed-left, framed-found, framed-clean, framed-ops, framed-within, lives-within}
 
 module _ (y z : Story) (u : Truth) (chain : ℕ → List Proposal) (f : Faithful y u) (s : IsFramed y z u) where
@@ -39,7 +39,7 @@ module _ (y z : Story) (u : Truth) (chain : ℕ → List Proposal) (f : Faithful
 
   module _ (objects : (x : ℕ) → x < length y.scene.config.objects → IsSameObject y z u (with_chains u chain) x ⊎ IsRenewed y z u (with_chains u chain) x) where
     framed-home : (t : Stream) (i : ℕ) → i < length (slot (z.scene.node t.node) t.slot).pending → has t.node (view z.scene 1) ≡ true
-    framed-home t i inside = s.first t.node (f.entered.home t i (rw ((s.rows t.node).count t.slot) at inside))
+    framed-home t i inside = s.first t.node (f.entered.home t i (rw ((s.slots t.node).count t.slot) at inside))
 
     -- the placement of what can still pass has not changed
     lives-place : (t : Stream) (k x : ℕ) → Lives y u t k → mentions x (pending_at y t k).named ≡ true → place_now z (with_chains u chain) x ≡ place_now y u x
@@ -82,7 +82,7 @@ module _ (y z : Story) (u : Truth) (chain : ℕ → List Proposal) (f : Faithful
         → mentions x (nth no_pending (slot (z.scene.node n) a).pending i).named ≡ true
         → mentions x (nth no_pending (slot (z.scene.node n) b).pending j).named ≡ true → ⊥
     framed-apart n a b i j x ne ii jj m l =
-        let r = s.rows n in
+        let r = s.slots n in
         f.entered.apart n a b i j x ne (rw (r.count a) at ii) (rw (r.count b) at jj) (rw ((r.pending a i).named) at m) (rw ((r.pending b j).named) at l)
 
     framed-low : (t : Stream) (from to e k d : ℕ) (i : Entry) (w : Write) → In (Stores from to e k d i) (line z.scene t).letters → k < u.passed t
@@ -98,7 +98,7 @@ module _ (y z : Story) (u : Truth) (chain : ℕ → List Proposal) (f : Faithful
       framed-owned : (n a i x : ℕ) → IsLive z.scene n → i < length (slot (z.scene.node n) a).pending
           → mentions x (nth no_pending (slot (z.scene.node n) a).pending i).named ≡ true → owns (z.scene.node n) x ≡ true
       framed-owned n a i x live ii m =
-          let r = s.rows n in
+          let r = s.slots n in
           let ii' : i < length (slot (y.scene.node n) a).pending = rw (r.count a) at ii in
           let m' : mentions x (nth no_pending (slot (y.scene.node n) a).pending i).named ≡ true = rw ((r.pending a i).named) at m in
           owned n a i x live ii' m' (f.entered.owned n a i x (s.live n live) ii' m')
@@ -132,7 +132,7 @@ module _ (y z : Story) (u : Truth) (chain : ℕ → List Proposal) (f : Faithful
       rw s.config (f.booked.objects id x m')
 
   framed-end : (t : Stream) → end (line z.scene t) ≡ end (line y.scene t)
-  framed-end t = rows-end y.scene z.scene s.rows t
+  framed-end t = s.ends t
 
   framed-entry : (t : Stream) (k : ℕ) → k < end (line z.scene t)
       → (id : ℕ) × ((record_of z.book id).entry ≡ Some record { stream = t; number = k }) × (is_write (tx_ops z id) ≡ true)
@@ -154,7 +154,7 @@ module _ (y z : Story) (u : Truth) (chain : ℕ → List Proposal) (f : Faithful
       × ((record_of z.book (nth no_pending (slot (z.scene.node t.node) t.slot).pending i).id).reply ≡ Some (nth no_pending (slot (z.scene.node t.node) t.slot).pending i).reply)
       × ((nth no_pending (slot (z.scene.node t.node) t.slot).pending i).named ≡ named (tx_ops z (nth no_pending (slot (z.scene.node t.node) t.slot).pending i).id))
   framed-own t i inside =
-      let r = s.rows t.node in
+      let r = s.slots t.node in
       let p = r.pending t.slot i in
       let was = f.booked.pending t i (rw (r.count t.slot) at inside) in
       let id = (nth no_pending (slot (z.scene.node t.node) t.slot).pending i).id in (
@@ -167,7 +167,7 @@ module _ (y z : Story) (u : Truth) (chain : ℕ → List Proposal) (f : Faithful
       → (c.tx ≡ tx_ops z c.id) × (is_some (record_of z.book c.id).begun ≡ true) × ((record_of z.book c.id).entry ≡ None) × ((record_of z.book c.id).point ≡ None)
       × ((record_of z.book c.id).refused ≡ false) × ((nth no_tx z.txs c.id).node ≡ n) × ((nth no_tx z.txs c.id).slot ≡ a)
   framed-current n a c is =
-      let was = f.booked.current n a c (sym ((s.rows n).current a) ∙ is) in
+      let was = f.booked.current n a c (sym ((s.slots n).current a) ∙ is) in
       let r = framed-record c.id in
       (was.0 ∙ sym (framed-ops y z u chain f s c.id), rw r was.1, rw r was.2, rw r was.3, rw r was.4, rw s.txs was.5, rw s.txs was.6)
 
@@ -186,6 +186,6 @@ module _ (y z : Story) (u : Truth) (chain : ℕ → List Proposal) (f : Faithful
     once = λ id. rw s.book (f.booked.once id);
     in_history = λ id. rw (framed-record id, s.book) (f.booked.in_history id);
     passed = λ id. rw (framed-record id) (f.booked.passed id);
-    acked = λ id e is. rw (framed-record id, (s.rows e.stream.node).done e.stream.slot) (f.booked.acked id e (rw (framed-record id) at is));
+    acked = λ id e is. rw (framed-record id, (s.slots e.stream.node).done e.stream.slot) (f.booked.acked id e (rw (framed-record id) at is));
     replies = rw (txs-same y z s.txs s.book, s.book, s.config) f.booked.replies;
   }

@@ -48,7 +48,7 @@ use Rattle.invariants.proofs.ObjectSteps.{tellable-says}
 use Rattle.data_safety.specs.Story.{Story, Truth, place_now}
 use Rattle.data_safety.specs.Faithful.{Faithful, IsClean, left}
 use Rattle.data_safety.proofs.Consequences.{numbered}
-use Rattle.data_safety.proofs.OwnershipStill.{SameRows, IsSamePending, same-rows, same-pending}
+use Rattle.data_safety.proofs.OwnershipStill.{SameRows, IsSamePending, same-rows, same-slots, same-pending, rows-done, rows-end}
 use Rattle.data_safety.proofs.OwnershipFrame.{IsFramed, IsSameObject, IsRenewed, with_chains, framed-replicated, framed-copied}
 use Rattle.data_safety.proofs.OwnershipKept.{framed-entered, framed-booked}
 
@@ -87,20 +87,28 @@ place-same y z u v x config chain =
 
 -- ---- a move of one node
 
+pub changed-rows : (y z : Scene) (n : ℕ) (after : Node) (allowed : Letter → Type 0) → Changes y z n after allowed → SameRows (y.node n) after → (m : ℕ) → SameRows (y.node m) (z.node m)
+changed-rows y z n after allowed c rows m = elim (same_or_not m n) [
+  | inl same ↦ rw (same, c.node) rows
+  | inr other ↦ rw (c.others m other) (same-rows (y.node m) (y.node m) refl refl)
+]
+
+pub changed-live : (y z : Scene) (n : ℕ) (after : Node) (allowed : Letter → Type 0) → Changes y z n after allowed → (m : ℕ) → IsLive z m → IsLive y m
+changed-live y z n after allowed c m live = elim (same_or_not m n) [
+  | inl same ↦ rw same c.live
+  | inr other ↦ let was : IsLive y m = rw (c.others m other) at live in was
+]
+
 pub changed-frame : (y z : Story) (u : Truth) (f : Faithful y u) (n : ℕ) (after : Node) (allowed : Letter → Type 0) → Move y.scene z.scene → Changes y.scene z.scene n after allowed
     → SameRows (y.scene.node n) after → z.txs ≡ y.txs → z.book ≡ y.book → IsFramed y z u
 changed-frame y z u f n after allowed move c rows txs book = record {
   config = c.config;
   txs = txs;
   book = book;
-  live = λ m live. elim (same_or_not m n) [
-    | inl same ↦ rw same c.live
-    | inr other ↦ let was : IsLive y.scene m = rw (c.others m other) at live in was
-  ];
-  rows = λ m. elim (same_or_not m n) [
-    | inl same ↦ rw (same, c.node) rows
-    | inr other ↦ rw (c.others m other) (same-rows (y.scene.node m) (y.scene.node m) refl refl)
-  ];
+  live = changed-live y.scene z.scene n after allowed c;
+  slots = λ m. same-slots (y.scene.node m) (z.scene.node m) (changed-rows y.scene z.scene n after allowed c rows m);
+  dones = rows-done y.scene z.scene (changed-rows y.scene z.scene n after allowed c rows);
+  ends = rows-end y.scene z.scene (changed-rows y.scene z.scene n after allowed c rows);
   seen = λ t. line_sees_move y.scene z.scene t (u.passed t) (numbered y u f) (f.replicated t) move;
   first = λ m h. rw c.views h;
 }
@@ -156,7 +164,7 @@ given-before y z x allowed sends none n e p c given =
     ]
 
 -- everything that holds, put together
-pub framed-faithful : (y z : Story) (u : Truth) (chain : ℕ → List Proposal) (f : Faithful y u) (s : IsFramed y z u) → Move y.scene z.scene
+pub framed-faithful : (y z : Story) (u : Truth) (chain : ℕ → List Proposal) (f : Faithful y u) (s : IsFramed y z u) → ((n : ℕ) → SameRows (y.scene.node n) (z.scene.node n)) → Move y.scene z.scene
     → ((x : ℕ) → x < length y.scene.config.objects → IsSameObject y z u (with_chains u chain) x ⊎ IsRenewed y z u (with_chains u chain) x)
     → ((x : ℕ) → x < length y.scene.config.objects → Ordered (object z.scene x) (chain x))
     → ((n a i x : ℕ) → IsLive z.scene n → i < length (slot (y.scene.node n) a).pending
@@ -164,12 +172,12 @@ pub framed-faithful : (y z : Story) (u : Truth) (chain : ℕ → List Proposal) 
     → ((n x e : ℕ) (p : Proposal) (c : Content) → x < length y.scene.config.objects → HasGiven (object z.scene x) n p c e
     → p.base.ver ≡ length (chain x) → IsClean y u x × (c ≡ left y x))
     → Faithful z (with_chains u chain)
-framed-faithful y z u chain f s move objects ordered owned given = record {
+framed-faithful y z u chain f s rows move objects ordered owned given = record {
   limits = rw s.config f.limits;
   steady = move_keep y.scene z.scene move f.steady;
   ordered = λ x within. ordered x (rw s.config at within);
   replicated = framed-replicated y z u chain f s;
-  copied = framed-copied y z u chain f s objects;
+  copied = framed-copied y z u chain f s rows objects;
   entered = framed-entered y z u chain f s objects owned given;
   booked = framed-booked y z u chain f s;
 }
@@ -181,7 +189,7 @@ pub quiet-move : (y z : Story) (u : Truth) (f : Faithful y u) (n : ℕ) (after :
     → z.txs ≡ y.txs → z.book ≡ y.book → Faithful z u
 unfolding owns
 quiet-move y z u f n after allowed move c rows copies entries me none txs book =
-    framed-faithful y z u u.chain f (changed-frame y z u f n after allowed move c rows txs book) move
+    framed-faithful y z u u.chain f (changed-frame y z u f n after allowed move c rows txs book) (changed-rows y.scene z.scene n after allowed c rows) move
     (λ x within. inl (changed-copies y z u n x after allowed c (ap (λ (k : List (Option Copy)). nth None k x) copies)))
     (λ x within. still-ordered (object y.scene x) (object z.scene x) (u.chain x) (f.ordered x within)
     (changed-low y z u f n x after allowed c within (low x within))

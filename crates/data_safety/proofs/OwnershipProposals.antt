@@ -38,7 +38,7 @@ use Rattle.data_safety.specs.Story.{Story, Truth, tx_ops, place_now}
 use Rattle.data_safety.specs.Faithful.{Faithful, IsClean, left}
 use Rattle.data_safety.proofs.Consequences.{numbered, unheld, unready-none, source-content}
 use Rattle.data_safety.proofs.OwnershipStill.{SameRows, same-rows}
-use Rattle.data_safety.proofs.OwnershipMoves.{still-ordered, changed-frame, changed-low, changed-owned, changed-copies, low-before, framed-faithful}
+use Rattle.data_safety.proofs.OwnershipMoves.{still-ordered, changed-frame, changed-rows, changed-low, changed-owned, changed-copies, low-before, framed-faithful}
 
 -- ---- what a source gives
 
@@ -127,7 +127,7 @@ proposal-move : (y z : Story) (u : Truth) (f : Faithful y u) (n x : ℕ) (p : Pr
     → ((a i w : ℕ) → i < length (slot (y.scene.node n) a).pending → mentions w (nth no_pending (slot (y.scene.node n) a).pending i).named ≡ true → owns (y.scene.node n) w ≡ true → owns after w ≡ true)
     → z.txs ≡ y.txs → z.book ≡ y.book → Faithful z u
 proposal-move y z u f n x p after move c rows copies stamps opened base owned txs book =
-    framed-faithful y z u u.chain f (changed-frame y z u f n after (IsAboutProposal (y.scene.node n) x p) move c rows txs book) move
+    framed-faithful y z u u.chain f (changed-frame y z u f n after (IsAboutProposal (y.scene.node n) x p) move c rows txs book) (changed-rows y.scene z.scene n after (IsAboutProposal (y.scene.node n) x p) c rows) move
     (λ w within. inl (changed-copies y z u n w after (IsAboutProposal (y.scene.node n) x p) c (ap (λ (k : List (Option Copy)). nth None k w) copies)))
     (λ w within. still-ordered (object y.scene w) (object z.scene w) (u.chain w) (f.ordered w within)
     (changed-low y z u f n w after (IsAboutProposal (y.scene.node n) x p) c within (low w within))

@@ -36,7 +36,7 @@ use Rattle.invariants.proofs.ObjectSteps.{tellable-says}
 use Rattle.data_safety.specs.Story.{Story, Truth}
 use Rattle.data_safety.specs.Faithful.{Faithful}
 use Rattle.data_safety.proofs.Consequences.{numbered}
-use Rattle.data_safety.proofs.OwnershipStill.{SameRows, IsSamePending, same-rows, same-pending}
+use Rattle.data_safety.proofs.OwnershipStill.{SameRows, IsSamePending, same-rows, same-slots, same-pending, rows-done, rows-end}
 use Rattle.data_safety.proofs.OwnershipFrame.{IsFramed}
 use Rattle.data_safety.proofs.OwnershipMoves.{still-ordered, place-same, given-before, framed-faithful, quiet-move}
 
@@ -178,7 +178,7 @@ first-stays y z set n views h =
 pub makes_view-faithful : (y z : Story) (u : Truth) (f : Faithful y u) (set : List ℕ) → Move y.scene z.scene → NewView y.scene z.scene set
     → z.txs ≡ y.txs → z.book ≡ y.book → Faithful z u
 makes_view-faithful y z u f set move v txs book =
-    framed-faithful y z u u.chain f frame move
+    framed-faithful y z u u.chain f frame rows move
     (λ x within. inl record { place = place-same y z u u x v.config refl; copies = λ n live. rw (v.nodes n) refl })
     (λ x within. still-ordered (object y.scene x) (object z.scene x) (u.chain x) (f.ordered x within)
     (λ m. rw (same_entry_as y.scene z.scene x m v.config (v.nodes m)) ((f.ordered x within).settled m).ver)
@@ -186,13 +186,18 @@ makes_view-faithful y z u f set move v txs book =
     (λ n a i x live inside names own. rw (v.nodes n) own)
     (λ m x e p k within given last. f.entered.given m x e p k within (given-before y.scene z.scene x nothing v.sends (λ l from to e2 p2 k2 none i. none) m e p k given) last)
   where
+    rows : (n : ℕ) → SameRows (y.scene.node n) (z.scene.node n)
+    rows n = rw (v.nodes n) (same-rows (y.scene.node n) (y.scene.node n) refl refl)
+
     frame : IsFramed y z u
     frame = record {
       config = v.config;
       txs = txs;
       book = book;
       live = λ n live. rw (v.nodes n) at live;
-      rows = λ n. rw (v.nodes n) (same-rows (y.scene.node n) (y.scene.node n) refl refl);
+      slots = λ n. same-slots (y.scene.node n) (z.scene.node n) (rows n);
+      dones = rows-done y.scene z.scene rows;
+      ends = rows-end y.scene z.scene rows;
       seen = λ t. line_sees_move y.scene z.scene t (u.passed t) (numbered y u f) (f.replicated t) move;
       first = λ n h. first-stays y.scene z.scene set n v.views h;
     }

@@ -34,7 +34,7 @@ use Rattle.data_safety.specs.Faithful.{Faithful}
 use Rattle.data_safety.proofs.Consequences.{numbered}
 use Rattle.data_safety.proofs.Running.{owns-owner}
 use Rattle.data_safety.proofs.OwnershipStill.{SameRows, same-rows}
-use Rattle.data_safety.proofs.OwnershipMoves.{still-ordered, given-before, changed-frame, changed-low, changed-owned, changed-copies, low-before, framed-faithful}
+use Rattle.data_safety.proofs.OwnershipMoves.{still-ordered, given-before, changed-frame, changed-rows, changed-low, changed-owned, changed-copies, low-before, framed-faithful}
 use Rattle.data_safety.proofs.OwnershipProposals.{pending-within}
 
 -- a node that keeps its number, its copies and its streams
@@ -71,7 +71,7 @@ pub settles-faithful : (y z : Story) (u : Truth) (f : Faithful y u) (n x : ℕ) 
     → z.txs ≡ y.txs → z.book ≡ y.book → Faithful z u
 unfolding owns
 settles-faithful y z u f n x stamp place l move r is above c txs book =
-    framed-faithful y z u u.chain f (changed-frame y z u f n (settle (y.scene.node n) x stamp place) nothing move c (same-rows (y.scene.node n) (settle (y.scene.node n) x stamp place) same.slots same.logs) txs book) move
+    framed-faithful y z u u.chain f (changed-frame y z u f n (settle (y.scene.node n) x stamp place) nothing move c (same-rows (y.scene.node n) (settle (y.scene.node n) x stamp place) same.slots same.logs) txs book) (changed-rows y.scene z.scene n (settle (y.scene.node n) x stamp place) nothing c (same-rows (y.scene.node n) (settle (y.scene.node n) x stamp place) same.slots same.logs)) move
     (λ w within. inl (changed-copies y z u n w (settle (y.scene.node n) x stamp place) nothing c (ap (λ (k : List (Option Copy)). nth None k w) same.copies)))
     (λ w within. still-ordered (object y.scene w) (object z.scene w) (u.chain w) (f.ordered w within)
     (changed-low y z u f n w (settle (y.scene.node n) x stamp place) nothing c within (low w within))

@@ -97,6 +97,13 @@ pub record IsSamePending (before after : Pending) : Type 0 where
 pub same-pending : (p : Pending) → IsSamePending p p
 same-pending p = record { id = refl; reply = refl; named = refl; followers = refl; writes = refl }
 
+-- a node whose slots are the same but for acknowledgements
+pub record SameSlots (before after : Node) : Type 0 where
+  pub current : (s : ℕ) → (slot after s).current ≡ (slot before s).current
+  pub done : (s : ℕ) → (slot after s).done ≡ (slot before s).done
+  pub count : (s : ℕ) → length (slot after s).pending ≡ length (slot before s).pending
+  pub pending : (s i : ℕ) → IsSamePending (nth no_pending (slot before s).pending i) (nth no_pending (slot after s).pending i)
+
 -- a node whose slots and logs are the same but for acknowledgements
 pub record SameRows (before after : Node) : Type 0 where
   pub current : (s : ℕ) → (slot after s).current ≡ (slot before s).current
@@ -106,6 +113,9 @@ pub record SameRows (before after : Node) : Type 0 where
   pub log_done : (t : Stream) → (log after t).done ≡ (log before t).done
   pub log_count : (t : Stream) → length (log after t).kept ≡ length (log before t).kept
   pub log_kept : (t : Stream) (i : ℕ) → entry_of (nth no_kept (log after t).kept i) ≡ entry_of (nth no_kept (log before t).kept i)
+
+pub same-slots : (before after : Node) → SameRows before after → SameSlots before after
+same-slots before after r = record { current = r.current; done = r.done; count = r.count; pending = r.pending }
 
 pub same-rows : (before after : Node) → after.slots ≡ before.slots → after.logs ≡ before.logs → SameRows before after
 same-rows before after slots logs =

@@ -25,7 +25,7 @@ use Rattle.data_safety.proofs.Names.{IsOnce}
 use Rattle.data_safety.proofs.Consequences.{kept-lives, kept-writes, written-named, witness-same_stream}
 use Rattle.data_safety.proofs.Running.{writes-cases, written_content, overwritten-in, overwritten-other, writes-once, write-version, found-start, versions-rise, home-has}
 use Rattle.data_safety.proofs.PassValidated.{Was, validated-was, validated-some}
-use Rattle.data_safety.proofs.PassThins.{Thins}
+use Rattle.data_safety.proofs.PassThins.{Thins, ThinLine}
 
 -- the acting node validates the copies of these writes
 pub record Revalidates (y z : Story) (n : ℕ) (ws : List Write) : Type 0 where
@@ -53,13 +53,14 @@ revalidates-some y z n m x ws r =
       | inr other ↦ ap (λ (cs : List (Option Copy)). is_some (nth None cs x)) (r.others m other)
     ]
 
-module _ (y z : Story) (u v : Truth) (f : Faithful y u) (s : Thins y z u v) where
+module _ (y z : Story) (u v : Truth) (f : Faithful y u) (s : Thins y z u v)
+    (thin : (t : Stream) → ThinLine (line y.scene t) (line z.scene t) (u.passed t) (v.passed t)) where
   -- an unpassed entry that a node keeps still writes what it wrote
   written-stays : (n x k : ℕ) (t : Stream) (b c : Copy) → content_of c ≡ content_of b → v.passed t ≤ k → Has (line y.scene t) n k
       → In record { obj = x; ver = b.ver; value = b.value } (kept_at (line y.scene t) n k).writes → IsWritten z v n x (content_of c)
   written-stays n x k t b c same above h i =
       let now : Has (line z.scene t) n k = (s.lines t).stays n k above h in
-      let kept : kept_at (line z.scene t) n k ≡ kept_at (line y.scene t) n k = (s.lines t).same n k now in
+      let kept : kept_at (line z.scene t) n k ≡ kept_at (line y.scene t) n k = (thin t).same n k now in
       (t, k, above, now, rw kept (subst (λ (d : Content). In record { obj = x; ver = d.ver; value = d.value } (kept_at (line y.scene t) n k).writes) (sym same) i))
 
   thins-placed : (n x : ℕ) (o : ℕ) (ws : List Write) → Revalidates y z o ws → x < length z.scene.config.objects → IsLive z.scene n
@@ -74,8 +75,8 @@ module _ (y z : Story) (u v : Truth) (f : Faithful y u) (s : Thins y z u v) wher
       → Has (line z.scene t) n k → v.passed t ≤ k → In w (kept_at (line z.scene t) n k).writes → copy (z.scene.node n) w.obj ≡ Some c → w.ver ≤ c.ver
   thins-taken n k o t w c ws r within live h above i is =
       let was = revalidates-was y z o n w.obj ws c r is in
-      let low = f.copied.taken n t k w was.0 (rw s.config at within) (s.live n live) ((s.lines t).had n k h) (omega (arith, above, (s.lines t).rises))
-          (rw ((s.lines t).same n k h) at i) was.1 in
+      let low = f.copied.taken n t k w was.0 (rw s.config at within) (s.live n live) ((thin t).had n k h) (omega (arith, above, (s.lines t).rises))
+          (rw ((thin t).same n k h) at i) was.1 in
       omega (arith, low, ap (λ (d : Content). d.ver) was.2.content)
 
   -- ---- what has passed before

@@ -20,7 +20,7 @@ use Rattle.invariants.specs.Lines.{line}
 use Rattle.data_safety.specs.Story.{Story, Truth, pending_at, Lives, overwritten}
 use Rattle.data_safety.specs.Faithful.{Faithful, IsRun, left}
 use Rattle.data_safety.proofs.SerialRun.{first-left, left-same}
-use Rattle.data_safety.proofs.PassThins.{Thins, thins-entered}
+use Rattle.data_safety.proofs.PassThins.{Thins, ThinLine, thins-entered}
 use Rattle.data_safety.proofs.PassCopies.{Revalidates, again-copied, first-copied}
 use Rattle.data_safety.proofs.PassLeft.{again-left, first-thins_left}
 use Rattle.data_safety.proofs.PassBooked.{IsPoint, again-booked, point-booked, pointing}
@@ -38,7 +38,8 @@ passed_on-other u p t other = elim (cases_Bool (same_stream t p)) [
   | inr away ↦ rw away refl
 ]
 
-module _ (y z : Story) (u v : Truth) (f : Faithful y u) (steady : IsSteady z.scene) (s : Thins y z u v) where
+module _ (y z : Story) (u v : Truth) (f : Faithful y u) (steady : IsSteady z.scene) (s : Thins y z u v)
+    (thin : (t : Stream) → ThinLine (line y.scene t) (line z.scene t) (u.passed t) (v.passed t)) where
   pub pass-first : (o k id : ℕ) (p : Stream) (own : Bool) → Revalidates y z o (pending_at y p k).writes → IsPoint y z u v p k id own → Lives y u p k
       → ((m : ℕ) → IsLive y.scene m → has m (pending_at y p k).followers ≡ true → Has (line y.scene p) m k) → Has (line y.scene p) p.node k → Faithful z v
   pass-first o k id p own r h alive stored home =
@@ -50,7 +51,7 @@ module _ (y z : Story) (u v : Truth) (f : Faithful y u) (steady : IsSteady z.sce
         steady = steady;
         ordered = s.objects.ordered;
         replicated = λ t. (s.lines t).replicated;
-        copied = first-copied y z u v f s o k p r h.first h.rises h.others alive leaves stored home;
+        copied = first-copied y z u v f s thin o k p r h.first h.rises h.others alive leaves stored home;
         entered = thins-entered y z u v f s (first-thins_left y z u v f s k p h.first h.rises h.others alive leaves);
         booked = point-booked y z u v f s p k id own h is_run;
       }
@@ -64,7 +65,7 @@ module _ (y z : Story) (u v : Truth) (f : Faithful y u) (steady : IsSteady z.sce
         steady = steady;
         ordered = s.objects.ordered;
         replicated = λ t. (s.lines t).replicated;
-        copied = again-copied y z u v f s o ws r low same passed;
+        copied = again-copied y z u v f s thin o ws r low same passed;
         entered = thins-entered y z u v f s (again-left y z u v f s same passed);
         booked = again-booked y z u v f s book passed dones;
       }

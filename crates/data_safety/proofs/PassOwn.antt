@@ -211,7 +211,7 @@ module _ (y z : Story) (u : Truth) (f : Faithful y u) (n s : ℕ) (some : 0 < le
     owning = owning;
     objects = still-objects y.scene z.scene u (passed_on u record { node = n; slot = s }).passed n (pass_own (y.scene.node n) s 1) numbered c
         (λ x. record { stopped = refl; epoch = refl; entry = refl; gather = refl }) f.ordered;
-    lines = thin_line;
+    lines = λ t. (thin_line t).goes;
     entry = entries;
     was = was;
     current = current;
@@ -271,7 +271,7 @@ module _ (y z : Story) (u : Truth) (f : Faithful y u) (n s : ℕ) (some : 0 < le
         done_kept = λ is. absurd (cc is);
         unacked = unacked;
       } in
-      pass-first y z u (passed_on u t) f steady_after thins n k id t true revalidates point (kept-lives y u f t n k c.live has_first (omega (arith, count))) stored has_first
+      pass-first y z u (passed_on u t) f steady_after thins thin_line n k id t true revalidates point (kept-lives y u f t n k c.live has_first (omega (arith, count))) stored has_first
     where
       some_reply : Pending → Option Reply
       some_reply q = Some q.reply

@@ -42,29 +42,36 @@ use Rattle.data_safety.proofs.SerialRun.{IsRun-agree}
 
 -- ---- a stream from which entries are taken
 
-pub record ThinLine (old new : Line) (passed now : ℕ) : Type 0 where
+-- nothing new can pass, and nothing is said
+pub record LineGoes (old new : Line) (passed now : ℕ) : Type 0 where
   pub replicated : Replicated new now
   pub rises : passed ≤ now
   pub alive : (k : ℕ) → IsAlive new now k → IsAlive old passed k
-  pub had : (m k : ℕ) → Has new m k → Has old m k
   pub stays : (m k : ℕ) → now ≤ k → Has old m k → Has new m k
-  pub same : (m k : ℕ) → Has new m k → kept_at new m k ≡ kept_at old m k
   pub letters : (l : Said) → In l new.letters → In l old.letters
 
-none_new : (old new : Line) → moves.Sends old new moves.nothing → (l : Said) → In l new.letters → In l old.letters
+-- and nothing is kept that was not
+pub record ThinLine (old new : Line) (passed now : ℕ) : Type 0 where
+  pub goes : LineGoes old new passed now
+  pub had : (m k : ℕ) → Has new m k → Has old m k
+  pub same : (m k : ℕ) → Has new m k → kept_at new m k ≡ kept_at old m k
+
+pub none_new : (old new : Line) → moves.Sends old new moves.nothing → (l : Said) → In l new.letters → In l old.letters
 none_new old new s l i = elim (s.only l i) [ | inl before ↦ before | inr now ↦ absurd now ]
 
 pub thin-drops : (old new : Line) (passed now n d : ℕ) → Drops old new n d → Replicated new now → passed ≤ now
     → ((k : ℕ) → IsAlive new now k → IsAlive old passed k) → ThinLine old new passed now
 thin-drops old new passed now n d s r rises alive =
     record {
-      replicated = r;
-      rises = rises;
-      alive = alive;
+      goes = record {
+        replicated = r;
+        rises = rises;
+        alive = alive;
+        stays = λ m k. has-stays old new now m k (drops-grows old new n d s) r;
+        letters = none_new old new s.acts.sends;
+      };
       had = λ m k. drops-has_before old new n d m k s;
-      stays = λ m k. has-stays old new now m k (drops-grows old new n d s) r;
       same = λ m k. drops-kept_at old new n d m k s;
-      letters = none_new old new s.acts.sends;
     }
 
 -- a stream that sees nothing of the move
@@ -74,13 +81,15 @@ thin-quiet old new t passed n after r c q =
     let tells : moves.Tells (line old t) (line new t) n = lines.tells_line old new t n after nothing c q (λ l m none i. absurd none) in
     let kept : SameKept (line old t) (line new t) = tells-kept (line old t) (line new t) n tells in
     record {
-      replicated = keeps_Tells (line old t) (line new t) passed n r tells;
-      rises = omega arith;
-      alive = λ k. alive_Tells (line old t) (line new t) passed passed k n tells (omega arith);
+      goes = record {
+        replicated = keeps_Tells (line old t) (line new t) passed n r tells;
+        rises = omega arith;
+        alive = λ k. alive_Tells (line old t) (line new t) passed passed k n tells (omega arith);
+        stays = λ m k above. same-has (line old t) (line new t) m k kept;
+        letters = none_new (line old t) (line new t) (quiet_sends old new t n after c);
+      };
       had = λ m k. same-has_before (line old t) (line new t) m k kept;
-      stays = λ m k above. same-has (line old t) (line new t) m k kept;
       same = λ m k h. same-kept_at (line old t) (line new t) m k kept;
-      letters = none_new (line old t) (line new t) (quiet_sends old new t n after c);
     }
 
 -- ---- objects that see nothing of the move
@@ -120,7 +129,7 @@ pub record Thins (y z : Story) (u v : Truth) : Type 0 where
   pub live : (n : ℕ) → IsLive z.scene n → IsLive y.scene n
   pub owning : (n x : ℕ) → owns (z.scene.node n) x ≡ owns (y.scene.node n) x
   pub objects : StillObjects y.scene z.scene u v
-  pub lines : (t : Stream) → ThinLine (line y.scene t) (line z.scene t) (u.passed t) (v.passed t)
+  pub lines : (t : Stream) → LineGoes (line y.scene t) (line z.scene t) (u.passed t) (v.passed t)
   pub entry : (t : Stream) (k : ℕ) → v.passed t ≤ k → pending_at z t k ≡ pending_at y t k
   pub was : (n s i : ℕ) → i < length (slot (z.scene.node n) s).pending
       → (j : ℕ) × (j < length (slot (y.scene.node n) s).pending) × (nth no_pending (slot (z.scene.node n) s).pending i ≡ nth no_pending (slot (y.scene.node n) s).pending j)

@@ -19,7 +19,7 @@ use Rattle.invariants.proofs.ObjectMoves.{same_setting as object_setting, same_s
 use Rattle.data_safety.specs.Story.{Story, Truth}
 use Rattle.data_safety.specs.Faithful.{Faithful}
 use Rattle.data_safety.proofs.Consequences.{numbered}
-use Rattle.data_safety.proofs.OwnershipStill.{same-rows}
+use Rattle.data_safety.proofs.OwnershipStill.{SameRows, same-rows, same-slots, rows-done, rows-end}
 use Rattle.data_safety.proofs.OwnershipFrame.{IsFramed, framed-replicated, framed-copied}
 use Rattle.data_safety.proofs.OwnershipKept.{framed-entered, framed-booked}
 use Rattle.data_safety.proofs.OwnershipMoves.{place-same, given-before}
@@ -72,13 +72,18 @@ object_stops old new x numbered s =
     }
 
 module _ (y z : Story) (u : Truth) (f : Faithful y u) (s : Same y.scene z.scene) (txs : z.txs ≡ y.txs) (book : z.book ≡ y.book) where
+  rows-kept : (n : ℕ) → SameRows (y.scene.node n) (z.scene.node n)
+  rows-kept n = rw (s.nodes n) (same-rows (y.scene.node n) (y.scene.node n) refl refl)
+
   same_frame : IsFramed y z u
   same_frame = record {
     config = s.config;
     txs = txs;
     book = book;
     live = λ n live. rw (s.nodes n) at live;
-    rows = λ n. rw (s.nodes n) (same-rows (y.scene.node n) (y.scene.node n) refl refl);
+    slots = λ n. same-slots (y.scene.node n) (z.scene.node n) (rows-kept n);
+    dones = rows-done y.scene z.scene rows-kept;
+    ends = rows-end y.scene z.scene rows-kept;
     seen = λ t. seen_line y.scene z.scene t (u.passed t) (numbered y u f) s;
     first = λ n h. rw s.views h;
   }
@@ -89,7 +94,7 @@ module _ (y z : Story) (u : Truth) (f : Faithful y u) (s : Same y.scene z.scene)
     steady = same_keep y.scene z.scene s f.steady;
     ordered = λ x within. keeps_Stops (object y.scene x) (object z.scene x) y.scene.config.nodes (object_stops y.scene z.scene x (numbered y u f) s) (u.chain x) (f.ordered x (rw s.config at within));
     replicated = framed-replicated y z u u.chain f same_frame;
-    copied = framed-copied y z u u.chain f same_frame
+    copied = framed-copied y z u u.chain f same_frame rows-kept
         (λ x within. inl record { place = place-same y z u u x s.config refl; copies = λ n live. rw (s.nodes n) refl });
     entered = framed-entered y z u u.chain f same_frame
         (λ x within. inl record { place = place-same y z u u x s.config refl; copies = λ n live. rw (s.nodes n) refl })

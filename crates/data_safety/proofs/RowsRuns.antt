@@ -43,7 +43,7 @@ run_txs c txs (s ∷ ss) w config same u fits =
     let step = fitting_step c txs w s config u first in
     run_txs c txs ss (stepped w s) (step.config ∙ config) (moves_txs (story w) (story (stepped w s)) (fitting_story c txs w s config same u first) ∙ same) (usual_after w (stepped w s) u step) (All-tail (StepFits c txs) s ss fits)
 
-start-txs : (c : Config) (txs : List TxDecl) → (start c txs).txs ≡ txs
+pub start-txs : (c : Config) (txs : List TxDecl) → (start c txs).txs ≡ txs
 unfolding start
 start-txs c txs = refl
 

@@ -78,7 +78,7 @@ appends-old_here : (old new : Line) (n k : ℕ) (x : Entry) → Appends old new 
 appends-old_here old new n k x a h =
     rw (a.done, a.kept) (nth-append_old no_kept (old.kept n) (unacked x ∷ []) (k - old.done n) (omega (arith, h.0, h.1)))
 
-appends-old : (old new : Line) (n m k : ℕ) (x : Entry) → Appends old new n x → Has old m k → kept_at new m k ≡ kept_at old m k
+pub appends-old : (old new : Line) (n m k : ℕ) (x : Entry) → Appends old new n x → Has old m k → kept_at new m k ≡ kept_at old m k
 appends-old old new n m k x a h =
     elim (cases_eq m n) [
       | inl same ↦ rw same (appends-old_here old new n k x a (rw same at h))

@@ -1,2 +1,13 @@
-pub mod Owners
 pub mod Faithfulness
+pub mod Fitting
+pub mod Limits
+pub mod NeverAnswers
+pub mod NeverBare
+pub mod NeverCauses
+pub mod NeverLetters
+pub mod NeverReceive
+pub mod NeverRows
+pub mod NeverStart
+pub mod NeverUndeclared
+pub mod Owners
+pub mod Runs

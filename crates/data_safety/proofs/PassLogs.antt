@@ -1,0 +1,102 @@
+-- Moves that change the stored entries of one stream at one node alone.
+use Rattle.std.specs.Prelude.{ℕ, zero, suc, ◌≡◌, ◌≢◌, ◌+◌, ◌-◌, ◌<◌, ◌≤◌, Bool, true, false, List, [], ◌∷◌, ◌++◌, take, drop, length, Option, None, ◌⊎◌}
+use Rattle.std.proofs.Common.{arith, refl, sym, ap, subst, ◌∙◌, inl, inr}
+use Rattle.zeus_base.specs.declared.order.Stream.{Stream}
+use Rattle.zeus_packet.specs.declared.write.Write.{Write}
+use Rattle.zeus_model.specs.In.{In, here, there}
+use Rattle.zeus_model.specs.Tables.{nth}
+use Rattle.zeus_model.specs.State.{Node, Slot, no_slot, no_entry, slot, owns}
+use Rattle.zeus_model.specs.Commit.{no_kept, no_pending, writes_of}
+use Rattle.zeus_model.specs.declared.state.Entry.{Entry}
+use Rattle.zeus_model.specs.declared.state.Gather.{Gather}
+use Rattle.zeus_model.specs.declared.state.Kept.{Kept}
+use Rattle.machine_moves.specs.Scene.{Scene, IsLive, IsNumbered, Changes, nothing}
+use Rattle.machine_moves.proofs.Steady.{IsNumbered-steady}
+use Rattle.ownership_safety.proofs.Basics.{In-append}
+use Rattle.replication_safety.specs.Line.{Line, Has, end, kept_at, entry_of}
+use Rattle.invariants.specs.Lines.{line}
+use Rattle.invariants.specs.Objects.{object}
+use Rattle.invariants.proofs.LineMoves.{line-home}
+use Rattle.invariants.proofs.ObjectSeen.{same_or_not}
+use Rattle.data_safety.specs.Story.{Story, Truth, pending_at}
+use Rattle.data_safety.specs.Faithful.{Faithful, left}
+use Rattle.data_safety.proofs.Consequences.{home-end}
+use Rattle.data_safety.proofs.PassThins.{Thins, LineGoes, still-objects}
+
+-- a change of a node that leaves its slots and placements
+pub record KeepsSlots (before after : Node) : Type 0 where
+  pub slots : after.slots ≡ before.slots
+  pub entries : after.entries ≡ before.entries
+  pub gathers : after.gathers ≡ before.gathers
+  pub stopped : after.stopped ≡ before.stopped
+  pub epoch : after.epoch ≡ before.epoch
+  pub me : after.me ≡ before.me
+
+owns-same : (m n : Node) (x : ℕ) → m.entries ≡ n.entries → m.me ≡ n.me → owns m x ≡ owns n x
+unfolding owns
+owns-same m n x entries me = rw (entries, me) refl
+
+pub kept-slots : (old new : Scene) (n m r : ℕ) (after : Node) → Changes old new n after nothing → KeepsSlots (old.node n) after → slot (new.node m) r ≡ slot (old.node m) r
+kept-slots old new n m r after c k = elim (same_or_not m n) [
+  | inl same ↦ rw same (ap (λ (j : Node). slot j r) c.node ∙ ap (λ (l : List Slot). nth no_slot l r) k.slots)
+  | inr other ↦ ap (λ (j : Node). slot j r) (c.others m other)
+]
+
+pub kept-owns : (old new : Scene) (n m x : ℕ) (after : Node) → Changes old new n after nothing → KeepsSlots (old.node n) after → owns (new.node m) x ≡ owns (old.node m) x
+kept-owns old new n m x after c k = elim (same_or_not m n) [
+  | inl same ↦ rw same (ap (λ (j : Node). owns j x) c.node ∙ owns-same after (old.node n) x k.entries k.me)
+  | inr other ↦ ap (λ (j : Node). owns j x) (c.others m other)
+]
+
+pub kept-live : (old new : Scene) (n m : ℕ) (after : Node) → Changes old new n after nothing → IsLive new m → IsLive old m
+kept-live old new n m after c live = elim (same_or_not m n) [
+  | inl same ↦ rw same c.live
+  | inr other ↦ ap (λ (k : Node). k.stopped) (sym (c.others m other)) ∙ live
+]
+
+pub kept-end : (old new : Scene) (n : ℕ) (after : Node) (t : Stream) → Changes old new n after nothing → KeepsSlots (old.node n) after → end (line new t) ≡ end (line old t)
+kept-end old new n after t c k =
+    home-end new t ∙ ap (λ (l : Slot). l.done + length l.pending) (kept-slots old new n t.node t.slot after c k) ∙ sym (home-end old t)
+
+pub thins-logs : (y z : Story) (u : Truth) (passed : Stream → ℕ) (n : ℕ) (after : Node) → Faithful y u → Changes y.scene z.scene n after nothing → KeepsSlots (y.scene.node n) after
+    → z.txs ≡ y.txs → ((t : Stream) → LineGoes (line y.scene t) (line z.scene t) (u.passed t) (passed t)) → Thins y z u record { chain = u.chain; passed = passed }
+thins-logs y z u passed n after f c k txs lines = record {
+  config = c.config;
+  views = c.views;
+  txs = txs;
+  live = λ m. kept-live y.scene z.scene n m after c;
+  owning = λ m x. kept-owns y.scene z.scene n m x after c k;
+  objects = still-objects y.scene z.scene u passed n after (IsNumbered-steady y.scene f.steady) c
+      (λ x. record {
+        stopped = k.stopped;
+        epoch = k.epoch;
+        entry = ap (λ (es : List Entry). nth no_entry es x) k.entries;
+        gather = ap (λ (gs : List (Option Gather)). nth None gs x) k.gathers;
+      }) f.ordered;
+  lines = lines;
+  entry = λ t j above. ap (λ (l : Slot). nth no_pending l.pending (j - l.done)) (kept-slots y.scene z.scene n t.node t.slot after c k);
+  was = λ m r i inside.
+      let same = kept-slots y.scene z.scene n m r after c k in
+      let inside' : i < length (slot (y.scene.node m) r).pending = rw same at inside in
+      (i, inside', ap (λ (l : Slot). nth no_pending l.pending i) same, ap (λ (l : Slot). l.done + i) same);
+  current = λ m r. ap (λ (l : Slot). l.current) (kept-slots y.scene z.scene n m r after c k);
+  ends = λ t. kept-end y.scene z.scene n after t c k;
+}
+
+-- ---- writes of stored entries
+
+pub writes_of-in : (m : ℕ) (ks : List Kept) (w : Write) → In w (writes_of (take m ks)) → (i : ℕ) × (i < m) × (i < length ks) × In w (nth no_kept ks i).writes
+unfolding writes_of nth
+writes_of-in zero ks w i = elim i [ ]
+writes_of-in (suc m) [] w i = elim i [ ]
+writes_of-in (suc m) (k ∷ ks) w i = elim (In-append w k.writes (writes_of (take m ks)) i) [
+  | inl first ↦ (0, omega arith, omega arith, first)
+  | inr later ↦ let rest = writes_of-in m ks w later in (suc rest.0, omega (arith, rest.1), omega (arith, rest.2), rest.3)
+]
+
+-- a stored entry that has passed is not above the history
+pub kept-low : (y : Story) (u : Truth) (t : Stream) (n k : ℕ) (w : Write) → Faithful y u → Has (line y.scene t) n k → n ≢ t.node → k < u.passed t
+    → In w (kept_at (line y.scene t) n k).writes → w.ver ≤ (left y w.obj).ver
+kept-low y u t n k w f h foreign below i =
+    let o = (f.replicated t).from_letters n k h (λ e. foreign (e ∙ line-home y.scene t)) in
+    f.entered.low t o.0 n o.1 k o.2 (entry_of (kept_at (line y.scene t) n k)) w o.3 below i

@@ -1,0 +1,220 @@
+-- A node stores the next entry of a stream.
+use Rattle.std.specs.Prelude.{ℕ, zero, suc, ◌≡◌, ◌≢◌, ◌+◌, ◌-◌, ◌<◌, ◌≤◌, Bool, true, false, List, [], ◌∷◌, ◌++◌, length, Option, Some, None, is_some, ◌⊎◌}
+use Rattle.std.proofs.Common.{arith, refl, sym, ap, subst, ◌∙◌, inl, inr, le_refl}
+use Rattle.zeus_base.specs.Nodes.{has}
+use Rattle.zeus_base.specs.Limits.{KeepsLimits}
+use Rattle.zeus_base.specs.declared.config.Config.{Config}
+use Rattle.zeus_base.specs.declared.order.Stream.{Stream}
+use Rattle.zeus_packet.specs.declared.letter.Body.TheVariants.{RInv}
+use Rattle.zeus_packet.specs.declared.letter.Letter.{Letter}
+use Rattle.zeus_packet.specs.declared.letter.RInv.{RInv as Invalidation}
+use Rattle.zeus_packet.specs.declared.letter.State.{State}
+use Rattle.zeus_packet.specs.declared.letter.State.TheVariants.{Valid, Invalid}
+use Rattle.zeus_packet.specs.declared.place.Place.{Place}
+use Rattle.zeus_packet.specs.declared.write.Content.{Content}
+use Rattle.zeus_packet.specs.declared.write.Write.{Write}
+use Rattle.zeus_model.specs.In.{In}
+use Rattle.zeus_model.specs.Tables.{nth}
+use Rattle.zeus_model.specs.State.{Node, Slot, StreamLog, slot, log, copy, with_copies}
+use Rattle.zeus_model.specs.Book.{Book}
+use Rattle.zeus_model.specs.Commit.{store, next_kept, each_write, applied}
+use Rattle.zeus_model.specs.declared.state.Copy.{Copy}
+use Rattle.zeus_model.specs.declared.state.Kept.{Kept}
+use Rattle.machine_moves.specs.Scene.{Scene, IsLive, IsReceivable, Changes, nothing}
+use Rattle.machine_moves.specs.Move.{Move, stores}
+use Rattle.machine_moves.proofs.Steady.{IsSteady, move_keep}
+use Rattle.replication_safety.specs.Line.{Line, Has, Entry, kept_at, top}
+use Rattle.replication_safety.specs.Moves.{StoresNext}
+use Rattle.replication_safety.proofs.Alive.{alive_StoresNext}
+use Rattle.replication_safety.proofs.Appends.{stores-appends, appends-top, appends-has_before, appends-has, appends-old, appends-new, grows_StoresNext, keeps_StoresNext}
+use Rattle.replication_safety.proofs.Entries.{stores-unpassed}
+use Rattle.invariants.specs.Lines.{line}
+use Rattle.invariants.proofs.LineEntries.{store_here}
+use Rattle.invariants.proofs.LineMoves.{logs-quiet, with_log-other}
+use Rattle.invariants.proofs.LineSeen.{stream_cases}
+use Rattle.invariants.proofs.ObjectSeen.{same_or_not}
+use Rattle.data_safety.specs.Story.{Story, Truth, place_now}
+use Rattle.data_safety.specs.Faithful.{Faithful, IsCopied, IsNewer, IsWritten, left, content_of}
+use Rattle.data_safety.proofs.SerialRun.{left-same}
+use Rattle.data_safety.proofs.StoreApplied.{Took, IsTaken, applied-took, applied-some}
+use Rattle.data_safety.proofs.PassThins.{Thins, LineGoes, ThinLine, thin-quiet, none_new, thins-entered}
+use Rattle.data_safety.proofs.PassLogs.{KeepsSlots, kept-slots, thins-logs}
+use Rattle.data_safety.proofs.PassLeft.{again-left}
+use Rattle.data_safety.proofs.PassBooked.{again-booked}
+
+module _ (y z : Story) (u : Truth) (f : Faithful y u) (n : ℕ) (r : Invalidation) (l : Letter) (foreign : r.stream.node ≢ n) (g : IsReceivable y.scene n l) (body : l.body ≡ RInv r)
+    (low : r.done ≤ (log (y.scene.node n) r.stream).done) (number : r.number ≡ next_kept (log (y.scene.node n) r.stream)) (room : length (log (y.scene.node n) r.stream).kept ≢ 16)
+    (c : Changes y.scene z.scene n (store (y.scene.node n) r) nothing) (txs : z.txs ≡ y.txs) (book : z.book ≡ y.book) where
+  steady_after : IsSteady z.scene
+  steady_after = move_keep y.scene z.scene (stores n r l foreign g body low number room c) f.steady
+
+  storing : StoresNext (line y.scene r.stream) (line z.scene r.stream) n record { followers = r.followers; writes = r.writes }
+  storing = store_here y.scene z.scene n r l foreign g body low number c
+
+  slots_stay : KeepsSlots (y.scene.node n) (store (y.scene.node n) r)
+  slots_stay = record { slots = refl; entries = refl; gathers = refl; stopped = refl; epoch = refl; me = refl }
+
+  thin_away : (t : Stream) → t ≢ r.stream → ThinLine (line y.scene t) (line z.scene t) (u.passed t) (u.passed t)
+  thin_away t other =
+      thin-quiet y.scene z.scene t (u.passed t) n (store (y.scene.node n) r) (f.replicated t) c
+      (logs-quiet (y.scene.node n) (store (y.scene.node n) r) t n refl refl refl refl
+      (with_log-other (with_copies (y.scene.node n) (each_write applied (y.scene.node n).copies r.writes)) r.stream t
+      record { done = (log (y.scene.node n) r.stream).done; kept = (log (y.scene.node n) r.stream).kept ++ record { followers = r.followers; writes = r.writes; acks = [] } ∷ [] } (λ e. other (sym e))))
+
+  goes_here : LineGoes (line y.scene r.stream) (line z.scene r.stream) (u.passed r.stream) (u.passed r.stream)
+  goes_here =
+      let old : Line = line y.scene r.stream in
+      let new : Line = line z.scene r.stream in
+      let x : Entry = record { followers = r.followers; writes = r.writes } in
+      record {
+        replicated = keeps_StoresNext old new (u.passed r.stream) n x (f.replicated r.stream) storing;
+        rises = omega arith;
+        alive = λ k. alive_StoresNext old new (u.passed r.stream) (u.passed r.stream) k n x (f.replicated r.stream) storing (omega arith);
+        stays = λ m k above. appends-has old new n m k x (stores-appends old new n x storing);
+        letters = none_new old new storing.acts.sends;
+      }
+
+  goes : (t : Stream) → LineGoes (line y.scene t) (line z.scene t) (u.passed t) (u.passed t)
+  goes t = elim (stream_cases t r.stream) [
+    | inl same ↦ subst (λ (q : Stream). LineGoes (line y.scene q) (line z.scene q) (u.passed q) (u.passed q)) (sym same) goes_here
+    | inr other ↦ (thin_away t other).goes
+  ]
+
+  -- what is kept was kept before, or is the new entry
+  kept_cases : (t : Stream) (m k : ℕ) → Has (line z.scene t) m k
+      → (Has (line y.scene t) m k × (kept_at (line z.scene t) m k ≡ kept_at (line y.scene t) m k)) ⊎ ((m ≡ n) × ((kept_at (line z.scene t) m k).writes ≡ r.writes))
+  kept_cases t m k h = elim (stream_cases t r.stream) [
+    | inr other ↦ inl ((thin_away t other).had m k h, (thin_away t other).same m k h)
+    | inl same ↦
+        let old : Line = line y.scene r.stream in
+        let new : Line = line z.scene r.stream in
+        let x : Entry = record { followers = r.followers; writes = r.writes } in
+        subst (λ (q : Stream). (Has (line y.scene q) m k × (kept_at (line z.scene q) m k ≡ kept_at (line y.scene q) m k)) ⊎ ((m ≡ n) × ((kept_at (line z.scene q) m k).writes ≡ r.writes))) (sym same)
+        (elim (appends-has_before old new n m k x (stores-appends old new n x storing) (subst (λ (q : Stream). Has (line z.scene q) m k) same h)) [
+          | inl before ↦ inl (before, appends-old old new n m k x (stores-appends old new n x storing) before)
+          | inr now ↦ inr (now.0, rw (now.0, now.1) (ap (λ (q : Kept). q.writes) (appends-new old new n x (stores-appends old new n x storing))))
+        ])
+  ]
+
+  -- what was kept is kept as it was
+  kept_stays : (t : Stream) (m k : ℕ) → u.passed t ≤ k → Has (line y.scene t) m k → Has (line z.scene t) m k × (kept_at (line z.scene t) m k ≡ kept_at (line y.scene t) m k)
+  kept_stays t m k above h = elim (stream_cases t r.stream) [
+    | inr other ↦ let now = (thin_away t other).goes.stays m k above h in (now, (thin_away t other).same m k now)
+    | inl same ↦
+        let old : Line = line y.scene r.stream in
+        let new : Line = line z.scene r.stream in
+        let x : Entry = record { followers = r.followers; writes = r.writes } in
+        let h_here : Has old m k = subst (λ (q : Stream). Has (line y.scene q) m k) same h in
+        subst (λ (q : Stream). Has (line z.scene q) m k × (kept_at (line z.scene q) m k ≡ kept_at (line y.scene q) m k)) (sym same)
+        (appends-has old new n m k x (stores-appends old new n x storing) h_here, appends-old old new n m k x (stores-appends old new n x storing) h_here)
+  ]
+
+  new_kept : IsLive y.scene n → (k : ℕ) × (u.passed r.stream ≤ k) × Has (line z.scene r.stream) n k × ((kept_at (line z.scene r.stream) n k).writes ≡ r.writes)
+  new_kept live =
+      let old : Line = line y.scene r.stream in
+      let new : Line = line z.scene r.stream in
+      let x : Entry = record { followers = r.followers; writes = r.writes } in
+      let a = stores-appends old new n x storing in
+      (top old n, stores-unpassed old new (u.passed r.stream) n x (f.replicated r.stream) storing,
+      (omega (arith, storing.done), omega (arith, appends-top old new n x a)), ap (λ (q : Kept). q.writes) (appends-new old new n x a))
+
+  thins : Thins y z u u
+  thins = thins-logs y z u u.passed n (store (y.scene.node n) r) f c slots_stay txs goes
+
+  same_left : (x : ℕ) → left z x ≡ left y x
+  same_left x = left-same y z x c.config txs (ap (λ (b : Book). b.points) book)
+
+  -- ---- copies
+
+  copy_here : (m : ℕ) → m ≡ n → (z.scene.node m).copies ≡ each_write applied (y.scene.node n).copies r.writes
+  copy_here m same = rw same (ap (λ (k : Node). k.copies) c.node)
+
+  copy_cases : (m x : ℕ) (now : Copy) → copy (z.scene.node m) x ≡ Some now
+      → (b : Copy) × (copy (y.scene.node m) x ≡ Some b) × (((m ≢ n) × (now ≡ b)) ⊎ ((m ≡ n) × Took r.writes x b now))
+  copy_cases m x now is = elim (same_or_not m n) [
+    | inr other ↦ (now, ap (λ (k : Node). copy k x) (sym (c.others m other)) ∙ is, inl (other, refl))
+    | inl same ↦
+        let took = applied-took (y.scene.node n).copies r.writes x now (ap (λ (cs : List (Option Copy)). nth None cs x) (sym (copy_here m same)) ∙ is) in
+        (took.0, ap (λ (k : ℕ). copy (y.scene.node k) x) same ∙ took.1, inr (same, took.2))
+  ]
+
+  some_same : (m x : ℕ) → is_some (copy (z.scene.node m) x) ≡ is_some (copy (y.scene.node m) x)
+  some_same m x = elim (same_or_not m n) [
+    | inr other ↦ ap (λ (k : Node). is_some (copy k x)) (c.others m other)
+    | inl same ↦ ap (λ (cs : List (Option Copy)). is_some (nth None cs x)) (copy_here m same) ∙ applied-some (y.scene.node n).copies r.writes x ∙ ap (λ (k : ℕ). is_some (copy (y.scene.node k) x)) (sym same)
+  ]
+
+  -- a copy that stays is what it was
+  unchanged : (m x : ℕ) (b now : Copy) → now ≡ b → (content_of b ≡ left y x) ⊎ IsNewer y u m x b → (content_of now ≡ left z x) ⊎ IsNewer z u m x now
+  unchanged m x b now same (inl is_left) = inl (ap content_of same ∙ is_left ∙ sym (same_left x))
+  unchanged m x b now same (inr newer) =
+      let w = newer.written in
+      let stays = kept_stays w.0 m w.1 w.2 w.3 in
+      inr record {
+        above = omega (arith, newer.above, ap (λ (k : Content). k.ver) (same_left x), ap (λ (k : Copy). k.ver) same);
+        not_valid = λ valid. newer.not_valid (ap (λ (k : Copy). k.state) (sym same) ∙ valid);
+        written = (w.0, w.1, w.2, stays.0, rw stays.1 (subst (λ (k : Copy). In record { obj = x; ver = k.ver; value = k.value } (kept_at (line y.scene w.0) m w.1).writes) (sym same) w.4));
+      }
+
+  invalid_valid : (s : State) → s ≡ Invalid → s ≢ Valid
+  invalid_valid s is valid = absurd (cc (is, valid))
+
+  not_older : (m x : ℕ) (b : Copy) → (content_of b ≡ left y x) ⊎ IsNewer y u m x b → (left y x).ver ≤ b.ver
+  not_older m x b (inl is_left) = omega (arith, ap (λ (k : Content). k.ver) is_left)
+  not_older m x b (inr newer) = omega (arith, newer.above)
+
+  store_content : (m x : ℕ) (now : Copy) → x < length z.scene.config.objects → IsLive z.scene m → copy (z.scene.node m) x ≡ Some now → (content_of now ≡ left z x) ⊎ IsNewer z u m x now
+  store_content m x now within live is =
+      let was = copy_cases m x now is in
+      let before = f.copied.content m x was.0 (rw c.config at within) (thins.live m live) was.1 in
+      elim was.2 [
+        | inl away ↦ unchanged m x was.0 now away.1 before
+        | inr here ↦ elim here.1.how [
+          | inl same ↦ unchanged m x was.0 now same before
+          | inr taken ↦
+              let k = new_kept c.live in
+              let low_before = not_older m x was.0 before in
+              inr record {
+                above = omega (arith, low_before, taken.newer, ap (λ (d : Content). d.ver) (same_left x));
+                not_valid = invalid_valid now.state taken.state;
+                written = subst (λ (j : ℕ). IsWritten z u j x (content_of now)) (sym here.0) (r.stream, k.0, k.1, k.2, rw k.3 taken.written);
+              }
+        ]
+      ]
+
+  store_taken : (m : ℕ) (t : Stream) (k : ℕ) (w : Write) (now : Copy) → w.obj < length z.scene.config.objects → IsLive z.scene m → Has (line z.scene t) m k → u.passed t ≤ k
+      → In w (kept_at (line z.scene t) m k).writes → copy (z.scene.node m) w.obj ≡ Some now → w.ver ≤ now.ver
+  store_taken m t k w now within live h above i is =
+      let was = copy_cases m w.obj now is in
+      let rises : was.0.ver ≤ now.ver = elim was.2 [ | inl away ↦ omega (arith, ap (λ (d : Copy). d.ver) away.1) | inr here ↦ here.1.rises ] in
+      elim (kept_cases t m k h) [
+        | inl before ↦
+            let bound = f.copied.taken m t k w was.0 (rw c.config at within) (thins.live m live) before.0 above (rw before.1 at i) was.1 in
+            omega (arith, bound, rises)
+        | inr new_one ↦ elim was.2 [
+          | inl away ↦ absurd (away.0 new_one.0)
+          | inr here ↦ here.1.bound w (rw new_one.1 at i) refl
+        ]
+      ]
+
+  store_copied : IsCopied z u
+  store_copied = record {
+    placed = λ m x within live.
+        let before = f.copied.placed m x (rw c.config at within) (thins.live m live) in
+        let some = some_same m x in
+        let place = ap (λ (p : Place). has m p.replicas) (thins.objects.place x) in
+        (λ h. place ∙ before.0 (sym some ∙ h), λ h. some ∙ before.1 (sym place ∙ h));
+    content = store_content;
+    taken = store_taken;
+  }
+
+  pub keeps_store : Faithful z u
+  keeps_store = record {
+    limits = subst (λ (k : Config). KeepsLimits k) (sym c.config) f.limits;
+    steady = steady_after;
+    ordered = thins.objects.ordered;
+    replicated = λ t. (goes t).replicated;
+    copied = store_copied;
+    entered = thins-entered y z u u f thins (again-left y z u u f thins same_left (λ t. refl));
+    booked = again-booked y z u u f thins book (λ t. refl) (λ m q. ap (λ (b : Slot). b.done) (kept-slots y.scene z.scene n m q (store (y.scene.node n) r) c slots_stay));
+  }

@@ -1,0 +1,53 @@
+-- Each move of a story keeps it faithful.
+use Rattle.std.specs.Prelude.{ℕ, ◌≡◌}
+use Rattle.std.proofs.Common.{refl}
+use Rattle.machine_moves.specs.Scene.{Scene}
+use Rattle.machine_moves.specs.Move.{Move, makes_view, stops, installs, tells, turns, settles, drives, accepts, redrives, gathers, decides, raises, stores, notes_own, notes_kept, passes_own, passes_kept, reports, hears, commits}
+use Rattle.machine_moves.specs.Plain.{IsPlain}
+use Rattle.data_safety.specs.Story.{Story, Truth}
+use Rattle.data_safety.specs.StoryMoves.{StoryMove, StoryMoves, plain, rests, begins, reads, refuses, commits_tx, passes_own_tx, passes_kept_tx, ended, onward}
+use Rattle.data_safety.specs.Faithful.{Faithful}
+use Rattle.data_safety.proofs.OwnershipPlain.{IsFaithful, IsOwnershipMove, ownership-faithful}
+use Rattle.data_safety.proofs.PassKept.{keeps_pass_kept}
+use Rattle.data_safety.proofs.PassOwn.{keeps_pass_own}
+use Rattle.data_safety.proofs.Raise.{keeps_raise}
+use Rattle.data_safety.proofs.Store.{keeps_store}
+
+-- a move that writes nothing into the book
+plain-keeps : (y z : Story) (u : Truth) → Faithful y u → (move : Move y.scene z.scene) → IsPlain y.scene z.scene move → z.txs ≡ y.txs → z.book ≡ y.book → IsFaithful z
+unfolding IsPlain IsOwnershipMove
+plain-keeps y z u f (raises n d s l foreign r is above c) h txs book = (u, keeps_raise y z u f n d s l foreign r is above c txs book)
+plain-keeps y z u f (stores n r l foreign g body low number room c) h txs book = (u, keeps_store y z u f n r l foreign g body low number room c txs book)
+plain-keeps y z u f (turns n s cu c) h txs book = absurd h
+plain-keeps y z u f (passes_own n s some ok c) h txs book = absurd h
+plain-keeps y z u f (passes_kept n s out foreign some ok c) h txs book = absurd h
+plain-keeps y z u f (commits n s cu within is no_cause c) h txs book = absurd h
+plain-keeps y z u f (makes_view set v) h txs book = ownership-faithful y z u f (makes_view set v) tt txs book
+plain-keeps y z u f (stops n c) h txs book = ownership-faithful y z u f (stops n c) tt txs book
+plain-keeps y z u f (installs n e later within c) h txs book = ownership-faithful y z u f (installs n e later within c) tt txs book
+plain-keeps y z u f (tells n c) h txs book = ownership-faithful y z u f (tells n c) tt txs book
+plain-keeps y z u f (settles n x stamp place l r s above c) h txs book = ownership-faithful y z u f (settles n x stamp place l r s above c) tt txs book
+plain-keeps y z u f (drives n x requester want may c acked) h txs book = ownership-faithful y z u f (drives n x requester want may c acked) tt txs book
+plain-keeps y z u f (accepts n x p may c acked) h txs book = ownership-faithful y z u f (accepts n x p may c acked) tt txs book
+plain-keeps y z u f (redrives n x p held opened sourced c) h txs book = ownership-faithful y z u f (redrives n x p held opened sourced c) tt txs book
+plain-keeps y z u f (gathers n x from p co l body sender r below greatest c) h txs book = ownership-faithful y z u f (gathers n x from p co l body sender r below greatest c) tt txs book
+plain-keeps y z u f (decides n x g co gathered decidable content c) h txs book = ownership-faithful y z u f (decides n x g co gathered decidable content c) tt txs book
+plain-keeps y z u f (notes_own n s i from l r sender body within c) h txs book = ownership-faithful y z u f (notes_own n s i from l r sender body within c) tt txs book
+plain-keeps y z u f (notes_kept n i from s l foreign r sender body within c) h txs book = ownership-faithful y z u f (notes_kept n i from s l foreign r sender body within c) tt txs book
+plain-keeps y z u f (reports n empty c) h txs book = ownership-faithful y z u f (reports n empty c) tt txs book
+plain-keeps y z u f (hears n m l body sender r c) h txs book = ownership-faithful y z u f (hears n m l body sender r c) tt txs book
+
+-- each move keeps a story faithful
+pub move-faithful : (y z : Story) (u : Truth) → Faithful y u → StoryMove y z → IsFaithful z
+move-faithful y z u f (plain move is txs book) = plain-keeps y z u f move is txs book
+move-faithful y z u f (rests same txs book steps) = ?
+move-faithful y z u f (begins n s id c named tx at in_slot within fresh free ch txs book) = ?
+move-faithful y z u f (reads n s c is reader clear ch txs book) = ?
+move-faithful y z u f (refuses n s c is reader ch txs book) = ?
+move-faithful y z u f (commits_tx n s c within is writer clear ch txs book) = ?
+move-faithful y z u f (passes_own_tx n s some ok ch txs book) = (_, keeps_pass_own y z u f n s some ok ch txs book)
+move-faithful y z u f (passes_kept_tx n s out foreign some ok ch txs book) = keeps_pass_kept y z u f n s out foreign some ok ch txs book
+
+pub moves-faithful : (y z : Story) (u : Truth) → Faithful y u → StoryMoves y z → IsFaithful z
+moves-faithful y z u f (ended _) = (u, f)
+moves-faithful y z u f (onward _ mid _ move more) = let next : IsFaithful mid = move-faithful y mid u f move in moves-faithful mid z next.0 next.1 more
