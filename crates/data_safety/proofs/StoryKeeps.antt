@@ -7,6 +7,7 @@ use Rattle.machine_moves.specs.Plain.{IsPlain}
 use Rattle.data_safety.specs.Story.{Story, Truth}
 use Rattle.data_safety.specs.StoryMoves.{StoryMove, StoryMoves, plain, rests, begins, reads, refuses, commits_tx, passes_own_tx, passes_kept_tx, ended, onward}
 use Rattle.data_safety.specs.Faithful.{Faithful}
+use Rattle.data_safety.proofs.Commit.{keeps_commit}
 use Rattle.data_safety.proofs.OwnershipPlain.{IsFaithful, IsOwnershipMove, ownership-faithful}
 use Rattle.data_safety.proofs.PassKept.{keeps_pass_kept}
 use Rattle.data_safety.proofs.PassOwn.{keeps_pass_own}
@@ -44,7 +45,8 @@ move-faithful y z u f (rests same txs book steps) = ?
 move-faithful y z u f (begins n s id c named tx at in_slot within fresh free ch txs book) = ?
 move-faithful y z u f (reads n s c is reader clear ch txs book) = ?
 move-faithful y z u f (refuses n s c is reader ch txs book) = ?
-move-faithful y z u f (commits_tx n s c within is writer clear ch txs book) = ?
+move-faithful y z u f (commits_tx n s c within is writer clear ch txs book) =
+    (u, keeps_commit y z u f n s c record { within = within; current = is; writes = writer; free = clear; change = ch; txs = txs; book = book })
 move-faithful y z u f (passes_own_tx n s some ok ch txs book) = (_, keeps_pass_own y z u f n s some ok ch txs book)
 move-faithful y z u f (passes_kept_tx n s out foreign some ok ch txs book) = keeps_pass_kept y z u f n s out foreign some ok ch txs book
 
