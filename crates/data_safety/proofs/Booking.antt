@@ -102,7 +102,7 @@ pass_tx-own_first b after found id is unpointed unacked e =
     let made : after ≡ book_ack (book_point b id) id = e ∙ ap (λ (f : Option ℕ). (pass_tx b true f).book) is ∙ pass_tx-own b id unpointed unacked in
     let first : record_of (book_point b id) id ≡ record (record_of b id) { point = Some b.steps } = nth-put_same no_record b.records id (record (record_of b id) { point = Some b.steps }) in
     let second : record_of (book_ack (book_point b id) id) id ≡ record (record_of (book_point b id) id) { acked = Some b.steps } =
-        nth-put_same no_record (book_point b id).records id (record (record_of (book_point b id) id) { acked = Some b.steps }) in
+    nth-put_same no_record (book_point b id).records id (record (record_of (book_point b id) id) { acked = Some b.steps }) in
     record {
       steps = ap (λ (k : Book). k.steps) made;
       points = ap (λ (k : Book). k.points) made;

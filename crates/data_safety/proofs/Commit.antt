@@ -85,8 +85,8 @@ module _ (y z : Story) (u : Truth) (f : Faithful y u) (n s : ℕ) (c : Current) 
       let it : pending_at z t k ≡ made (y.scene.node n) n c = commit-entry_new y z n s c h in
       let ops : tx_ops z (pending_at z t k).id ≡ c.tx = tx_ops-same y z (pending_at z t k).id h.txs ∙ ap (λ (p : Pending). tx_ops y p.id) it ∙ sym (commit-ops y z u f n s c h) in
       let ran : run (λ x. (found_at z u t k x).value) (tx_ops z (pending_at z t k).id) ≡ run (λ x. (found_at y u t k x).value) c.tx =
-          ap (λ (l : List Op). run (λ x. (found_at z u t k x).value) l) ops
-          ∙ run-agree (λ x. (found_at z u t k x).value) (λ x. (found_at y u t k x).value) c.tx (λ x m. ap (λ (d : Content). d.value) (found-stays t k x (le_refl k))) in
+      ap (λ (l : List Op). run (λ x. (found_at z u t k x).value) l) ops
+      ∙ run-agree (λ x. (found_at z u t k x).value) (λ x. (found_at y u t k x).value) c.tx (λ x m. ap (λ (d : Content). d.value) (found-stays t k x (le_refl k))) in
       record {
         reply = ap (λ (r : Ran). r.reply) ran ∙ ap (λ (r : Ran). r.reply) (sym (commit-ran y z u f n s c h)) ∙ ap (λ (p : Pending). p.reply) (sym it);
         writes = ap (λ (r : Ran). raised (found_at z u t k) r.writes) ran
@@ -135,7 +135,7 @@ module _ (y z : Story) (u : Truth) (f : Faithful y u) (n s : ℕ) (c : Current) 
             let names = (commit-written y z u f n s c h w i_here).0 in
             let placed : has g (entry (y.scene.node n) w.obj).place.replicas ≡ true = ap (λ (p : Place). has g p.replicas) (latest-of w.obj names).0 ∙ m_old in
             let follows : has g (replicas_of (y.scene.node n) (new_writes (y.scene.node n) (run_here (y.scene.node n) c.tx).writes)) ≡ true =
-                replicas-in (y.scene.node n) (new_writes (y.scene.node n) (run_here (y.scene.node n) c.tx).writes) w g i_here placed in
+            replicas-in (y.scene.node n) (new_writes (y.scene.node n) (run_here (y.scene.node n) c.tx).writes) w g i_here placed in
             elim (same_or_not g n) [
               | inl own ↦ inr (own ∙ ap (λ (q : Stream). q.node) (sym new_one.0))
               | inr other ↦ inl (ap (λ (p : Pending). has g p.followers) it ∙ has-without_other g n (replicas_of (y.scene.node n) (new_writes (y.scene.node n) (run_here (y.scene.node n) c.tx).writes)) other ∙ follows)
@@ -188,8 +188,7 @@ module _ (y z : Story) (u : Truth) (f : Faithful y u) (n s : ℕ) (c : Current) 
   commit-given m x e p d within given base =
       let old_within : x < length y.scene.config.objects = rw h.change.config at within in
       let old_given : HasGiven (object y.scene x) m p d e = (commit-objects y z u f n s c h).given x m e p d given in
-      let before = f.entered.given m x e p d old_within old_given base in
-      (
+      let before = f.entered.given m x e p d old_within old_given base in (
         λ t k alive names. elim (commit-lives y z u f n s c h t k alive) [
           | inl old ↦ before.0 t k old (rw (← entry-stays t k old) names)
           | inr new_one ↦

@@ -80,8 +80,11 @@ module _ (y z : Story) (u : Truth) (f : Faithful y u) (n s : ℕ) (c : Current) 
   entry_cases : (j : ℕ) (e : EntryId) → (record_of z.book j).entry ≡ Some e
       → ((j ≡ c.id) × (e ≡ record { stream = record { node = n; slot = s }; number = end (line y.scene record { node = n; slot = s }) })) ⊎ ((j ≢ c.id) × ((record_of y.book j).entry ≡ Some e))
   entry_cases j e is = elim (same_or_not j c.id) [
-    | inl same ↦ inl (same, some_entry e record { stream = record { node = n; slot = s }; number = end (line y.scene record { node = n; slot = s }) }
-        (sym is ∙ ap (λ (i : ℕ). (record_of z.book i).entry) same ∙ new_entry))
+    | inl same ↦ inl (
+      same,
+      some_entry e record { stream = record { node = n; slot = s }; number = end (line y.scene record { node = n; slot = s }) }
+          (sym is ∙ ap (λ (i : ℕ). (record_of z.book i).entry) same ∙ new_entry),
+    )
     | inr other ↦ inr (other, ap (λ (r : TxRecord). r.entry) (sym (commit-record_other y z n s c h j other)) ∙ is)
   ]
 
@@ -93,9 +96,13 @@ module _ (y z : Story) (u : Truth) (f : Faithful y u) (n s : ℕ) (c : Current) 
       → (id : ℕ) × ((record_of z.book id).entry ≡ Some record { stream = t; number = k }) × (is_write (tx_ops z id) ≡ true)
       × ((nth no_tx z.txs id).node ≡ t.node) × ((nth no_tx z.txs id).slot ≡ t.slot)
   commit-old_entry t k below =
-      let b = f.booked.entry t k below in
-      (b.0, ap (λ (r : TxRecord). r.entry) (entry_stays b.0 record { stream = t; number = k } b.1) ∙ b.1, ap (λ (ops : List Op). is_write ops) (tx_ops-same y z b.0 h.txs) ∙ b.2,
-      ap (λ (l : List TxDecl). (nth no_tx l b.0).node) h.txs ∙ b.3, ap (λ (l : List TxDecl). (nth no_tx l b.0).slot) h.txs ∙ b.4)
+      let b = f.booked.entry t k below in (
+        b.0,
+        ap (λ (r : TxRecord). r.entry) (entry_stays b.0 record { stream = t; number = k } b.1) ∙ b.1,
+        ap (λ (ops : List Op). is_write ops) (tx_ops-same y z b.0 h.txs) ∙ b.2,
+        ap (λ (l : List TxDecl). (nth no_tx l b.0).node) h.txs ∙ b.3,
+        ap (λ (l : List TxDecl). (nth no_tx l b.0).slot) h.txs ∙ b.4,
+      )
 
   commit-entry : (t : Stream) (k : ℕ) → k < end (line z.scene t)
       → (id : ℕ) × ((record_of z.book id).entry ≡ Some record { stream = t; number = k }) × (is_write (tx_ops z id) ≡ true)
@@ -108,11 +115,13 @@ module _ (y z : Story) (u : Truth) (f : Faithful y u) (n s : ℕ) (c : Current) 
           let own : Stream = record { node = n; slot = s } in
           let below_here : k < end (line z.scene own) = subst (λ (q : Stream). k < end (line z.scene q)) same below in
           let past_here : end (line y.scene own) ≤ k = subst (λ (q : Stream). end (line y.scene q) ≤ k) same past in
-          let at : end (line y.scene own) ≡ k = omega (arith, below_here, past_here, commit-end_here y z n s c h) in
-          (c.id, new_entry ∙ some_entry_at own t (end (line y.scene own)) k (sym same) at,
-          ap (λ (ops : List Op). is_write ops) (tx_ops-same y z c.id h.txs ∙ sym begun_one.0) ∙ h.writes,
-          ap (λ (l : List TxDecl). (nth no_tx l c.id).node) h.txs ∙ begun_one.5 ∙ ap (λ (q : Stream). q.node) (sym same),
-          ap (λ (l : List TxDecl). (nth no_tx l c.id).slot) h.txs ∙ begun_one.6 ∙ ap (λ (q : Stream). q.slot) (sym same))
+          let at : end (line y.scene own) ≡ k = omega (arith, below_here, past_here, commit-end_here y z n s c h) in (
+            c.id,
+            new_entry ∙ some_entry_at own t (end (line y.scene own)) k (sym same) at,
+            ap (λ (ops : List Op). is_write ops) (tx_ops-same y z c.id h.txs ∙ sym begun_one.0) ∙ h.writes,
+            ap (λ (l : List TxDecl). (nth no_tx l c.id).node) h.txs ∙ begun_one.5 ∙ ap (λ (q : Stream). q.node) (sym same),
+            ap (λ (l : List TxDecl). (nth no_tx l c.id).slot) h.txs ∙ begun_one.6 ∙ ap (λ (q : Stream). q.slot) (sym same),
+          )
     ]
   ]
     where
@@ -123,7 +132,7 @@ module _ (y z : Story) (u : Truth) (f : Faithful y u) (n s : ℕ) (c : Current) 
   new_alone j e is same =
       let low = f.booked.below_end j e is in
       let low_here : end (line y.scene record { node = n; slot = s }) < end (line y.scene record { node = n; slot = s }) =
-          subst (λ (i : EntryId). i.number < end (line y.scene i.stream)) same low in
+      subst (λ (i : EntryId). i.number < end (line y.scene i.stream)) same low in
       omega (arith, low_here)
 
   commit-one_entry : (i j : ℕ) (e : EntryId) → (record_of z.book i).entry ≡ Some e → (record_of z.book j).entry ≡ Some e → i ≡ j
@@ -152,8 +161,15 @@ module _ (y z : Story) (u : Truth) (f : Faithful y u) (n s : ℕ) (c : Current) 
     | inr away ↦
         let b = f.booked.current m r d (ap (λ (l : Slot). l.current) (sym away.1) ∙ is) in
         let other : d.id ≢ c.id = λ same. away.0 (sym b.5 ∙ ap (λ (i : ℕ). (nth no_tx y.txs i).node) same ∙ begun_one.5) (sym b.6 ∙ ap (λ (i : ℕ). (nth no_tx y.txs i).slot) same ∙ begun_one.6) in
-        rw (commit-record_other y z n s c h d.id other) (b.0 ∙ sym (tx_ops-same y z d.id h.txs), b.1, b.2, b.3, b.4,
-        ap (λ (l : List TxDecl). (nth no_tx l d.id).node) h.txs ∙ b.5, ap (λ (l : List TxDecl). (nth no_tx l d.id).slot) h.txs ∙ b.6)
+        rw (commit-record_other y z n s c h d.id other) (
+          b.0 ∙ sym (tx_ops-same y z d.id h.txs),
+          b.1,
+          b.2,
+          b.3,
+          b.4,
+          ap (λ (l : List TxDecl). (nth no_tx l d.id).node) h.txs ∙ b.5,
+          ap (λ (l : List TxDecl). (nth no_tx l d.id).slot) h.txs ∙ b.6,
+        )
   ]
 
   commit-pending : (t : Stream) (i : ℕ) → i < length (slot (z.scene.node t.node) t.slot).pending
@@ -173,8 +189,8 @@ module _ (y z : Story) (u : Truth) (f : Faithful y u) (n s : ℕ) (c : Current) 
     | inr new_one ↦
         let own : Stream = record { node = n; slot = s } in
         let number : end (line y.scene own) ≡ (slot (z.scene.node t.node) t.slot).done + i =
-            home-end y.scene own ∙ ap (λ (k : ℕ). (slot (y.scene.node n) s).done + k) (rw (← new_one.0, ← new_one.1) (sym new_one.2))
-            ∙ ap (λ (k : ℕ). k + i) (rw (← new_one.0, ← new_one.1) (sym (commit-done y z n s c h t.node t.slot))) in
+        home-end y.scene own ∙ ap (λ (k : ℕ). (slot (y.scene.node n) s).done + k) (rw (← new_one.0, ← new_one.1) (sym new_one.2))
+        ∙ ap (λ (k : ℕ). k + i) (rw (← new_one.0, ← new_one.1) (sym (commit-done y z n s c h t.node t.slot))) in
         rw new_one.3 (
           new_entry ∙ ap (λ (k : ℕ). some_named own k) number ∙ ap (λ (q : Stream). some_named q ((slot (z.scene.node t.node) t.slot).done + i)) (own_is t new_one.0 new_one.1),
           ap (λ (r : TxRecord). r.reply) (commit-record y z n s c h),
@@ -205,9 +221,10 @@ module _ (y z : Story) (u : Truth) (f : Faithful y u) (n s : ℕ) (c : Current) 
         | inl new_one ↦
             let own : Stream = record { node = n; slot = s } in
             let none : (record_of z.book j).point ≡ None = same_point j ∙ ap (λ (i : ℕ). (record_of y.book i).point) new_one.0 ∙ begun_one.3 in
-            let committed : u.passed own ≤ end (line y.scene own) = (f.replicated own).committed in
-            (λ some. absurd (cc (ap (λ (o : Option ℕ). is_some o) none, some)),
-            λ low. let low_here : end (line y.scene own) < u.passed own = subst (λ (i : EntryId). i.number < u.passed i.stream) new_one.1 low in absurd (omega (arith, low_here, committed)))
+            let committed : u.passed own ≤ end (line y.scene own) = (f.replicated own).committed in (
+              λ some. absurd (cc (ap (λ (o : Option ℕ). is_some o) none, some)),
+              λ low. let low_here : end (line y.scene own) < u.passed own = subst (λ (i : EntryId). i.number < u.passed i.stream) new_one.1 low in absurd (omega (arith, low_here, committed)),
+            )
       ]
 
   commit-acked : (j : ℕ) (e : EntryId) → (record_of z.book j).entry ≡ Some e → (is_some (record_of z.book j).acked ≡ true) ↔ (e.number < (slot (z.scene.node e.stream.node) e.stream.slot).done)
@@ -218,11 +235,12 @@ module _ (y z : Story) (u : Truth) (f : Faithful y u) (n s : ℕ) (c : Current) 
         | inr old ↦ let b = f.booked.acked j e old.1 in (λ some. omega (arith, done, b.0 (sym acked ∙ some)), λ low. acked ∙ b.1 (omega (arith, low, done)))
         | inl new_one ↦
             let own : Stream = record { node = n; slot = s } in
-            let none : (record_of z.book j).acked ≡ None = same_acked j ∙ ap (λ (i : ℕ). (record_of y.book i).acked) new_one.0 ∙ unacked in
-            (λ some. absurd (cc (ap (λ (o : Option ℕ). is_some o) none, some)),
-            λ low.
-            let low_here : end (line y.scene own) < (slot (z.scene.node n) s).done = subst (λ (i : EntryId). i.number < (slot (z.scene.node i.stream.node) i.stream.slot).done) new_one.1 low in
-            absurd (omega (arith, low_here, commit-done y z n s c h n s, home-end y.scene own)))
+            let none : (record_of z.book j).acked ≡ None = same_acked j ∙ ap (λ (i : ℕ). (record_of y.book i).acked) new_one.0 ∙ unacked in (
+              λ some. absurd (cc (ap (λ (o : Option ℕ). is_some o) none, some)),
+              λ low.
+                  let low_here : end (line y.scene own) < (slot (z.scene.node n) s).done = subst (λ (i : EntryId). i.number < (slot (z.scene.node i.stream.node) i.stream.slot).done) new_one.1 low in
+                  absurd (omega (arith, low_here, commit-done y z n s c h n s, home-end y.scene own)),
+            )
       ]
 
   same_points : z.book.points ≡ y.book.points

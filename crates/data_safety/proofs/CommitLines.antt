@@ -126,9 +126,12 @@ module _ (y z : Story) (u : Truth) (f : Faithful y u) (n s : ℕ) (c : Current) 
       let old : Line = line y.scene own in
       let new : Line = line z.scene own in
       let x : Entry = entry_made (y.scene.node n) n c in
-      let at : top old old.home ≡ top old n = ap (λ (m : ℕ). top old m) (line-home y.scene own) in
-      (top old n, omega (arith, (f.replicated own).committed, at), (omega (arith, appending.done), omega (arith, appends-top old new n x appending)),
-      ap (λ (q : Kept). q.writes) (appends-new old new n x appending))
+      let at : top old old.home ≡ top old n = ap (λ (m : ℕ). top old m) (line-home y.scene own) in (
+        top old n,
+        omega (arith, (f.replicated own).committed, at),
+        (omega (arith, appending.done), omega (arith, appends-top old new n x appending)),
+        ap (λ (q : Kept). q.writes) (appends-new old new n x appending),
+      )
 
   pub commit-objects : StillObjects y.scene z.scene u record { chain = u.chain; passed = u.passed }
   commit-objects =

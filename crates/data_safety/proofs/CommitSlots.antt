@@ -65,12 +65,12 @@ module _ (y z : Story) (n s : ℕ) (c : Current) (h : CommitsTx y z n s c) where
     | inl same ↦ elim (same_or_not r s) [
       | inl at ↦ inl (same, at)
       | inr away ↦ inr (
-          λ e. away,
-          ap (λ (j : ℕ). slot (z.scene.node j) r) same ∙ ap (λ (k : Node). slot k r) h.change.node
-              ∙ with_slot-other (with_copies (y.scene.node n) (each_write rewritten_copy (y.scene.node n).copies (new_writes (y.scene.node n) (run_here (y.scene.node n) c.tx).writes))) s r
-              (slot_after (slot (y.scene.node n) s) (made (y.scene.node n) n c)) (λ e. away (sym e))
-              ∙ ap (λ (j : ℕ). slot (y.scene.node j) r) (sym same),
-        )
+        λ e. away,
+        ap (λ (j : ℕ). slot (z.scene.node j) r) same ∙ ap (λ (k : Node). slot k r) h.change.node
+            ∙ with_slot-other (with_copies (y.scene.node n) (each_write rewritten_copy (y.scene.node n).copies (new_writes (y.scene.node n) (run_here (y.scene.node n) c.tx).writes))) s r
+            (slot_after (slot (y.scene.node n) s) (made (y.scene.node n) n c)) (λ e. away (sym e))
+            ∙ ap (λ (j : ℕ). slot (y.scene.node j) r) (sym same),
+      )
     ]
   ]
 

@@ -76,16 +76,27 @@ module _ (y z : Story) (u v : Truth) (f : Faithful y u) (s : Thins y z u v) wher
       record {
         objects = λ id x m. rw s.config (f.booked.objects id x (rw (tx_ops-same y z id s.txs) at m));
         entry = λ t k below.
-            let b = f.booked.entry t k (rw s.ends at below) in
-            (b.0, ap (λ (r : TxRecord). r.entry) (records b.0) ∙ b.1, ap (λ (ops : List Op). is_write ops) (tx_ops-same y z b.0 s.txs) ∙ b.2,
-            ap (λ (l : List TxDecl). (nth no_tx l b.0).node) s.txs ∙ b.3, ap (λ (l : List TxDecl). (nth no_tx l b.0).slot) s.txs ∙ b.4);
+            let b = f.booked.entry t k (rw s.ends at below) in (
+              b.0,
+              ap (λ (r : TxRecord). r.entry) (records b.0) ∙ b.1,
+              ap (λ (ops : List Op). is_write ops) (tx_ops-same y z b.0 s.txs) ∙ b.2,
+              ap (λ (l : List TxDecl). (nth no_tx l b.0).node) s.txs ∙ b.3,
+              ap (λ (l : List TxDecl). (nth no_tx l b.0).slot) s.txs ∙ b.4,
+            );
         one_entry = λ i j e one two. f.booked.one_entry i j e (ap (λ (r : TxRecord). r.entry) (sym (records i)) ∙ one) (ap (λ (r : TxRecord). r.entry) (sym (records j)) ∙ two);
         below_end = λ id e is. rw s.ends (f.booked.below_end id e (ap (λ (r : TxRecord). r.entry) (sym (records id)) ∙ is));
         pending = pending-booked (λ j. ap (λ (r : TxRecord). r.entry) (records j)) (λ j. ap (λ (r : TxRecord). r.reply) (records j));
         current = λ n r c is.
             let b = f.booked.current n r c (sym (s.current n r) ∙ is) in
-            rw (records c.id) (b.0 ∙ sym (tx_ops-same y z c.id s.txs), b.1, b.2, b.3, b.4,
-            ap (λ (l : List TxDecl). (nth no_tx l c.id).node) s.txs ∙ b.5, ap (λ (l : List TxDecl). (nth no_tx l c.id).slot) s.txs ∙ b.6);
+            rw (records c.id) (
+              b.0 ∙ sym (tx_ops-same y z c.id s.txs),
+              b.1,
+              b.2,
+              b.3,
+              b.4,
+              ap (λ (l : List TxDecl). (nth no_tx l c.id).node) s.txs ∙ b.5,
+              ap (λ (l : List TxDecl). (nth no_tx l c.id).slot) s.txs ∙ b.6,
+            );
         begun = rw book f.booked.begun;
         begun_before = rw book f.booked.begun_before;
         point_after = rw book f.booked.point_after;
@@ -150,8 +161,7 @@ module _ (y z : Story) (u v : Truth) (f : Faithful y u) (s : Thins y z u v) wher
     point-current n r c is =
         let b = f.booked.current n r c (sym (s.current n r) ∙ is) in
         let other : c.id ≢ id = λ same. let gone : (record_of y.book id).entry ≡ None = ap (λ (j : ℕ). (record_of y.book j).entry) (sym same) ∙ b.2 in absurd (cc (gone, h.entry)) in
-        let here = h.passed.others c.id other in
-        (
+        let here = h.passed.others c.id other in (
           b.0 ∙ sym (tx_ops-same y z c.id s.txs),
           ap (λ (o : Option ℕ). is_some o) (same_begun c.id) ∙ b.1,
           same_entries c.id ∙ b.2,
@@ -307,9 +317,13 @@ module _ (y z : Story) (u v : Truth) (f : Faithful y u) (s : Thins y z u v) wher
     point-booked is_run = record {
       objects = λ j x m. rw s.config (f.booked.objects j x (rw (tx_ops-same y z j s.txs) at m));
       entry = λ t i below.
-          let b = f.booked.entry t i (rw s.ends at below) in
-          (b.0, same_entries b.0 ∙ b.1, ap (λ (ops : List Op). is_write ops) (tx_ops-same y z b.0 s.txs) ∙ b.2,
-          ap (λ (l : List TxDecl). (nth no_tx l b.0).node) s.txs ∙ b.3, ap (λ (l : List TxDecl). (nth no_tx l b.0).slot) s.txs ∙ b.4);
+          let b = f.booked.entry t i (rw s.ends at below) in (
+            b.0,
+            same_entries b.0 ∙ b.1,
+            ap (λ (ops : List Op). is_write ops) (tx_ops-same y z b.0 s.txs) ∙ b.2,
+            ap (λ (l : List TxDecl). (nth no_tx l b.0).node) s.txs ∙ b.3,
+            ap (λ (l : List TxDecl). (nth no_tx l b.0).slot) s.txs ∙ b.4,
+          );
       one_entry = λ i j e one two. f.booked.one_entry i j e (has_entry i e one) (has_entry j e two);
       below_end = λ j e is. rw s.ends (f.booked.below_end j e (has_entry j e is));
       pending = pending-booked same_entries same_replies;
@@ -321,7 +335,7 @@ module _ (y z : Story) (u v : Truth) (f : Faithful y u) (s : Thins y z u v) wher
       once = point-once;
       in_history = point-in_history;
       passed = point-passed;
-      acked = elim (cases_Bool own) [ | inl mine ↦ acked-own mine | inr foreign ↦ acked-kept foreign ];
+      acked = elim (cases_Bool own) [ inl mine ↦ acked-own mine | inr foreign ↦ acked-kept foreign ];
       replies = first-replies y z u p k record { id = id; reply = reply_or (record_of y.book id).reply } pointing (sym h.first) h.id_is
           (reply_of (record_of y.book id).reply (pending_at y p k).reply h.reply) is_run f.booked.replies;
     }

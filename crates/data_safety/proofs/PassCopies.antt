@@ -38,7 +38,7 @@ revalidates-was y z n m x ws c r h =
     elim (same_or_not m n) [
       | inl same ↦
           let now : nth None (each_write validated (y.scene.node n).copies ws) x ≡ Some c =
-              ap (λ (cs : List (Option Copy)). nth None cs x) (sym r.here) ∙ ap (λ (k : ℕ). copy (z.scene.node k) x) (sym same) ∙ h in
+          ap (λ (cs : List (Option Copy)). nth None cs x) (sym r.here) ∙ ap (λ (k : ℕ). copy (z.scene.node k) x) (sym same) ∙ h in
           let was = validated-was (y.scene.node n).copies ws x c now in
           (was.0, ap (λ (k : ℕ). copy (y.scene.node k) x) same ∙ was.1, was.2)
       | inr other ↦ (c, ap (λ (cs : List (Option Copy)). nth None cs x) (sym (r.others m other)) ∙ h, record { content = refl; how = inl refl })
@@ -76,7 +76,7 @@ module _ (y z : Story) (u v : Truth) (f : Faithful y u) (s : Thins y z u v)
   thins-taken n k o t w c ws r within live h above i is =
       let was = revalidates-was y z o n w.obj ws c r is in
       let low = f.copied.taken n t k w was.0 (rw s.config at within) (s.live n live) ((thin t).had n k h) (omega (arith, above, (s.lines t).rises))
-          (rw ((thin t).same n k h) at i) was.1 in
+      (rw ((thin t).same n k h) at i) was.1 in
       omega (arith, low, ap (λ (d : Content). d.ver) was.2.content)
 
   -- ---- what has passed before
@@ -123,7 +123,7 @@ module _ (y z : Story) (u v : Truth) (f : Faithful y u) (s : Thins y z u v)
         | inr other ↦ written-stays n x j t b c same (rw (others t other) above) h i
         | inl is_it ↦
             let i_here : In record { obj = x; ver = b.ver; value = b.value } (kept_at (line y.scene p) n j).writes =
-                subst (λ (r : Stream). In record { obj = x; ver = b.ver; value = b.value } (kept_at (line y.scene r) n j).writes) is_it i in
+            subst (λ (r : Stream). In record { obj = x; ver = b.ver; value = b.value } (kept_at (line y.scene r) n j).writes) is_it i in
             let h_here : Has (line y.scene p) n j = subst (λ (r : Stream). Has (line y.scene r) n j) is_it h in
             let above_here : u.passed p ≤ j = subst (λ (r : Stream). u.passed r ≤ j) is_it above in
             let not_it : j ≢ k = λ e. none record { obj = x; ver = b.ver; value = b.value } (subst (λ (m : ℕ). In record { obj = x; ver = b.ver; value = b.value } (pending_at y p m).writes) e (rw (kept-writes y u f p n j h_here above_here) at i_here)) refl in
@@ -196,8 +196,8 @@ module _ (y z : Story) (u v : Truth) (f : Faithful y u) (s : Thins y z u v)
             let is_at : copy (y.scene.node n) w.0.obj ≡ Some b = ap (λ (a : ℕ). copy (y.scene.node n) a) w.2 ∙ was.1 in
             let low : w.0.ver ≤ b.ver = f.copied.taken n p k w.0 b (rw w.2 old_within) (s.live n live) held (omega (arith, first)) kept_w is_at in
             let ver : w.0.ver ≡ (left y x).ver + 1 =
-                write-version y u f p k w.0 alive w.1 ∙ ap (λ (m : ℕ). (found_at y u p m w.0.obj).ver + 1) (sym first)
-                ∙ ap (λ (g : ℕ → Content). (g w.0.obj).ver + 1) (found-start y u p) ∙ ap (λ (a : ℕ). (left y a).ver + 1) w.2 in
+            write-version y u f p k w.0 alive w.1 ∙ ap (λ (m : ℕ). (found_at y u p m w.0.obj).ver + 1) (sym first)
+            ∙ ap (λ (g : ℕ → Content). (g w.0.obj).ver + 1) (found-start y u p) ∙ ap (λ (a : ℕ). (left y a).ver + 1) w.2 in
             elim before [
               | inl is_left ↦ absurd (omega (arith, low, ver, ap (λ (d : Content). d.ver) is_left))
               | inr newer ↦

@@ -111,9 +111,9 @@ module _ (y z : Story) (u : Truth) (f : Faithful y u) (n : ℕ) (s : Stream) (ou
     stored : (m : ℕ) → IsLive y.scene m → has m (pending_at y s (log (y.scene.node n) s).done).followers ≡ true → Has (line y.scene s) m (log (y.scene.node n) s).done
     stored m live follows =
         let e : entry_of (kept_at (line y.scene s) n (u.passed s)) ≡ entry_of (as_kept (pending_at y s (u.passed s))) =
-            kept-entry y u f s n (u.passed s) (subst (λ (k : ℕ). Has (line y.scene s) n k) first has_first) (omega arith) in
+        kept-entry y u f s n (u.passed s) (subst (λ (k : ℕ). Has (line y.scene s) n k) first has_first) (omega arith) in
         let asked : has m (kept_at (line y.scene s) n (u.passed s)).followers ≡ true =
-            ap (λ (k : Rattle.replication_safety.specs.Line.Entry). has m k.followers) e ∙ ap (λ (k : ℕ). has m (pending_at y s k).followers) (sym first) ∙ follows in
+        ap (λ (k : Rattle.replication_safety.specs.Line.Entry). has m k.followers) e ∙ ap (λ (k : ℕ). has m (pending_at y s k).followers) (sym first) ∙ follows in
         subst (λ (k : ℕ). Has (line y.scene s) m k) (sym first)
         (first_pass-stored (line y.scene s) (line z.scene s) (u.passed s) n m (f.replicated s) passing (done_is ∙ first) (line-stopped y.scene s m ∙ live) asked)
 

@@ -64,7 +64,7 @@ module _ (y z : Story) (u v : Truth) (f : Faithful y u) (s : Thins y z u v) wher
       let counts : suc (j - v.passed p) ≡ j - u.passed p = omega (arith, first, rises, above) in
       let start : u.passed p + 0 ≡ k = omega (arith, first) in
       let base : left z x ≡ overwritten (left y) (unpassed_writes y u p 0) x =
-          leaves x ∙ ap (λ (m : ℕ). overwritten (left y) (pending_at y p m).writes x) (sym start) in
+      leaves x ∙ ap (λ (m : ℕ). overwritten (left y) (pending_at y p m).writes x) (sym start) in
       running-shift (left z) (left y) (unpassed_writes z v p) (unpassed_writes y u p) (j - v.passed p) x base
       (λ i below. unpassed-same p (v.passed p + i) (u.passed p + suc i) (omega arith) (omega (arith, first, rises)))
       ∙ ap (λ (m : ℕ). running (left y) (unpassed_writes y u p) m x) counts
@@ -75,10 +75,10 @@ module _ (y z : Story) (u v : Truth) (f : Faithful y u) (s : Thins y z u v) wher
     | inr none ↦ let same : left z x ≡ left y x = leaves x ∙ overwritten-other (left y) (pending_at y p k).writes x none in omega (arith, ap (λ (c : Content). c.ver) same)
     | inl w ↦
         let now : left z x ≡ written_content w.0 =
-            leaves x ∙ ap (λ (a : ℕ). overwritten (left y) (pending_at y p k).writes a) (sym w.2) ∙ overwritten-in (left y) (pending_at y p k).writes w.0 (writes-once y u f p k alive) w.1 in
+        leaves x ∙ ap (λ (a : ℕ). overwritten (left y) (pending_at y p k).writes a) (sym w.2) ∙ overwritten-in (left y) (pending_at y p k).writes w.0 (writes-once y u f p k alive) w.1 in
         let ver : w.0.ver ≡ (left y x).ver + 1 =
-            write-version y u f p k w.0 alive w.1 ∙ ap (λ (m : ℕ). (found_at y u p m w.0.obj).ver + 1) (sym first)
-            ∙ ap (λ (g : ℕ → Content). (g w.0.obj).ver + 1) (found-start y u p) ∙ ap (λ (a : ℕ). (left y a).ver + 1) w.2 in
+        write-version y u f p k w.0 alive w.1 ∙ ap (λ (m : ℕ). (found_at y u p m w.0.obj).ver + 1) (sym first)
+        ∙ ap (λ (g : ℕ → Content). (g w.0.obj).ver + 1) (found-start y u p) ∙ ap (λ (a : ℕ). (left y a).ver + 1) w.2 in
         omega (arith, ver, ap (λ (c : Content). c.ver) now)
   ]
 

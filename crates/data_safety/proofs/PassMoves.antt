@@ -45,7 +45,7 @@ module _ (y z : Story) (u v : Truth) (f : Faithful y u) (steady : IsSteady z.sce
   pass-first o k id p own r h alive stored home =
       let is_run : IsRun y u p k = f.entered.serial p k alive in
       let leaves : (x : ℕ) → left z x ≡ overwritten (left y) (pending_at y p k).writes x =
-          λ x. first-left y z u p k x record { id = id; reply = reply_or (record_of y.book id).reply } (pointing y z u v f s p k id own h) (sym h.first) h.id_is is_run in
+      λ x. first-left y z u p k x record { id = id; reply = reply_or (record_of y.book id).reply } (pointing y z u v f s p k id own h) (sym h.first) h.id_is is_run in
       record {
         limits = subst (λ (c : Config). KeepsLimits c) (sym s.config) f.limits;
         steady = steady;

@@ -139,10 +139,10 @@ module _ (y z : Story) (u : Truth) (f : Faithful y u) (n s : ℕ) (some : 0 < le
   ends : (t : Stream) → end (line z.scene t) ≡ end (line y.scene t)
   ends t =
       let sum : (slot (z.scene.node t.node) t.slot).done + length (slot (z.scene.node t.node) t.slot).pending ≡ (slot (y.scene.node t.node) t.slot).done + length (slot (y.scene.node t.node) t.slot).pending =
-          elim (slot_cases t.node t.slot) [
-            | inl here ↦ rw (here.0, here.1) (rw slot_here (omega (arith, some, length-drop 1 (slot (y.scene.node n) s).pending)))
-            | inr same ↦ ap (λ (l : Slot). l.done + length l.pending) same
-          ] in
+      elim (slot_cases t.node t.slot) [
+        | inl here ↦ rw (here.0, here.1) (rw slot_here (omega (arith, some, length-drop 1 (slot (y.scene.node n) s).pending)))
+        | inr same ↦ ap (λ (l : Slot). l.done + length l.pending) same
+      ] in
       home-end z.scene t ∙ sum ∙ sym (home-end y.scene t)
 
   -- ---- streams
@@ -171,8 +171,8 @@ module _ (y z : Story) (u : Truth) (f : Faithful y u) (n s : ℕ) (some : 0 < le
       (λ home.
       let away : s ≢ t.slot = λ e. other (stream_from t n s (sym home) (sym e)) in
       let same : slot (pass_own (y.scene.node n) s 1) t.slot ≡ slot (y.scene.node n) t.slot =
-          with_slot-other (after_passing (y.scene.node n) (take 1 (map as_kept (slot (y.scene.node n) s).pending))) s t.slot
-          record { current = (slot (y.scene.node n) s).current; done = (slot (y.scene.node n) s).done + 1; pending = drop 1 (slot (y.scene.node n) s).pending } away in
+      with_slot-other (after_passing (y.scene.node n) (take 1 (map as_kept (slot (y.scene.node n) s).pending))) s t.slot
+      record { current = (slot (y.scene.node n) s).current; done = (slot (y.scene.node n) s).done + 1; pending = drop 1 (slot (y.scene.node n) s).pending } away in
       (ap (λ (l : Slot). l.done) same, ap (λ (l : Slot). l.pending) same))
 
   thin_line : (t : Stream) → ThinLine (line y.scene t) (line z.scene t) (u.passed t) ((passed_on u record { node = n; slot = s }).passed t)
@@ -241,9 +241,9 @@ module _ (y z : Story) (u : Truth) (f : Faithful y u) (n s : ℕ) (some : 0 < le
   stored m live follows =
       let t : Stream = record { node = n; slot = s } in
       let e : entry_of (kept_at (line y.scene t) n (u.passed t)) ≡ entry_of (as_kept (pending_at y t (u.passed t))) =
-          kept-entry y u f t n (u.passed t) (subst (λ (k : ℕ). Has (line y.scene t) n k) (sym count) has_first) (omega arith) in
+      kept-entry y u f t n (u.passed t) (subst (λ (k : ℕ). Has (line y.scene t) n k) (sym count) has_first) (omega arith) in
       let asked : has m (kept_at (line y.scene t) n (u.passed t)).followers ≡ true =
-          ap (λ (k : Rattle.replication_safety.specs.Line.Entry). has m k.followers) e ∙ ap (λ (k : ℕ). has m (pending_at y t k).followers) count ∙ follows in
+      ap (λ (k : Rattle.replication_safety.specs.Line.Entry). has m k.followers) e ∙ ap (λ (k : ℕ). has m (pending_at y t k).followers) count ∙ follows in
       subst (λ (k : ℕ). Has (line y.scene t) m k) count
       (first_pass-stored (line y.scene t) (line z.scene t) (u.passed t) n m (f.replicated t) passing first_done (line-stopped y.scene t m ∙ live) asked)
 

@@ -57,7 +57,7 @@ pub record ThinLine (old new : Line) (passed now : ℕ) : Type 0 where
   pub same : (m k : ℕ) → Has new m k → kept_at new m k ≡ kept_at old m k
 
 pub none_new : (old new : Line) → moves.Sends old new moves.nothing → (l : Said) → In l new.letters → In l old.letters
-none_new old new s l i = elim (s.only l i) [ | inl before ↦ before | inr now ↦ absurd now ]
+none_new old new s l i = elim (s.only l i) [ inl before ↦ before | inr now ↦ absurd now ]
 
 pub thin-drops : (old new : Line) (passed now n d : ℕ) → Drops old new n d → Replicated new now → passed ≤ now
     → ((k : ℕ) → IsAlive new now k → IsAlive old passed k) → ThinLine old new passed now
@@ -110,7 +110,7 @@ still-objects old new u passed n after numbered c q ordered =
       place = λ x. place_same old new x (u.chain x) n after numbered c (q x);
       given = λ x m e p co g.
           let s = objects.quiet_sends old new x n after c in
-          (g.0, elim (s.only _ g.1) [ | inl before ↦ before | inr now ↦ absurd now ]);
+          (g.0, elim (s.only _ g.1) [ inl before ↦ before | inr now ↦ absurd now ]);
       chain = λ x. refl;
     }
   where
@@ -163,7 +163,7 @@ thins-entered y z u v f s l =
       followed = λ t k g w alive i h.
           let e : pending_at z t k ≡ pending_at y t k = s.entry t k (lives-above z v t k alive) in
           let before = f.entered.followed t k g w ((s.lines t).alive k alive) (rw (← e) i) (ap (λ (p : Place). has g p.replicas) (sym (s.objects.place w.obj)) ∙ h) in
-          elim before [ | inl follows ↦ inl (ap (λ (p : Pending). has g p.followers) e ∙ follows) | inr own ↦ inr own ];
+          elim before [ inl follows ↦ inl (ap (λ (p : Pending). has g p.followers) e ∙ follows) | inr own ↦ inr own ];
       serial = λ t k alive.
           let old_alive : Lives y u t k = (s.lines t).alive k alive in
           IsRun-agree y z u v t k (s.entry t k (lives-above z v t k alive)) s.txs

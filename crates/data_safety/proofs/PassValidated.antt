@@ -30,11 +30,14 @@ unfolding validated
 validated-one w ws x None c at h = absurd cc
 validated-one w ws x (Some b) c at h = elim (cases_Bool (b.ver == w.ver)) [
   | inl same ↦
-      let now : record b { state = Valid } ≡ c = some_same (record b { state = Valid }) c (rw same at h) in
-      (b, refl, record {
-        content = ap content_of (sym now);
-        how = inr (w, here w ws refl, at, sym (eqb-true b.ver w.ver same) ∙ ap (λ (k : Copy). k.ver) now);
-      })
+      let now : record b { state = Valid } ≡ c = some_same (record b { state = Valid }) c (rw same at h) in (
+        b,
+        refl,
+        record {
+          content = ap content_of (sym now);
+          how = inr (w, here w ws refl, at, sym (eqb-true b.ver w.ver same) ∙ ap (λ (k : Copy). k.ver) now);
+        },
+      )
   | inr other ↦ (b, refl, record { content = ap content_of (sym (some_same b c (rw other at h))); how = inl (sym (some_same b c (rw other at h))) })
 ]
 
@@ -67,7 +70,7 @@ validated-was copies (w ∷ ws) x c h =
 validated-is_some : (w : Write) (o : Option Copy) → is_some (validated w o) ≡ is_some o
 unfolding validated
 validated-is_some w None = refl
-validated-is_some w (Some c) = elim (cases_Bool (c.ver == w.ver)) [ | inl same ↦ rw same refl | inr other ↦ rw other refl ]
+validated-is_some w (Some c) = elim (cases_Bool (c.ver == w.ver)) [ inl same ↦ rw same refl | inr other ↦ rw other refl ]
 
 pub validated-some : (copies : List (Option Copy)) (ws : List Write) (x : ℕ) → is_some (nth None (each_write validated copies ws) x) ≡ is_some (nth None copies x)
 unfolding each_write

@@ -77,7 +77,7 @@ module _ (y z : Story) (u : Truth) (f : Faithful y u) (n d : ℕ) (s : Stream) (
       let held : Has (line y.scene s) n (done + it.0) = (omega (arith, done_is), omega (arith, done_is, size, it.2)) in
       let back : done + it.0 - (line y.scene s).done n ≡ it.0 = omega (arith, done_is) in
       let at : kept_at (line y.scene s) n (done + it.0) ≡ nth no_kept (log (y.scene.node n) s).kept it.0 =
-          ap (λ (j : ℕ). nth no_kept ((line y.scene s).kept n) j) back ∙ ap (λ (ks : List Kept). nth no_kept ks it.0) (log_kept_is y.scene s n away) in
+      ap (λ (j : ℕ). nth no_kept ((line y.scene s).kept n) j) back ∙ ap (λ (ks : List Kept). nth no_kept ks it.0) (log_kept_is y.scene s n away) in
       kept-low y u s n (done + it.0) w f held away (omega (arith, it.1, above, raising.known)) (rw at it.3)
 
   pub keeps_raise : z.book ≡ y.book → Faithful z u

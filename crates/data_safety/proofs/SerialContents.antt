@@ -87,15 +87,15 @@ written_map-contents m (w ∷ ws) x d =
       | inl is ↦
           let same : x ≡ w.0 = eqb-true x w.0 is in
           let missed : overwritten (content_in after) (raised (content_in after) ws) x ≡ content_in after x =
-              overwritten-missed (content_in after) (content_in after) ws x (rw same d.0) in
+          overwritten-missed (content_in after) (content_in after) ws x (rw same d.0) in
           let put_here : content after w.0 ≡ record { ver = (content m w.0).ver + 1; value = w.1 } = nth-put_same no_content m w.0 record { ver = (content m w.0).ver + 1; value = w.1 } in
           rw is (rest ∙ missed ∙ ap (λ (k : ℕ). content_in after k) same ∙ ap as_content put_here)
       | inr other ↦
           let differs : w.0 ≢ x = λ e. grind (arith, nat_tests) in
           let old_content : content_in after x ≡ content_in m x = ap as_content (nth-put_other no_content m w.0 x record { ver = (content m w.0).ver + 1; value = w.1 } differs) in
           let raised_same : raised (content_in after) ws ≡ raised (content_in m) ws = raised-agree (content_in after) (content_in m) ws (λ k h.
-              let away : w.0 ≢ k = λ e. no_key w.0 k (keys ws) d.0 h e in
-              ap as_content (nth-put_other no_content m w.0 k record { ver = (content m w.0).ver + 1; value = w.1 } away)) in
+          let away : w.0 ≢ k = λ e. no_key w.0 k (keys ws) d.0 h e in
+          ap as_content (nth-put_other no_content m w.0 k record { ver = (content m w.0).ver + 1; value = w.1 } away)) in
           rw other (rest ∙ ap (λ (l : List Write). overwritten (content_in after) l x) raised_same
           ∙ overwritten-base (content_in after) (content_in m) (raised (content_in m) ws) x old_content)
     ]

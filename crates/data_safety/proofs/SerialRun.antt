@@ -141,11 +141,11 @@ pub IsRun-agree : (y z : Story) (u v : Truth) (t : Stream) (k : ℕ) → pending
 IsRun-agree y z u v t k entry txs same is =
     let ops : tx_ops z (pending_at z t k).id ≡ tx_ops y (pending_at y t k).id = tx_ops-same y z (pending_at z t k).id txs ∙ ap (λ (p : Pending). tx_ops y p.id) entry in
     let ran : run (λ x. (found_at z v t k x).value) (tx_ops y (pending_at y t k).id) ≡ run (λ x. (found_at y u t k x).value) (tx_ops y (pending_at y t k).id) =
-        run-agree (λ x. (found_at z v t k x).value) (λ x. (found_at y u t k x).value) (tx_ops y (pending_at y t k).id) (λ x h. ap (λ (c : Content). c.value) (same x h)) in
+    run-agree (λ x. (found_at z v t k x).value) (λ x. (found_at y u t k x).value) (tx_ops y (pending_at y t k).id) (λ x h. ap (λ (c : Content). c.value) (same x h)) in
     let now : run (λ x. (found_at z v t k x).value) (tx_ops z (pending_at z t k).id) ≡ run (λ x. (found_at y u t k x).value) (tx_ops y (pending_at y t k).id) =
-        ap (λ (l : List Op). run (λ x. (found_at z v t k x).value) l) ops ∙ ran in
+    ap (λ (l : List Op). run (λ x. (found_at z v t k x).value) l) ops ∙ ran in
     let are : AreOf (named (tx_ops y (pending_at y t k).id)) (run (λ x. (found_at y u t k x).value) (tx_ops y (pending_at y t k).id)).writes =
-        run-are_of (λ x. (found_at y u t k x).value) (tx_ops y (pending_at y t k).id) in
+    run-are_of (λ x. (found_at y u t k x).value) (tx_ops y (pending_at y t k).id) in
     record {
       reply = ap (λ (r : Ran). r.reply) now ∙ is.reply ∙ ap (λ (p : Pending). p.reply) (sym entry);
       writes = ap (λ (r : Ran). raised (found_at z v t k) r.writes) now

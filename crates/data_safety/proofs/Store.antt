@@ -114,9 +114,12 @@ module _ (y z : Story) (u : Truth) (f : Faithful y u) (n : ℕ) (r : Invalidatio
       let old : Line = line y.scene r.stream in
       let new : Line = line z.scene r.stream in
       let x : Entry = record { followers = r.followers; writes = r.writes } in
-      let a = stores-appends old new n x storing in
-      (top old n, stores-unpassed old new (u.passed r.stream) n x (f.replicated r.stream) storing,
-      (omega (arith, storing.done), omega (arith, appends-top old new n x a)), ap (λ (q : Kept). q.writes) (appends-new old new n x a))
+      let a = stores-appends old new n x storing in (
+        top old n,
+        stores-unpassed old new (u.passed r.stream) n x (f.replicated r.stream) storing,
+        (omega (arith, storing.done), omega (arith, appends-top old new n x a)),
+        ap (λ (q : Kept). q.writes) (appends-new old new n x a),
+      )
 
   thins : Thins y z u u
   thins = thins-logs y z u u.passed n (store (y.scene.node n) r) f c slots_stay txs goes
@@ -186,7 +189,7 @@ module _ (y z : Story) (u : Truth) (f : Faithful y u) (n : ℕ) (r : Invalidatio
       → In w (kept_at (line z.scene t) m k).writes → copy (z.scene.node m) w.obj ≡ Some now → w.ver ≤ now.ver
   store_taken m t k w now within live h above i is =
       let was = copy_cases m w.obj now is in
-      let rises : was.0.ver ≤ now.ver = elim was.2 [ | inl away ↦ omega (arith, ap (λ (d : Copy). d.ver) away.1) | inr here ↦ here.1.rises ] in
+      let rises : was.0.ver ≤ now.ver = elim was.2 [ inl away ↦ omega (arith, ap (λ (d : Copy). d.ver) away.1) | inr here ↦ here.1.rises ] in
       elim (kept_cases t m k h) [
         | inl before ↦
             let bound = f.copied.taken m t k w was.0 (rw c.config at within) (thins.live m live) before.0 above (rw before.1 at i) was.1 in

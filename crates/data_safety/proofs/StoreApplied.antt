@@ -34,12 +34,15 @@ applied-one w x None c at h = absurd cc
 applied-one w x (Some b) c at h = elim (cases_Bool (nat_lt b.ver w.ver)) [
   | inl below ↦
       let now : record { value = w.value; ver = w.ver; state = Invalid } ≡ c = some_same record { value = w.value; ver = w.ver; state = Invalid } c (rw below at h) in
-      let less : b.ver < w.ver = grind (arith, nat_tests) in
-      (b, refl, rw (← now) record {
-        how = inr record { newer = less; state = refl; written = here w [] (rw (← at) refl) };
-        rises = omega (arith, less);
-        bound = λ v i is. one_bound v i;
-      })
+      let less : b.ver < w.ver = grind (arith, nat_tests) in (
+        b,
+        refl,
+        rw (← now) record {
+          how = inr record { newer = less; state = refl; written = here w [] (rw (← at) refl) };
+          rises = omega (arith, less);
+          bound = λ v i is. one_bound v i;
+        },
+      )
   | inr above ↦
       let same : b ≡ c = some_same b c (rw above at h) in
       let low : w.ver ≤ b.ver = grind (arith, nat_tests) in
@@ -103,7 +106,7 @@ applied-took copies (w ∷ ws) x c h =
 applied-is_some : (w : Write) (o : Option Copy) → is_some (applied w o) ≡ is_some o
 unfolding applied
 applied-is_some w None = refl
-applied-is_some w (Some c) = elim (cases_Bool (nat_lt c.ver w.ver)) [ | inl same ↦ rw same refl | inr other ↦ rw other refl ]
+applied-is_some w (Some c) = elim (cases_Bool (nat_lt c.ver w.ver)) [ inl same ↦ rw same refl | inr other ↦ rw other refl ]
 
 pub applied-some : (copies : List (Option Copy)) (ws : List Write) (x : ℕ) → is_some (nth None (each_write applied copies ws) x) ≡ is_some (nth None copies x)
 unfolding each_write

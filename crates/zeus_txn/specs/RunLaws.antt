@@ -1,5 +1,5 @@
 -- Laws of running operations: what one step does, that only the values of the named objects count, and what is written.
-use Rattle.std.specs.Prelude.{ℕ, suc, true, false, ◌||◌, ◌==◌, ◌≡◌, ◌+◌, ◌≤◌, List, [], ◌∷◌, ◌++◌, length, map, Option, Some, None, refl, if◌then◌else◌}
+use Rattle.std.specs.Prelude.{ℕ, suc, Bool, true, false, ◌||◌, ◌==◌, ◌≡◌, ◌+◌, ◌≤◌, List, [], ◌∷◌, ◌++◌, length, map, Option, Some, None, refl, if◌then◌else◌}
 use Rattle.std.proofs.Common.{arith, sym, ap, ◌∙◌, length-append}
 use Rattle.std.proofs.lemmas.Bool.{eqb-true}
 use Rattle.std.proofs.lemmas.Bool.Decides.{nat_tests}
@@ -7,9 +7,11 @@ use Rattle.zeus_base.specs.declared.value.Value.{Value}
 use Rattle.zeus_txn.specs.declared.ops.Op.{Op}
 use Rattle.zeus_txn.specs.declared.reply.Ran.{Ran}
 use Rattle.zeus_txn.specs.declared.run.Effect.{Effect}
-use Rattle.zeus_txn.specs.Ops.{object_of, mentions, mentioned, named}
+use Rattle.zeus_txn.specs.declared.ops.Op.TheVariants.{Get, Put, Add, Need, Same}
+use Rattle.zeus_base.specs.Values.{same_value}
+use Rattle.zeus_txn.specs.Ops.{object_of, stores, mentions, mentioned, named, is_write}
 use Rattle.zeus_txn.specs.OpLaws.{AllIn, mentions-append, mentions-one, mentions-mentioned, mentioned-new, mentioned-old, named-all}
-use Rattle.zeus_txn.specs.Run.{effect, given, latest, rewritten, stored, fails_at, run_from, run, value_at}
+use Rattle.zeus_txn.specs.Run.{effect, reaches, tested, given, latest, rewritten, stored, fails_at, run_from, run, value_at}
 
 -- ---- one operation after another
 
@@ -193,3 +195,45 @@ run_from-are_of found ns place vs ws (op ∷ ops) all are =
 pub run-are_of : (found : ℕ → Value) (ops : List Op) → AreOf (named ops) (run found ops).writes
 unfolding run
 run-are_of found ops = run_from-are_of found (named ops) 0 [] [] ops (named-all ops) (AreOf-none (named ops))
+
+-- ---- transactions that write nothing
+
+stores_none : (a e : Effect) → a.stores ≡ None → ◌≡◌ {A = Option Effect} (Some a) (Some e) → e.stores ≡ None
+stores_none a e none is = let same : a ≡ e = cc in rw (← same) none
+
+tested_stores : (b : Bool) (e : Effect) → tested b ≡ Some e → e.stores ≡ None
+unfolding tested
+tested_stores true e is = stores_none record { gives = None; stores = None } e refl is
+tested_stores false e is = absurd cc
+
+effect_stores : (op : Op) (v : Value) (e : Effect) → stores op ≡ false → effect op v ≡ Some e → e.stores ≡ None
+unfolding effect stores
+effect_stores (Get x) v e h is = stores_none record { gives = Some v; stores = None } e refl is
+effect_stores (Put x w) v e h is = absurd cc
+effect_stores (Add x d) v e h is = absurd cc
+effect_stores (Need x n) v e h is = tested_stores (reaches v n) e is
+effect_stores (Same x w) v e h is = tested_stores (same_value v w) e is
+
+neither : (a b : Bool) → (a || b) ≡ false → (a ≡ false) × (b ≡ false)
+neither true b h = absurd cc
+neither false b h = (refl, h)
+
+reads_from : (ops : List Op) (found : ℕ → Value) (place : ℕ) (vs : List Value) → is_write ops ≡ false → (run_from found place vs [] ops).writes ≡ []
+unfolding is_write run_from stored
+reads_from [] found place vs h = refl
+reads_from (op ∷ ops) found place vs h =
+    by_effect (effect op (latest [] (object_of op) (found (object_of op)))) refl (λ next wider. reads_from ops found next wider (neither (stores op) (is_write ops) h).1)
+  where
+    by_effect : (o : Option Effect) → effect op (latest [] (object_of op) (found (object_of op))) ≡ o → ((next : ℕ) (wider : List Value) → (run_from found next wider [] ops).writes ≡ []) → (run_from found place vs [] (op ∷ ops)).writes ≡ []
+    by_effect None is later = ap (λ (r : Ran). r.writes) (run_from-none found place vs [] op ops is)
+    by_effect (Some e) is later =
+        let parts = neither (stores op) (is_write ops) h in
+        let none : e.stores ≡ None = effect_stores op (latest [] (object_of op) (found (object_of op))) e parts.0 is in
+        ap (λ (r : Ran). r.writes) (run_from-some found place vs [] op ops e is)
+        ∙ ap (λ (o : Option Value). (run_from found (suc place) (given vs e.gives) (stored [] (object_of op) o) ops).writes) none
+        ∙ later (suc place) (given vs e.gives)
+
+-- a transaction without a put or an add writes nothing
+pub reads_write_nothing : (found : ℕ → Value) (ops : List Op) → is_write ops ≡ false → (run found ops).writes ≡ []
+unfolding run
+reads_write_nothing found ops h = reads_from ops found 0 [] h
