@@ -11,7 +11,7 @@ use Rattle.zeus_model.specs.Scripts.{FitTxs, FitsTxs, FitsStep}
 use Rattle.zeus_model.specs.Sound.{Sound}
 use Rattle.zeus_model.specs.World.{World, start, stepped, run}
 use Rattle.machine_moves.specs.Fits.{StepFits}
-use Rattle.machine_moves.proofs.Runs.{usual_after}
+use Rattle.machine_moves.proofs.Runs.{usual_after, reached_usual}
 use Rattle.machine_moves.proofs.Start.{start_usual, start-config}
 use Rattle.machine_moves.proofs.Steps.{IsStep, IsUsual, step_is_moves}
 use Rattle.data_safety.specs.Story.{Story, Truth, story}
@@ -73,6 +73,10 @@ pub run-sound : (c : Config) (txs : List TxDecl) (steps : List Step) → KeepsLi
 run-sound c txs steps keeps fit fits =
     reached-sound (run (start c txs) steps)
         (run-reached c txs steps (start c txs) (start-config c txs) (start-txs c txs) (start-reached c txs keeps fit.each) (fits-steps c txs steps fits))
+
+-- a run keeps its configuration
+pub run-config : (c : Config) (txs : List TxDecl) (steps : List Step) → KeepsLimits c → All (FitsStep c (length txs)) steps → (run (start c txs) steps).config ≡ c
+run-config c txs steps keeps fits = (reached_usual c txs steps keeps (fits-steps c txs steps fits)).1
 
 -- so is every run of its first steps
 All-take : {A : Type 0} (P : A → Type 0) (k : ℕ) (xs : List A) → All P xs → All P (take k xs)
