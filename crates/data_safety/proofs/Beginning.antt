@@ -1,8 +1,7 @@
 -- At the start of a run the story is faithful.
-use Rattle.std.specs.Prelude.{ℕ, zero, suc, ◌≡◌, ◌≢◌, ◌+◌, ◌<◌, ◌≤◌, Bool, true, false, List, [], ◌∷◌, length, map, replicate, Option, Some, None, is_some, All, if◌then◌else◌, ◌⊎◌, ◌↔◌}
-use Rattle.std.proofs.Common.{arith, refl, sym, ap, inl, inr, ◌∙◌, subst}
-use Rattle.std.proofs.lemmas.Bool.{cases_Bool, cases_lt}
-use Rattle.std.proofs.lemmas.Bool.Decides.{nat_tests}
+use Rattle.std.specs.Prelude.{ℕ, ◌≡◌, ◌<◌, Bool, true, false, List, [], length, Some, None, is_some, ◌⊎◌, ◌↔◌}
+use Rattle.std.proofs.Common.{arith, refl, sym, ap, inl, inr, ◌∙◌}
+use Rattle.std.proofs.lemmas.Bool.{cases_lt}
 use Rattle.zeus_base.specs.Limits.{KeepsLimits}
 use Rattle.zeus_base.specs.Nodes.{has}
 use Rattle.zeus_base.specs.declared.config.Config.{Config}
@@ -10,33 +9,30 @@ use Rattle.zeus_base.specs.declared.config.ObjectDecl.{ObjectDecl}
 use Rattle.zeus_base.specs.declared.order.Stream.{Stream}
 use Rattle.zeus_packet.specs.declared.letter.State.TheVariants.{Valid}
 use Rattle.zeus_packet.specs.declared.place.Place.{Place}
-use Rattle.zeus_packet.specs.declared.place.Proposal.{Proposal}
 use Rattle.zeus_packet.specs.declared.write.Content.{Content}
-use Rattle.zeus_txn.specs.Map.{content, no_content, declared_content, start_map}
+use Rattle.zeus_txn.specs.Map.{no_content, declared_content, start_map}
 use Rattle.zeus_txn.specs.Ops.{mentions, named}
 use Rattle.zeus_txn.specs.declared.tx.TxDecl.{TxDecl}
 use Rattle.zeus_txn.specs.declared.map.Versioned.{Versioned}
-use Rattle.zeus_model.specs.In.{In}
 use Rattle.zeus_model.specs.Tables.{nth, where_true}
 use Rattle.zeus_model.specs.Book.{EntryId, no_record, record_of}
-use Rattle.zeus_model.specs.Commit.{no_pending}
 use Rattle.zeus_model.specs.Serial.{serial_map, serial_replies}
 use Rattle.zeus_model.specs.Sound.{times, replies_of}
-use Rattle.zeus_model.specs.State.{Node, Slot, no_slot, copy, slot}
-use Rattle.zeus_model.specs.World.{no_node, no_tx, node, start, start_node, start_copy, start_entry}
+use Rattle.zeus_model.specs.State.{Node, no_slot, copy, slot}
+use Rattle.zeus_model.specs.World.{no_tx, start, start_node, start_copy, start_entry}
 use Rattle.zeus_model.specs.declared.state.Copy.{Copy}
 use Rattle.zeus_model.specs.declared.state.Current.{Current}
-use Rattle.machine_moves.specs.Scene.{Scene, scene, IsLive}
-use Rattle.machine_moves.proofs.Lists.{In-nothing, nth-past}
+use Rattle.machine_moves.specs.Scene.{scene, IsLive}
+use Rattle.machine_moves.proofs.Lists.{In-nothing}
 use Rattle.machine_moves.proofs.Start.{start_usual}
-use Rattle.ownership_safety.specs.Object.{HasGiven, chain_place}
-use Rattle.replication_safety.specs.Line.{Line, Has, end, top, IsAlive}
+use Rattle.ownership_safety.specs.Object.{chain_place}
+use Rattle.replication_safety.specs.Line.{Has, top, IsAlive}
 use Rattle.ownership_safety.proofs.Start.{start-ordered}
 use Rattle.replication_safety.proofs.Start.{start-Replicated}
 use Rattle.invariants.specs.Lines.{line}
-use Rattle.invariants.specs.Objects.{object, declared_entry, no_object}
-use Rattle.invariants.proofs.Start.{start_letters, start_inside, start_outside, start_config, start_within, nth-map, begins_object, begins_line, start_slots, nowhere_slots, kept_at_start, object_standing, nth-none}
-use Rattle.data_safety.specs.Story.{Story, Truth, story, tx_ops, txs_of, place_now, Lives}
+use Rattle.invariants.specs.Objects.{object, no_object}
+use Rattle.invariants.proofs.Start.{start_inside, start_outside, start_config, start_within, nth-map, begins_object, begins_line, start_slots, nowhere_slots, kept_at_start, object_standing, nth-none}
+use Rattle.data_safety.specs.Story.{Truth, story, txs_of, place_now, Lives}
 use Rattle.data_safety.specs.Faithful.{Faithful, IsCopied, IsEntered, IsBooked, left, content_of}
 
 -- nothing has been decided or has passed
@@ -111,10 +107,10 @@ begun_content n o c h = ap (λ (k : Copy). content_of k) (where-some (has n o.re
 copied_start : (c : Config) (txs : List TxDecl) → IsCopied (story (start c txs)) untold
 copied_start c txs = record {
   placed = λ n x within live.
-    rw (begun_copy c txs n x (rw (start_config c txs).0 at within) live, place_is c txs x) (begun_where n (nth no_object c.objects x));
+      rw (begun_copy c txs n x (rw (start_config c txs).0 at within) live, place_is c txs x) (begun_where n (nth no_object c.objects x));
   content = λ n x co within live is.
-    let h : x < length c.objects = rw (start_config c txs).0 at within in
-    inl (begun_content n (nth no_object c.objects x) co (sym (begun_copy c txs n x h live) ∙ is) ∙ sym (left_is c txs x h));
+      let h : x < length c.objects = rw (start_config c txs).0 at within in
+      inl (begun_content n (nth no_object c.objects x) co (sym (begun_copy c txs n x h live) ∙ is) ∙ sym (left_is c txs x h));
   taken = λ n t k w co within live h. absurd (nothing_had c txs t n k h);
 }
 

@@ -1,16 +1,13 @@
 -- What a step writes into the book, transaction by transaction.
-use Rattle.std.specs.Prelude.{ℕ, zero, suc, ◌≡◌, ◌≢◌, ◌==◌, ◌&&◌, ◌+◌, ◌≤◌, Bool, true, false, List, [], ◌∷◌, ◌++◌, Option, Some, None, is_some, if◌then◌else◌, ◌⊎◌}
+use Rattle.std.specs.Prelude.{ℕ, zero, suc, ◌≡◌, ◌≢◌, ◌==◌, ◌+◌, Bool, true, false, List, [], ◌∷◌, ◌++◌, Option, Some, None, if◌then◌else◌}
 use Rattle.std.proofs.Common.{arith, refl, sym, ap, ◌∙◌, inl, inr}
 use Rattle.std.proofs.lemmas.Bool.{cases_Bool, eqb-true, eq-eqb}
-use Rattle.std.proofs.lemmas.Bool.Decides.{nat_tests}
 use Rattle.zeus_base.specs.Order.{same_stream}
 use Rattle.zeus_base.specs.OrderLaws.{same_stream-true, same_stream-refl}
 use Rattle.zeus_base.specs.TableLaws.{nth-put_same, nth-put_other}
 use Rattle.zeus_base.specs.declared.order.Stream.{Stream}
-use Rattle.zeus_txn.specs.declared.reply.Reply.{Reply}
-use Rattle.zeus_model.specs.Tables.{nth, put}
-use Rattle.zeus_model.specs.Book.{Book, BookChange, Point, TxRecord, EntryId, no_record, record_of, reply_or, book_point, book_ack, point_once, ack_once, is_entry, tx_from, tx_of, pass_tx}
-use Rattle.invariants.proofs.ObjectSeen.{same_or_not}
+use Rattle.zeus_model.specs.Tables.{nth}
+use Rattle.zeus_model.specs.Book.{Book, TxRecord, EntryId, no_record, record_of, reply_or, book_point, book_ack, point_once, ack_once, is_entry, tx_from, tx_of, pass_tx}
 
 -- the transaction of an entry is found
 

@@ -1,7 +1,7 @@
 -- A write transaction is committed: all stays faithful.
-use Rattle.std.specs.Prelude.{ℕ, zero, suc, ◌≡◌, ◌≢◌, ◌+◌, ◌-◌, ◌<◌, ◌≤◌, Bool, true, false, List, [], ◌∷◌, ◌++◌, length, Option, Some, None, is_some, ◌⊎◌}
+use Rattle.std.specs.Prelude.{ℕ, ◌≡◌, ◌≢◌, ◌+◌, ◌-◌, ◌<◌, ◌≤◌, true, List, [], length, ◌⊎◌}
 use Rattle.std.proofs.Common.{arith, refl, sym, ap, subst, ◌∙◌, inl, inr, le_refl}
-use Rattle.zeus_base.specs.Nodes.{has, without}
+use Rattle.zeus_base.specs.Nodes.{has}
 use Rattle.zeus_base.specs.NodeLaws.{has-without_other}
 use Rattle.zeus_base.specs.Limits.{KeepsLimits}
 use Rattle.zeus_base.specs.declared.config.Config.{Config}
@@ -22,19 +22,19 @@ use Rattle.zeus_model.specs.Commit.{no_pending}
 use Rattle.zeus_model.specs.Local.{run_here, new_writes, replicas_of}
 use Rattle.zeus_model.specs.declared.state.Current.{Current}
 use Rattle.zeus_model.specs.declared.state.Pending.{Pending}
-use Rattle.machine_moves.specs.Scene.{Scene, IsLive, view}
-use Rattle.machine_moves.specs.Move.{Move, commits}
+use Rattle.machine_moves.specs.Scene.{IsLive, view}
+use Rattle.machine_moves.specs.Move.{commits}
 use Rattle.machine_moves.proofs.Steady.{IsSteady, move_keep}
 use Rattle.ownership_safety.specs.Object.{HasGiven}
 use Rattle.ownership_safety.proofs.Owner.{owner-unacked}
-use Rattle.replication_safety.specs.Line.{Line, Entry, Stores, IsAlive, end}
+use Rattle.replication_safety.specs.Line.{Stores, IsAlive, end}
 use Rattle.invariants.specs.Lines.{line}
 use Rattle.invariants.specs.Objects.{object}
 use Rattle.invariants.proofs.LineEntries.{committing}
 use Rattle.invariants.proofs.ObjectSeen.{same_or_not}
-use Rattle.data_safety.specs.Story.{Story, Truth, tx_ops, place_now, pending_at, Lives, running}
+use Rattle.data_safety.specs.Story.{Story, Truth, tx_ops, place_now, pending_at, Lives}
 use Rattle.data_safety.specs.Faithful.{Faithful, IsEntered, IsClean, IsRun, left, found_at, raised}
-use Rattle.data_safety.proofs.Consequences.{home-done, lives-pending, lives-named}
+use Rattle.data_safety.proofs.Consequences.{home-done, lives-pending}
 use Rattle.data_safety.proofs.Running.{owns-latest, owns-owner}
 use Rattle.data_safety.proofs.SerialContents.{running-agree, raised-agree}
 use Rattle.data_safety.proofs.SerialRun.{IsRun-agree, tx_ops-same}

@@ -1,18 +1,16 @@
 -- The book after a commit.
-use Rattle.std.specs.Prelude.{ℕ, zero, suc, ◌≡◌, ◌≢◌, ◌+◌, ◌-◌, ◌<◌, ◌≤◌, ◌↔◌, Bool, true, false, List, [], ◌∷◌, ◌++◌, length, Option, Some, None, is_some, ◌⊎◌}
+use Rattle.std.specs.Prelude.{ℕ, ◌≡◌, ◌≢◌, ◌+◌, ◌<◌, ◌≤◌, ◌↔◌, true, false, List, length, Option, Some, None, is_some, ◌⊎◌}
 use Rattle.std.proofs.Common.{arith, refl, sym, ap, subst, ◌∙◌, inl, inr}
 use Rattle.std.proofs.lemmas.Bool.{cases_lt}
 use Rattle.zeus_base.specs.declared.config.Config.{Config}
 use Rattle.zeus_base.specs.declared.order.Stream.{Stream}
-use Rattle.zeus_txn.specs.Ops.{mentions, named, is_write}
+use Rattle.zeus_txn.specs.Ops.{named, is_write}
 use Rattle.zeus_txn.specs.declared.ops.Op.{Op}
-use Rattle.zeus_txn.specs.declared.reply.Reply.{Reply}
 use Rattle.zeus_txn.specs.declared.tx.TxDecl.{TxDecl}
 use Rattle.zeus_model.specs.Tables.{nth}
-use Rattle.zeus_model.specs.State.{Node, Slot, slot, next_number}
+use Rattle.zeus_model.specs.State.{Slot, slot, next_number}
 use Rattle.zeus_model.specs.Commit.{no_pending}
 use Rattle.zeus_model.specs.Book.{Book, Point, TxRecord, EntryId, record_of}
-use Rattle.zeus_model.specs.Local.{run_here}
 use Rattle.zeus_model.specs.Serial.{start_map, serial_replies}
 use Rattle.zeus_model.specs.Sound.{replies_of, times}
 use Rattle.zeus_model.specs.World.{no_tx}
@@ -26,7 +24,7 @@ use Rattle.data_safety.specs.Story.{Story, Truth, tx_ops, txs_of}
 use Rattle.data_safety.specs.Faithful.{Faithful, IsBooked}
 use Rattle.data_safety.proofs.Consequences.{home-end}
 use Rattle.data_safety.proofs.SerialRun.{tx_ops-same, txs_of-same}
-use Rattle.data_safety.proofs.CommitSlots.{CommitsTx, made, slot_after, commit-slot, commit-slots, commit-done, commit-was, commit-end, commit-end_here, commit-end_away, commit-record, commit-record_other}
+use Rattle.data_safety.proofs.CommitSlots.{CommitsTx, commit-slot, commit-slots, commit-done, commit-was, commit-end, commit-end_here, commit-end_away, commit-record, commit-record_other}
 
 acked_none : (a p : Option ℕ) → ((step : ℕ) → a ≡ Some step → p ≡ Some step) → p ≡ None → a ≡ None
 acked_none None p same none = refl

@@ -1,6 +1,6 @@
 -- What a node that may commit has: it owns what the transaction names, and no other slot holds it.
-use Rattle.std.specs.Prelude.{ℕ, zero, suc, ◌≡◌, ◌≢◌, ◌==◌, ◌||◌, ◌<◌, Bool, true, false, not, List, [], ◌∷◌, length, Option, Some, None, if◌then◌else◌, ◌⊎◌}
-use Rattle.std.proofs.Common.{arith, refl, sym, ap, ◌∙◌, inl, inr}
+use Rattle.std.specs.Prelude.{ℕ, suc, ◌≡◌, ◌==◌, ◌<◌, Bool, true, false, not, List, [], ◌∷◌, length, Option, Some, None, ◌⊎◌}
+use Rattle.std.proofs.Common.{arith, refl, ap, ◌∙◌, inl, inr}
 use Rattle.std.proofs.lemmas.Bool.{cases_Bool, eqb-true}
 use Rattle.zeus_txn.specs.Ops.{mentions, named}
 use Rattle.zeus_txn.specs.declared.ops.Op.{Op}
@@ -8,7 +8,6 @@ use Rattle.zeus_model.specs.Tables.{nth, or_else, where_true, first_of}
 use Rattle.zeus_model.specs.State.{Node, slot, owns, holder, pending_names}
 use Rattle.zeus_model.specs.Commit.{no_pending}
 use Rattle.zeus_model.specs.Local.{write_cause, owner_cause, holder_cause, held_elsewhere}
-use Rattle.zeus_model.specs.declared.answer.Tried.{Tried}
 use Rattle.zeus_model.specs.declared.state.Pending.{Pending}
 use Rattle.machine_moves.proofs.Causes.{or_else-none, where_true-none}
 

@@ -1,13 +1,11 @@
 -- What a committed transaction finds at its owner: what the entries before it leave.
-use Rattle.std.specs.Prelude.{ℕ, zero, suc, ◌≡◌, ◌≢◌, ◌==◌, ◌||◌, ◌+◌, ◌-◌, ◌<◌, ◌≤◌, Bool, true, false, List, [], ◌∷◌, ◌++◌, length, Option, Some, None, ◌⊎◌}
-use Rattle.std.proofs.Common.{arith, refl, sym, ap, subst, ◌∙◌, inl, inr}
-use Rattle.std.proofs.lemmas.Bool.{cases_Bool, eq-eqb}
+use Rattle.std.specs.Prelude.{ℕ, ◌≡◌, ◌≢◌, ◌+◌, ◌<◌, true, List, [], ◌∷◌, length, Option, Some}
+use Rattle.std.proofs.Common.{arith, refl, sym, ap, ◌∙◌, inl, inr}
+use Rattle.std.proofs.lemmas.Bool.{eq-eqb}
 use Rattle.std.proofs.lemmas.Bool.Decides.{nat_tests}
-use Rattle.zeus_base.specs.Nodes.{has, without, join}
-use Rattle.zeus_base.specs.NodeLaws.{has-join, has-without_other}
-use Rattle.zeus_base.specs.declared.order.Stream.{Stream}
+use Rattle.zeus_base.specs.Nodes.{has}
+use Rattle.zeus_base.specs.NodeLaws.{has-join}
 use Rattle.zeus_base.specs.declared.value.Value.{Value}
-use Rattle.zeus_packet.specs.declared.place.Place.{Place}
 use Rattle.zeus_packet.specs.declared.write.Content.{Content}
 use Rattle.zeus_packet.specs.declared.write.Write.{Write}
 use Rattle.zeus_txn.specs.Ops.{mentions, named}
@@ -24,11 +22,11 @@ use Rattle.zeus_model.specs.declared.state.Copy.{Copy}
 use Rattle.zeus_model.specs.declared.state.Current.{Current}
 use Rattle.replication_safety.specs.Line.{end}
 use Rattle.invariants.specs.Lines.{line}
-use Rattle.data_safety.specs.Story.{Story, Truth, tx_ops, place_now, pending_at}
-use Rattle.data_safety.specs.Faithful.{Faithful, content_of, found_at, raised, left}
+use Rattle.data_safety.specs.Story.{Story, Truth, tx_ops}
+use Rattle.data_safety.specs.Faithful.{Faithful, content_of, found_at, raised}
 use Rattle.data_safety.proofs.Names.{IsOnce, raised-from, raised-once, run-named, run-once}
 use Rattle.data_safety.proofs.Consequences.{unheld}
-use Rattle.data_safety.proofs.Running.{owner-copy, owns-latest}
+use Rattle.data_safety.proofs.Running.{owner-copy}
 use Rattle.data_safety.proofs.CommitCauses.{cause-owns, cause-held, holder-names}
 use Rattle.data_safety.proofs.CommitSlots.{CommitsTx}
 

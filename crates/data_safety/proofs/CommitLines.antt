@@ -1,6 +1,6 @@
 -- Streams and copies after a commit.
-use Rattle.std.specs.Prelude.{ℕ, zero, suc, ◌≡◌, ◌≢◌, ◌+◌, ◌-◌, ◌<◌, ◌≤◌, Bool, true, false, List, [], ◌∷◌, ◌++◌, length, Option, Some, None, is_some, ◌⊎◌}
-use Rattle.std.proofs.Common.{arith, refl, sym, ap, subst, ◌∙◌, inl, inr, le_refl}
+use Rattle.std.specs.Prelude.{ℕ, ◌≡◌, ◌≢◌, ◌+◌, ◌<◌, ◌≤◌, List, length, Option, Some, None, is_some, ◌⊎◌}
+use Rattle.std.proofs.Common.{arith, refl, sym, ap, subst, ◌∙◌, inl, inr}
 use Rattle.zeus_base.specs.Nodes.{has}
 use Rattle.zeus_base.specs.declared.order.Stream.{Stream}
 use Rattle.zeus_packet.specs.declared.letter.State.{State}
@@ -8,10 +8,9 @@ use Rattle.zeus_packet.specs.declared.letter.State.TheVariants.{Valid, Write}
 use Rattle.zeus_packet.specs.declared.place.Place.{Place}
 use Rattle.zeus_packet.specs.declared.write.Content.{Content}
 use Rattle.zeus_packet.specs.declared.write.Write.{Write as WriteOf}
-use Rattle.zeus_txn.specs.Ops.{mentions, named}
 use Rattle.zeus_model.specs.In.{In}
 use Rattle.zeus_model.specs.Tables.{nth}
-use Rattle.zeus_model.specs.State.{Node, copy, owns}
+use Rattle.zeus_model.specs.State.{Node, copy}
 use Rattle.zeus_model.specs.Book.{Book}
 use Rattle.zeus_model.specs.Commit.{each_write}
 use Rattle.zeus_model.specs.Local.{run_here, new_writes, rewritten_copy}
@@ -20,7 +19,7 @@ use Rattle.zeus_model.specs.declared.state.Current.{Current}
 use Rattle.zeus_model.specs.declared.state.Kept.{Kept}
 use Rattle.machine_moves.specs.Scene.{IsLive}
 use Rattle.machine_moves.proofs.Steady.{IsNumbered-steady}
-use Rattle.replication_safety.specs.Line.{Line, Letter as Said, Has, IsAlive, Entry, kept_at, top, end}
+use Rattle.replication_safety.specs.Line.{Line, Letter as Said, Has, Entry, kept_at, top, end}
 use Rattle.replication_safety.specs.Moves as moves
 use Rattle.replication_safety.specs.Replicated.{Replicated}
 use Rattle.replication_safety.proofs.Alive.{alive_Commits}
@@ -30,8 +29,8 @@ use Rattle.invariants.proofs.LineEntries.{committing, entry_made, commit_here, c
 use Rattle.invariants.proofs.LineMoves.{line-home}
 use Rattle.invariants.proofs.LineSeen.{stream_cases}
 use Rattle.invariants.proofs.ObjectSeen.{same_or_not}
-use Rattle.data_safety.specs.Story.{Story, Truth, place_now, Lives, overwritten}
-use Rattle.data_safety.specs.Faithful.{Faithful, IsCopied, IsNewer, IsWritten, left, content_of, found_at}
+use Rattle.data_safety.specs.Story.{Story, Truth, Lives, overwritten}
+use Rattle.data_safety.specs.Faithful.{Faithful, IsCopied, IsNewer, IsWritten, left, content_of}
 use Rattle.data_safety.proofs.Names.{IsOnce}
 use Rattle.data_safety.proofs.Running.{written_content, overwritten-in}
 use Rattle.data_safety.proofs.SerialRun.{left-same}

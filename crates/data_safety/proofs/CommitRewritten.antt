@@ -1,8 +1,7 @@
 -- What the own copies are after a commit.
-use Rattle.std.specs.Prelude.{ℕ, ◌≡◌, ◌≢◌, Bool, true, false, List, [], ◌∷◌, Option, Some, None, is_some, ◌⊎◌}
-use Rattle.std.proofs.Common.{arith, refl, sym, ap, ◌∙◌, inl, inr}
+use Rattle.std.specs.Prelude.{ℕ, ◌≡◌, ◌≢◌, List, [], ◌∷◌, Option, Some, None, is_some, ◌⊎◌}
+use Rattle.std.proofs.Common.{refl, sym, ap, ◌∙◌, inl, inr}
 use Rattle.zeus_base.specs.TableLaws.{nth-put_same, nth-put_other}
-use Rattle.zeus_packet.specs.declared.letter.State.{State}
 use Rattle.zeus_packet.specs.declared.letter.State.TheVariants.{Write}
 use Rattle.zeus_packet.specs.declared.write.Write.{Write as WriteOf}
 use Rattle.zeus_model.specs.In.{In, here, there}

@@ -1,29 +1,26 @@
 -- A write transaction is committed: what becomes of slots, streams and records.
-use Rattle.std.specs.Prelude.{ℕ, zero, suc, ◌≡◌, ◌≢◌, ◌+◌, ◌-◌, ◌<◌, ◌≤◌, Bool, true, false, List, [], ◌∷◌, ◌++◌, length, Option, Some, None, is_some, ◌⊎◌}
-use Rattle.std.proofs.Common.{arith, refl, sym, ap, subst, ◌∙◌, inl, inr, length-append}
+use Rattle.std.specs.Prelude.{ℕ, suc, ◌≡◌, ◌≢◌, ◌+◌, ◌-◌, ◌<◌, ◌≤◌, true, List, [], ◌∷◌, ◌++◌, length, Some, None, ◌⊎◌}
+use Rattle.std.proofs.Common.{arith, sym, ap, subst, ◌∙◌, inl, inr, length-append}
 use Rattle.std.proofs.lemmas.Bool.{cases_lt}
-use Rattle.zeus_base.specs.Nodes.{has, without}
+use Rattle.zeus_base.specs.Nodes.{without}
 use Rattle.zeus_base.specs.TableLaws.{nth-append_old, nth-append_new, nth-put_same, nth-put_other}
 use Rattle.zeus_base.specs.declared.order.Stream.{Stream}
 use Rattle.zeus_txn.specs.Ops.{named, is_write}
-use Rattle.zeus_model.specs.Tables.{nth, put}
-use Rattle.zeus_model.specs.State.{Node, Slot, no_slot, slot, owns, with_copies, next_number}
+use Rattle.zeus_model.specs.Tables.{nth}
+use Rattle.zeus_model.specs.State.{Node, Slot, slot, with_copies, next_number}
 use Rattle.zeus_model.specs.Commit.{no_pending, each_write}
-use Rattle.zeus_model.specs.Book.{Book, TxRecord, EntryId, no_record, record_of, book_commit}
+use Rattle.zeus_model.specs.Book.{Book, no_record, record_of, book_commit}
 use Rattle.zeus_model.specs.Local.{write_cause, run_here, new_writes, replicas_of, rewritten_copy}
 use Rattle.zeus_model.specs.declared.state.Current.{Current}
 use Rattle.zeus_model.specs.declared.state.Pending.{Pending}
-use Rattle.machine_moves.specs.Scene.{Scene, IsLive, Changes, nothing}
-use Rattle.machine_moves.specs.Move.{Move, commits}
-use Rattle.machine_moves.proofs.Steady.{IsSteady, move_keep}
-use Rattle.replication_safety.specs.Line.{Line, Has, end}
+use Rattle.machine_moves.specs.Scene.{Changes, nothing}
+use Rattle.replication_safety.specs.Line.{end}
 use Rattle.invariants.specs.Lines.{line}
-use Rattle.invariants.proofs.LineEntries.{committing, entry_made}
+use Rattle.invariants.proofs.LineEntries.{committing}
 use Rattle.invariants.proofs.LineMoves.{with_slot-same, with_slot-other}
 use Rattle.invariants.proofs.LineSeen.{stream_cases}
 use Rattle.invariants.proofs.ObjectSeen.{same_or_not}
-use Rattle.data_safety.specs.Story.{Story, Truth, pending_at}
-use Rattle.data_safety.specs.Faithful.{Faithful}
+use Rattle.data_safety.specs.Story.{Story, pending_at}
 use Rattle.data_safety.proofs.Consequences.{home-end}
 use Rattle.data_safety.proofs.PassOwn.{stream_from}
 

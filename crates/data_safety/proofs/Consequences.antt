@@ -1,7 +1,7 @@
 -- What follows from what holds at one moment: who is named where, when an object is clean, and what copies are then.
-use Rattle.std.specs.Prelude.{ℕ, zero, suc, ◌≡◌, ◌≢◌, ◌==◌, ◌+◌, ◌-◌, ◌<◌, ◌≤◌, Bool, true, false, List, [], ◌∷◌, map, length, Option, Some, None, is_some, ◌⊎◌}
+use Rattle.std.specs.Prelude.{ℕ, zero, suc, ◌≡◌, ◌≢◌, ◌==◌, ◌+◌, ◌-◌, ◌<◌, ◌≤◌, Bool, true, false, List, [], ◌∷◌, map, length, Option, Some, None}
 use Rattle.std.proofs.Common.{arith, refl, sym, ap, subst, ◌∙◌, inl, inr}
-use Rattle.std.proofs.lemmas.Bool.{cases_Bool, cases_lt, eq-eqb, true≢false}
+use Rattle.std.proofs.lemmas.Bool.{cases_Bool, cases_lt, true≢false}
 use Rattle.std.proofs.lemmas.Bool.Decides.{nat_tests}
 use Rattle.std.proofs.lemmas.List.{length-map}
 use Rattle.zeus_base.specs.Nodes.{has, is_subset}
@@ -13,28 +13,28 @@ use Rattle.zeus_packet.specs.declared.write.Content.{Content}
 use Rattle.zeus_packet.specs.declared.write.Write.{Write}
 use Rattle.zeus_txn.specs.Ops.{mentions, named}
 use Rattle.zeus_txn.specs.Run.{run}
-use Rattle.zeus_model.specs.In.{In, here, there}
-use Rattle.zeus_model.specs.Tables.{nth, or_else, where_true, first_of, numbers_from, below}
+use Rattle.zeus_model.specs.In.{In}
+use Rattle.zeus_model.specs.Tables.{nth, or_else, where_true, first_of, numbers_from}
 use Rattle.zeus_model.specs.State.{Node, no_slot, copy, slot, holder, pending_names, is_open}
 use Rattle.zeus_model.specs.Commit.{as_kept, no_kept, no_pending}
-use Rattle.zeus_model.specs.Ownership.{is_node, is_source, unready_cause, missing_cause, held_cause, state_cause}
+use Rattle.zeus_model.specs.Ownership.{is_node, is_source, unready_cause, missing_cause, held_cause}
 use Rattle.zeus_model.specs.declared.state.Copy.{Copy}
 use Rattle.zeus_model.specs.declared.state.Pending.{Pending}
-use Rattle.machine_moves.specs.Scene.{Scene, IsLive, IsNumbered, view}
+use Rattle.machine_moves.specs.Scene.{Scene, IsLive, IsNumbered}
 use Rattle.machine_moves.specs.Move.{own_kept}
 use Rattle.machine_moves.proofs.Causes.{or_else-none}
 use Rattle.machine_moves.proofs.Lists.{nth-past}
-use Rattle.machine_moves.proofs.Steady.{IsSteady, IsKnown, IsNumbered-steady}
+use Rattle.machine_moves.proofs.Steady.{IsNumbered-steady}
 use Rattle.ownership_safety.proofs.Arbiters.{source-owner}
-use Rattle.replication_safety.specs.Line.{Line, Has, IsMember, HasReported, IsAlive, end, entry, entry_of, kept_at, Entry}
+use Rattle.replication_safety.specs.Line.{Has, IsAlive, end, entry, entry_of, kept_at, Entry}
 use Rattle.replication_safety.specs.Replicated.{Replicated}
-use Rattle.replication_safety.proofs.Consequences.{content-agrees, kept-alive, own-alive, open-reported, replay-over}
+use Rattle.replication_safety.proofs.Consequences.{content-agrees, kept-alive, open-reported, replay-over}
 use Rattle.invariants.specs.Lines.{line}
 use Rattle.invariants.proofs.LineMoves.{line-home, line-stopped}
 use Rattle.invariants.proofs.LineSeen.{own_done_is, own_kept_is, stream_cases}
 use Rattle.invariants.proofs.ObjectSeen.{same_or_not}
 use Rattle.data_safety.specs.Story.{Story, Truth, tx_ops, place_now, pending_at, Lives}
-use Rattle.data_safety.specs.Faithful.{Faithful, IsClean, IsNewer, IsWritten, IsRun, left, content_of, raised, found_at}
+use Rattle.data_safety.specs.Faithful.{Faithful, IsClean, IsNewer, IsRun, left, content_of, raised, found_at}
 use Rattle.data_safety.proofs.Names.{run-named, raised-from}
 
 -- ---- the entries that a stream's own node keeps

@@ -1,5 +1,5 @@
 -- Streams that advance: what a node becomes does not depend on the order in which they do.
-use Rattle.std.specs.Prelude.{ℕ, zero, suc, ◌≡◌, ◌≢◌, ◌-◌, Bool, true, false, ◌==◌, List, [], ◌∷◌, Option, Some, None, take, drop, map, ◌⊎◌, if◌then◌else◌}
+use Rattle.std.specs.Prelude.{ℕ, zero, suc, ◌≡◌, ◌≢◌, ◌-◌, ◌==◌, List, [], ◌∷◌, Option, Some, None, take, map, ◌⊎◌, if◌then◌else◌}
 use Rattle.std.proofs.Common.{arith, refl, sym, ap, ◌∙◌, inl, inr, eq-eqb}
 use Rattle.std.proofs.lemmas.Bool.{cases_eq, ne_eqb}
 use Rattle.zeus_base.specs.declared.order.Stream.{Stream}
@@ -48,13 +48,13 @@ unfolding validated
 validated_at-swap copies v w =
     elim (cases_eq v.obj w.obj) [
       | inl same ↦ rw same
-      (same_twice copies w.obj (validated v) (validated w)
-      ∙ ap (λ (c : Option Copy). put None copies w.obj c) (validated-swap w v (nth None copies w.obj))
-      ∙ sym (same_twice copies w.obj (validated w) (validated v)))
+          (same_twice copies w.obj (validated v) (validated w)
+          ∙ ap (λ (c : Option Copy). put None copies w.obj c) (validated-swap w v (nth None copies w.obj))
+          ∙ sym (same_twice copies w.obj (validated w) (validated v)))
       | inr other ↦
-      other_twice copies v.obj w.obj (validated v) (validated w) other
-      ∙ put-swap None copies v.obj w.obj (validated v (nth None copies v.obj)) (validated w (nth None copies w.obj)) other
-      ∙ sym (other_twice copies w.obj v.obj (validated w) (validated v) (λ e. other (sym e)))
+          other_twice copies v.obj w.obj (validated v) (validated w) other
+          ∙ put-swap None copies v.obj w.obj (validated v (nth None copies v.obj)) (validated w (nth None copies w.obj)) other
+          ∙ sym (other_twice copies w.obj v.obj (validated w) (validated v) (λ e. other (sym e)))
     ]
 
 validated_first : (copies : List (Option Copy)) (w : Write) (ws : List Write) → each_write validated (validated_at copies w) ws ≡ validated_at (each_write validated copies ws) w
@@ -104,9 +104,9 @@ rows_swap logs t u a b (inl ne) = rows_other logs t u a b ne
 rows_swap logs t u a b (inr ne) =
     elim (cases_eq t.node u.node) [
       | inl same ↦ rw same
-      (rows_same logs u.node t.slot u.slot a b
-      ∙ ap (λ (row : List StreamLog). put [] logs u.node row) (put-swap no_log (nth [] logs u.node) t.slot u.slot a b ne)
-      ∙ sym (rows_same logs u.node u.slot t.slot b a))
+          (rows_same logs u.node t.slot u.slot a b
+          ∙ ap (λ (row : List StreamLog). put [] logs u.node row) (put-swap no_log (nth [] logs u.node) t.slot u.slot a b ne)
+          ∙ sym (rows_same logs u.node u.slot t.slot b a))
       | inr other ↦ rows_other logs t u a b other
     ]
 
@@ -149,23 +149,23 @@ advanced-swap m p q ne =
     elim (cases_eq p.stream.node m.me) [
       | inl own ↦ elim (cases_eq q.stream.node m.me) [
         | inl both ↦ rw (advanced-own m p own, advanced-own m q both)
-        (advanced-own (pass_own m p.stream.slot (p.after - p.first)) q both
-        ∙ own_swap m p.stream.slot q.stream.slot (p.after - p.first) (q.after - q.first) (slots_apart p.stream q.stream ne (own ∙ sym both))
-        ∙ sym (advanced-own (pass_own m q.stream.slot (q.after - q.first)) p own))
+            (advanced-own (pass_own m p.stream.slot (p.after - p.first)) q both
+            ∙ own_swap m p.stream.slot q.stream.slot (p.after - p.first) (q.after - q.first) (slots_apart p.stream q.stream ne (own ∙ sym both))
+            ∙ sym (advanced-own (pass_own m q.stream.slot (q.after - q.first)) p own))
         | inr other ↦ rw (advanced-own m p own, advanced-kept m q other)
-        (advanced-kept (pass_own m p.stream.slot (p.after - p.first)) q other
-        ∙ mixed_swap m p.stream.slot q.stream (p.after - p.first) (q.after - q.first)
-        ∙ sym (advanced-own (pass_kept m q.stream (q.after - q.first)) p own))
+            (advanced-kept (pass_own m p.stream.slot (p.after - p.first)) q other
+            ∙ mixed_swap m p.stream.slot q.stream (p.after - p.first) (q.after - q.first)
+            ∙ sym (advanced-own (pass_kept m q.stream (q.after - q.first)) p own))
       ]
       | inr foreign ↦ elim (cases_eq q.stream.node m.me) [
         | inl own ↦ rw (advanced-kept m p foreign, advanced-own m q own)
-        (advanced-own (pass_kept m p.stream (p.after - p.first)) q own
-        ∙ sym (mixed_swap m q.stream.slot p.stream (q.after - q.first) (p.after - p.first))
-        ∙ sym (advanced-kept (pass_own m q.stream.slot (q.after - q.first)) p foreign))
+            (advanced-own (pass_kept m p.stream (p.after - p.first)) q own
+            ∙ sym (mixed_swap m q.stream.slot p.stream (q.after - q.first) (p.after - p.first))
+            ∙ sym (advanced-kept (pass_own m q.stream.slot (q.after - q.first)) p foreign))
         | inr other ↦ rw (advanced-kept m p foreign, advanced-kept m q other)
-        (advanced-kept (pass_kept m p.stream (p.after - p.first)) q other
-        ∙ kept_swap m p.stream q.stream (p.after - p.first) (q.after - q.first) (two_streams p.stream q.stream ne)
-        ∙ sym (advanced-kept (pass_kept m q.stream (q.after - q.first)) p foreign))
+            (advanced-kept (pass_kept m p.stream (p.after - p.first)) q other
+            ∙ kept_swap m p.stream q.stream (p.after - p.first) (q.after - q.first) (two_streams p.stream q.stream ne)
+            ∙ sym (advanced-kept (pass_kept m q.stream (q.after - q.first)) p foreign))
       ]
     ]
   where

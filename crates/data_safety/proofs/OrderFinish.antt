@@ -1,21 +1,19 @@
 -- The passes of a finish: own streams, then those of nodes that are no members, none of them twice.
-use Rattle.std.specs.Prelude.{ℕ, zero, suc, ◌≡◌, ◌≢◌, ◌+◌, ◌<◌, ◌≤◌, Bool, true, false, ◌&&◌, not, List, [], ◌∷◌, ◌++◌, length, ◌⊎◌, if◌then◌else◌}
+use Rattle.std.specs.Prelude.{ℕ, zero, suc, ◌≡◌, ◌≢◌, ◌≤◌, Bool, true, false, List, [], ◌∷◌, ◌++◌, length, ◌⊎◌, if◌then◌else◌}
 use Rattle.std.proofs.Common.{arith, refl, sym, ap, ◌∙◌, inl, inr}
-use Rattle.std.proofs.lemmas.Bool.{cond_both, cases_eq}
 use Rattle.zeus_base.specs.Nodes.{has}
 use Rattle.zeus_base.specs.declared.order.Stream.{Stream}
 use Rattle.zeus_base.specs.declared.step.Passed.{Passed}
-use Rattle.zeus_packet.specs.declared.letter.Letter.{Letter}
 use Rattle.zeus_model.specs.In.{In, here, there}
 use Rattle.zeus_model.specs.Tables.{below, numbers_from}
 use Rattle.zeus_model.specs.State.{Node, own_stream}
-use Rattle.zeus_model.specs.Act.{Act, joined, in_turn, still}
-use Rattle.zeus_model.specs.Commit.{advance_own, advance_kept, streams_of, streams_outside, outside, none_stored, report, finish}
+use Rattle.zeus_model.specs.Act.{Act, joined, in_turn}
+use Rattle.zeus_model.specs.Commit.{advance_own, advance_kept, streams_of, streams_outside, outside}
 use Rattle.machine_moves.proofs.Lists.{In-append, In-nothing}
-use Rattle.machine_moves.proofs.Within.{Keeps, Keeps-refl, Keeps-trans}
+use Rattle.machine_moves.proofs.Within.{Keeps-trans}
 use Rattle.machine_moves.proofs.Finish.{streams_outside-node}
 use Rattle.data_safety.proofs.OrderAdvance.{advanced, all_advanced}
-use Rattle.data_safety.proofs.OrderSorted.{Apart, Apart-append, all_advanced-append, IsNew}
+use Rattle.data_safety.proofs.OrderSorted.{Apart-append, all_advanced-append}
 use Rattle.data_safety.proofs.OrderTurns.{IsDue, IsDue-before, Grown-trans, round_said, own_turn, kept_turn, IsRound, still_round, turn_then}
 
 -- ---- own streams

@@ -1,6 +1,6 @@
 -- Passes of different streams, sorted: the same passes, and the node becomes the same.
-use Rattle.std.specs.Prelude.{ℕ, ◌≡◌, ◌≢◌, Bool, true, false, List, [], ◌∷◌, ◌++◌, ◌⊎◌, if◌then◌else◌}
-use Rattle.std.proofs.Common.{arith, refl, sym, ap, ◌∙◌, inl, inr}
+use Rattle.std.specs.Prelude.{◌≡◌, ◌≢◌, List, [], ◌∷◌, ◌++◌, ◌⊎◌}
+use Rattle.std.proofs.Common.{refl, sym, ap, ◌∙◌, inl, inr}
 use Rattle.std.proofs.lemmas.Bool.{cond_both}
 use Rattle.zeus_base.specs.Order.{is_before}
 use Rattle.zeus_base.specs.declared.step.Passed.{Passed}
@@ -30,6 +30,7 @@ inserted-In p q (r ∷ ps) m =
     first : In q (p ∷ r ∷ ps) → (q ≡ p) ⊎ In q (r ∷ ps)
     first (here _ _ e) = inl e
     first (there _ _ i) = inr i
+
     later : In q (r ∷ inserted p ps) → (In q (inserted p ps) → (q ≡ p) ⊎ In q ps) → (q ≡ p) ⊎ In q (r ∷ ps)
     later (here _ _ e) go = inr (here r ps e)
     later (there _ _ i) go = elim (go i) [ inl same ↦ inl same | inr older ↦ inr (there r ps older) ]

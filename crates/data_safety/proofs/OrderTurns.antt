@@ -1,6 +1,6 @@
 -- What the streams that advance in turn make of a node, which of their entries pass, and what is said of it.
-use Rattle.std.specs.Prelude.{ℕ, zero, suc, ◌≡◌, ◌≢◌, ◌+◌, ◌-◌, ◌<◌, ◌≤◌, Bool, true, false, List, [], ◌∷◌, ◌++◌, length, take, map, ◌⊎◌}
-use Rattle.std.proofs.Common.{arith, refl, sym, ap, ◌∙◌, inl, inr, subst}
+use Rattle.std.specs.Prelude.{ℕ, zero, suc, ◌≡◌, ◌≢◌, ◌+◌, ◌-◌, ◌≤◌, true, false, List, [], ◌∷◌, ◌++◌, length, take, map, ◌⊎◌}
+use Rattle.std.proofs.Common.{arith, refl, sym, ap, ◌∙◌, inl, inr}
 use Rattle.std.proofs.lemmas.Bool.{cases_eq}
 use Rattle.zeus_base.specs.Nodes.{has, without, meet, is_subset}
 use Rattle.zeus_base.specs.declared.order.Stream.{Stream}
@@ -9,14 +9,13 @@ use Rattle.zeus_packet.specs.declared.letter.Body.TheVariants.{RVal}
 use Rattle.zeus_packet.specs.declared.letter.Letter.{Letter}
 use Rattle.zeus_model.specs.In.{In, here, there}
 use Rattle.zeus_model.specs.Tables.{front}
-use Rattle.zeus_model.specs.declared.state.Kept.{Kept}
-use Rattle.zeus_model.specs.State.{Node, Slot, StreamLog, slot, log, own_stream}
-use Rattle.zeus_model.specs.Act.{Act, still, joined, in_turn, letter}
+use Rattle.zeus_model.specs.State.{Node, slot, log, own_stream}
+use Rattle.zeus_model.specs.Act.{Act, still, joined, letter}
 use Rattle.zeus_model.specs.Commit.{as_kept, passes, passing, followers_of, told, pass_own, advance_own_by, advance_own, pass_kept, advance_kept_by, advance_kept}
 use Rattle.machine_moves.specs.Move.{own_kept, IsTellable, own_passed, kept_passed}
 use Rattle.machine_moves.proofs.Lists.{In-append, In-nothing}
-use Rattle.machine_moves.proofs.Within.{Keeps, Keeps-refl, Keeps-trans, Keeps-pass_own, Keeps-pass_kept, slot-with_slot_same, slot-with_slot_other, log-with_log_same, log-with_log_other, stream_cases}
-use Rattle.machine_moves.proofs.Passing.{to_each-each, front-length, length-take_most, pass_own-slot, pass_kept-log, own_kept-length, without-other, without-member, meet-right}
+use Rattle.machine_moves.proofs.Within.{Keeps, Keeps-refl, Keeps-trans, Keeps-pass_own, Keeps-pass_kept, slot-with_slot_other, log-with_log_other, stream_cases}
+use Rattle.machine_moves.proofs.Passing.{to_each-each, front-length, length-take_most, pass_own-slot, pass_kept-log, without-other, without-member, meet-right}
 use Rattle.data_safety.proofs.OrderAdvance.{advanced, all_advanced, advanced-own, advanced-kept, two_streams}
 use Rattle.data_safety.proofs.OrderSorted.{Apart}
 

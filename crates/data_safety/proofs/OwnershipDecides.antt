@@ -1,34 +1,28 @@
 -- A node that decides a proposal keeps what holds of a story: a placement changes only while the object is clean.
-use Rattle.std.specs.Prelude.{ℕ, zero, suc, ◌≡◌, ◌≢◌, ◌==◌, ◌+◌, ◌-◌, ◌<◌, ◌≤◌, Bool, true, false, List, [], ◌∷◌, ◌++◌, length, Option, Some, None, is_some, ◌⊎◌, ◌↔◌, if◌then◌else◌}
-use Rattle.std.proofs.Common.{arith, refl, sym, ap, subst, ◌∙◌, inl, inr, le_refl}
+use Rattle.std.specs.Prelude.{ℕ, suc, ◌≡◌, ◌≢◌, ◌==◌, ◌+◌, ◌-◌, ◌<◌, ◌≤◌, true, false, List, [], ◌∷◌, ◌++◌, length, Option, Some, None, is_some, ◌⊎◌, ◌↔◌, if◌then◌else◌}
+use Rattle.std.proofs.Common.{arith, refl, sym, ap, subst, ◌∙◌, inl, inr}
 use Rattle.std.proofs.lemmas.Bool.{cases_Bool, cases_lt, eq-eqb, ne_eqb, true≢false}
 use Rattle.std.proofs.lemmas.List.{length-append}
 use Rattle.zeus_base.specs.Nodes.{has}
-use Rattle.zeus_base.specs.Order.{is_below}
 use Rattle.zeus_base.specs.TableLaws.{nth-put_same, nth-put_other, nth-append_new}
-use Rattle.zeus_base.specs.declared.order.Stamp.{Stamp}
 use Rattle.zeus_base.specs.declared.order.Stream.{Stream}
 use Rattle.zeus_packet.specs.Place.{new_place}
-use Rattle.zeus_packet.specs.declared.letter.Letter.{Letter}
-use Rattle.zeus_packet.specs.declared.letter.State.TheVariants.{Valid}
 use Rattle.zeus_packet.specs.declared.place.Place.{Place}
 use Rattle.zeus_packet.specs.declared.place.Proposal.{Proposal}
 use Rattle.zeus_packet.specs.declared.place.Want.{Want}
 use Rattle.zeus_packet.specs.declared.place.Want.TheVariants.{Own, Read, Leave}
 use Rattle.zeus_packet.specs.declared.write.Content.{Content}
 use Rattle.zeus_txn.specs.Ops.{mentions}
-use Rattle.zeus_model.specs.In.{In}
-use Rattle.zeus_model.specs.Tables.{nth, put}
-use Rattle.zeus_model.specs.State.{Node, Slot, StreamLog, copy, entry, gather, owns, slot, with_copy}
+use Rattle.zeus_model.specs.Tables.{nth}
+use Rattle.zeus_model.specs.State.{Node, copy, entry, gather, owns, slot}
 use Rattle.zeus_model.specs.Commit.{no_pending}
-use Rattle.zeus_model.specs.Ownership.{settle, settled_entry, is_decidable, bring, brought}
+use Rattle.zeus_model.specs.Ownership.{settle, is_decidable, bring, brought}
 use Rattle.zeus_model.specs.declared.state.Copy.{Copy}
-use Rattle.zeus_model.specs.declared.state.Entry.{Entry}
 use Rattle.zeus_model.specs.declared.state.Gather.{Gather}
-use Rattle.machine_moves.specs.Scene.{Scene, IsLive, Changes, nothing}
+use Rattle.machine_moves.specs.Scene.{IsLive, Changes, nothing}
 use Rattle.machine_moves.specs.Move.{Move}
 use Rattle.ownership_safety.specs.Kept.{IsAgain, IsFirst}
-use Rattle.ownership_safety.specs.Object.{Object, Acknowledges, HasGiven, IsSaid, no_proposal, chain_stamp, chain_place, latest, place_at}
+use Rattle.ownership_safety.specs.Object.{HasGiven, IsSaid, no_proposal, chain_stamp, place_at}
 use Rattle.ownership_safety.specs.Moves as moves
 use Rattle.ownership_safety.specs.Ordered.{Ordered, IsGather}
 use Rattle.ownership_safety.proofs.Arbiters.{new_place-other, new_place-comes, new_place-leaves}
@@ -37,21 +31,21 @@ use Rattle.ownership_safety.proofs.KeepsSettled.{keeps_Decides}
 use Rattle.replication_safety.specs.Line.{Has}
 use Rattle.replication_safety.proofs.Consequences.{own-alive}
 use Rattle.invariants.specs.Lines.{line}
-use Rattle.invariants.specs.Objects.{object, declared_entry}
-use Rattle.invariants.proofs.AboutObjects.{object-entry, object-gather}
+use Rattle.invariants.specs.Objects.{object}
+use Rattle.invariants.proofs.AboutObjects.{object-entry}
 use Rattle.invariants.proofs.Frames.{settle-away, bring-quiet}
 use Rattle.invariants.proofs.LineMoves.{line-home, line-stopped}
 use Rattle.invariants.proofs.ObjectKeeps.{sees_move as object_sees_move}
 use Rattle.invariants.proofs.ObjectMoves.{object-live}
 use Rattle.invariants.proofs.ObjectSeen.{same_or_not, decide_here}
-use Rattle.data_safety.specs.Story.{Story, Truth, place_now, pending_at, Lives}
+use Rattle.data_safety.specs.Story.{Story, Truth, place_now, Lives}
 use Rattle.data_safety.specs.Faithful.{Faithful, IsClean, left, content_of}
 use Rattle.data_safety.proofs.Consequences.{numbered, clean-copy, home-done, home-end}
 use Rattle.data_safety.proofs.OwnershipStill.{SameRows, same-rows}
 use Rattle.data_safety.proofs.OwnershipFrame.{IsSameObject, IsRenewed, with_chains}
 use Rattle.data_safety.proofs.OwnershipMoves.{still-ordered, place-same, given-before, changed-frame, changed-rows, changed-low, changed-owned, low-before, framed-faithful}
 use Rattle.data_safety.proofs.OwnershipProposals.{pending-within}
-use Rattle.data_safety.proofs.OwnershipSettles.{SameTables, settle-tables, owner-top}
+use Rattle.data_safety.proofs.OwnershipSettles.{settle-tables, owner-top}
 
 -- ---- what is brought
 

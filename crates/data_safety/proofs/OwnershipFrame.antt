@@ -1,39 +1,32 @@
 -- What a move leaves that neither commits nor stores nor passes, and what then still holds of copies, entries and the book.
-use Rattle.std.specs.Prelude.{ℕ, zero, suc, ◌≡◌, ◌≢◌, ◌+◌, ◌-◌, ◌<◌, ◌≤◌, true, false, List, [], ◌∷◌, length, Option, Some, None, is_some, ◌⊎◌, ◌↔◌}
-use Rattle.std.proofs.Common.{arith, refl, sym, ap, subst, ◌∙◌, inl, inr}
+use Rattle.std.specs.Prelude.{ℕ, zero, suc, ◌≡◌, ◌+◌, ◌-◌, ◌<◌, ◌≤◌, true, List, [], ◌∷◌, length, Some, is_some, ◌⊎◌, ◌↔◌}
+use Rattle.std.proofs.Common.{refl, sym, ap, ◌∙◌, inl, inr}
 use Rattle.zeus_base.specs.Nodes.{has}
 use Rattle.zeus_base.specs.declared.config.Config.{Config}
 use Rattle.zeus_base.specs.declared.order.Stream.{Stream}
-use Rattle.zeus_packet.specs.declared.place.Place.{Place}
 use Rattle.zeus_packet.specs.declared.place.Proposal.{Proposal}
 use Rattle.zeus_packet.specs.declared.write.Content.{Content}
 use Rattle.zeus_packet.specs.declared.write.Write.{Write}
-use Rattle.zeus_txn.specs.Ops.{mentions, named}
-use Rattle.zeus_txn.specs.Run.{run}
+use Rattle.zeus_txn.specs.Ops.{mentions}
 use Rattle.zeus_txn.specs.declared.ops.Op.{Op}
 use Rattle.zeus_txn.specs.declared.tx.TxDecl.{TxDecl}
 use Rattle.zeus_txn.specs.declared.map.Versioned.{Versioned}
 use Rattle.zeus_model.specs.In.{In}
 use Rattle.zeus_model.specs.Tables.{nth}
-use Rattle.zeus_model.specs.State.{Node, copy, owns, slot}
-use Rattle.zeus_model.specs.Commit.{no_pending}
-use Rattle.zeus_model.specs.Book.{Book, Point, record_of}
-use Rattle.zeus_model.specs.Serial.{content, start_map, serial_map, serial_replies}
-use Rattle.zeus_model.specs.Sound.{replies_of}
+use Rattle.zeus_model.specs.State.{copy, slot}
+use Rattle.zeus_model.specs.Book.{Book, Point}
+use Rattle.zeus_model.specs.Serial.{content, start_map, serial_map}
 use Rattle.zeus_model.specs.World.{no_tx}
 use Rattle.zeus_model.specs.declared.state.Copy.{Copy}
-use Rattle.zeus_model.specs.declared.state.Pending.{Pending}
-use Rattle.machine_moves.specs.Scene.{Scene, IsLive, view}
-use Rattle.ownership_safety.specs.Object.{HasGiven}
-use Rattle.replication_safety.specs.Line.{Line, Entry, Has, Stores, IsAlive, end, kept_at, entry_of}
+use Rattle.machine_moves.specs.Scene.{IsLive, view}
+use Rattle.replication_safety.specs.Line.{Entry, Has, end, kept_at}
 use Rattle.replication_safety.specs.Replicated.{Replicated}
 use Rattle.invariants.specs.Lines.{line}
-use Rattle.invariants.specs.Objects.{object}
 use Rattle.invariants.proofs.LineSeen.{Seen}
 use Rattle.data_safety.specs.Story.{Story, Truth, tx_ops, txs_of, place_now, pending_at, Lives, running, overwritten}
-use Rattle.data_safety.specs.Faithful.{Faithful, IsCopied, IsEntered, IsBooked, IsClean, IsNewer, IsWritten, IsRun, left, found_at, raised, content_of}
-use Rattle.data_safety.proofs.Consequences.{lives-named, written-named, kept-lives, kept-writes, clean-copy}
-use Rattle.data_safety.proofs.OwnershipStill.{SameRows, SameSlots, IsSamePending, still-replicated, still-alive, WasSent, still-sent, rows-had, rows-has, rows-entry}
+use Rattle.data_safety.specs.Faithful.{Faithful, IsCopied, IsClean, IsNewer, left, found_at, content_of}
+use Rattle.data_safety.proofs.Consequences.{lives-named, written-named, kept-lives, kept-writes}
+use Rattle.data_safety.proofs.OwnershipStill.{SameRows, SameSlots, IsSamePending, still-replicated, still-alive, rows-had, rows-has, rows-entry}
 
 -- ---- what the history leaves
 

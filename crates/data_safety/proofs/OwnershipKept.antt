@@ -1,11 +1,8 @@
 -- What still holds of entries and the book after a move that neither commits nor stores nor passes.
-use Rattle.std.specs.Prelude.{ℕ, zero, suc, ◌≡◌, ◌≢◌, ◌+◌, ◌-◌, ◌<◌, ◌≤◌, true, false, List, [], ◌∷◌, length, Option, Some, None, is_some, ◌⊎◌, ◌↔◌}
-use Rattle.std.proofs.Common.{arith, refl, sym, ap, subst, ◌∙◌, inl, inr}
+use Rattle.std.specs.Prelude.{ℕ, ◌≡◌, ◌≢◌, ◌+◌, ◌<◌, ◌≤◌, true, false, List, length, Some, None, is_some, ◌⊎◌}
+use Rattle.std.proofs.Common.{sym, ap, ◌∙◌, inl, inr}
 use Rattle.zeus_base.specs.Nodes.{has}
-use Rattle.zeus_base.specs.declared.config.Config.{Config}
 use Rattle.zeus_base.specs.declared.order.Stream.{Stream}
-use Rattle.zeus_base.specs.declared.value.Value.{Value}
-use Rattle.zeus_packet.specs.declared.place.Place.{Place}
 use Rattle.zeus_packet.specs.declared.place.Proposal.{Proposal}
 use Rattle.zeus_packet.specs.declared.write.Content.{Content}
 use Rattle.zeus_packet.specs.declared.write.Write.{Write}
@@ -15,23 +12,20 @@ use Rattle.zeus_txn.specs.declared.ops.Op.{Op}
 use Rattle.zeus_txn.specs.declared.tx.TxDecl.{TxDecl}
 use Rattle.zeus_model.specs.In.{In}
 use Rattle.zeus_model.specs.Tables.{nth}
-use Rattle.zeus_model.specs.State.{Node, copy, owns, slot}
+use Rattle.zeus_model.specs.State.{owns, slot}
 use Rattle.zeus_model.specs.Commit.{no_pending}
 use Rattle.zeus_model.specs.Book.{Book, EntryId, record_of}
-use Rattle.zeus_model.specs.Serial.{start_map, serial_replies}
-use Rattle.zeus_model.specs.Sound.{replies_of, times}
 use Rattle.zeus_model.specs.World.{no_tx}
 use Rattle.zeus_model.specs.declared.state.Current.{Current}
-use Rattle.zeus_model.specs.declared.state.Pending.{Pending}
-use Rattle.machine_moves.specs.Scene.{Scene, IsLive, view}
+use Rattle.machine_moves.specs.Scene.{IsLive, view}
 use Rattle.ownership_safety.specs.Object.{HasGiven}
-use Rattle.replication_safety.specs.Line.{Line, Entry, Has, Stores, IsAlive, end}
+use Rattle.replication_safety.specs.Line.{Entry, Stores, end}
 use Rattle.invariants.specs.Lines.{line}
 use Rattle.invariants.specs.Objects.{object}
-use Rattle.data_safety.specs.Story.{Story, Truth, tx_ops, txs_of, place_now, pending_at, Lives}
+use Rattle.data_safety.specs.Story.{Story, Truth, tx_ops, place_now, pending_at, Lives}
 use Rattle.data_safety.specs.Faithful.{Faithful, IsEntered, IsBooked, IsClean, IsRun, left, found_at, raised}
 use Rattle.data_safety.proofs.Consequences.{written-named}
-use Rattle.data_safety.proofs.OwnershipStill.{IsSamePending, still-sent}
+use Rattle.data_safety.proofs.OwnershipStill.{still-sent}
 use Rattle.data_safety.proofs.OwnershipFrame.{IsFramed, IsSameObject, IsRenewed, with_chains, txs-same, framed-lives, framed-pending, framed-left, framed-found, framed-clean, framed-ops, framed-within, lives-within}
 
 module _ (y z : Story) (u : Truth) (chain : ℕ → List Proposal) (f : Faithful y u) (s : IsFramed y z u) where

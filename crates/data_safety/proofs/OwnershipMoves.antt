@@ -1,31 +1,21 @@
 -- Moves that change neither copies nor entries nor settled placements: stops, views, letters, gathers, reports, acknowledgements.
-use Rattle.std.specs.Prelude.{ℕ, zero, suc, ◌≡◌, ◌≢◌, ◌+◌, ◌-◌, ◌<◌, ◌≤◌, true, false, List, [], ◌∷◌, ◌++◌, length, Option, Some, None, is_some, ◌⊎◌, ◌↔◌}
-use Rattle.std.proofs.Common.{arith, refl, sym, ap, subst, ◌∙◌, inl, inr, le_refl}
-use Rattle.std.proofs.lemmas.Bool.{cases_lt, true≢false}
+use Rattle.std.specs.Prelude.{ℕ, ◌≡◌, ◌<◌, ◌≤◌, true, List, [], ◌∷◌, ◌++◌, length, Option, Some, None, ◌⊎◌}
+use Rattle.std.proofs.Common.{arith, refl, ap, ◌∙◌, inl, inr, le_refl}
 use Rattle.std.proofs.lemmas.List.{length-append}
-use Rattle.zeus_base.specs.Nodes.{has, with_node}
-use Rattle.zeus_base.specs.TableLaws.{nth-put_same, nth-put_other, length-put, nth-append_old}
 use Rattle.zeus_base.specs.declared.config.Config.{Config}
 use Rattle.zeus_base.specs.declared.order.Stamp.{Stamp}
-use Rattle.zeus_base.specs.declared.order.Stream.{Stream}
 use Rattle.zeus_packet.specs.declared.letter.Letter.{Letter}
-use Rattle.zeus_packet.specs.declared.place.Place.{Place}
 use Rattle.zeus_packet.specs.declared.place.Proposal.{Proposal}
 use Rattle.zeus_packet.specs.declared.write.Content.{Content}
 use Rattle.zeus_txn.specs.Ops.{mentions}
 use Rattle.zeus_model.specs.In.{In}
-use Rattle.zeus_model.specs.Tables.{nth, put}
-use Rattle.zeus_model.specs.State.{Node, Slot, StreamLog, copy, entry, owns, slot, log, with_slot, with_log}
-use Rattle.zeus_model.specs.Commit.{as_kept, no_kept, no_pending, acked_kept, acked_pending}
+use Rattle.zeus_model.specs.Tables.{nth}
+use Rattle.zeus_model.specs.State.{Node, copy, entry, owns, slot}
+use Rattle.zeus_model.specs.Commit.{no_pending}
 use Rattle.zeus_model.specs.declared.state.Copy.{Copy}
-use Rattle.zeus_model.specs.declared.state.Entry.{Entry}
-use Rattle.zeus_model.specs.declared.state.Kept.{Kept}
-use Rattle.zeus_model.specs.declared.state.Pending.{Pending}
-use Rattle.machine_moves.specs.Scene.{Scene, IsLive, IsNumbered, Changes, NewView, Sends, nothing, view}
-use Rattle.machine_moves.specs.Move.{Move, IsTellable, makes_view, stops, installs, tells, gathers, reports, hears, notes_own, notes_kept}
-use Rattle.machine_moves.proofs.Lists.{nth-past}
-use Rattle.machine_moves.proofs.Steady.{IsSteady, move_keep}
-use Rattle.ownership_safety.specs.Kept.{IsAgain, IsFirst}
+use Rattle.machine_moves.specs.Scene.{Scene, IsLive, Changes, Sends}
+use Rattle.machine_moves.specs.Move.{Move}
+use Rattle.machine_moves.proofs.Steady.{move_keep}
 use Rattle.ownership_safety.specs.Object.{Object, Acknowledges, Validates, HasGiven, Letter as Said, chain_stamp, place_at}
 use Rattle.ownership_safety.specs.Moves as moves
 use Rattle.ownership_safety.specs.Ordered.{Ordered}
@@ -34,21 +24,16 @@ use Rattle.ownership_safety.proofs.KeepsGathers.{keeps_Notes, keeps_Tells}
 use Rattle.ownership_safety.proofs.KeepsSettled.{keeps_Settles, keeps_Decides}
 use Rattle.ownership_safety.proofs.KeepsSpeech.{keeps_Drives, keeps_Accepts, keeps_Redrives}
 use Rattle.ownership_safety.proofs.KeepsViews.{keeps_NewView, keeps_Stops, keeps_Installs}
-use Rattle.replication_safety.specs.Line.{entry_of}
-use Rattle.invariants.specs.Lines.{line}
 use Rattle.invariants.specs.Objects.{object, declared_entry}
 use Rattle.invariants.proofs.AboutObjects.{says, sends_object, object-entry}
 use Rattle.invariants.proofs.LineKeeps.{sees_move as line_sees_move}
-use Rattle.invariants.proofs.LineMoves.{with_slot-same, with_slot-other, with_log-same, with_log-other}
-use Rattle.invariants.proofs.LineSeen.{stream_cases}
 use Rattle.invariants.proofs.ObjectKeeps.{sees_move as object_sees_move}
 use Rattle.invariants.proofs.ObjectMoves.{entry_after, same_entry_as}
-use Rattle.invariants.proofs.ObjectSeen.{Seen, viewed, stopped, installed, settled, driven_by, accepted, redriven, noted_by, decided, told, same_or_not, installed_node}
-use Rattle.invariants.proofs.ObjectSteps.{tellable-says}
+use Rattle.invariants.proofs.ObjectSeen.{Seen, viewed, stopped, installed, settled, driven_by, accepted, redriven, noted_by, decided, told, same_or_not}
 use Rattle.data_safety.specs.Story.{Story, Truth, place_now}
 use Rattle.data_safety.specs.Faithful.{Faithful, IsClean, left}
 use Rattle.data_safety.proofs.Consequences.{numbered}
-use Rattle.data_safety.proofs.OwnershipStill.{SameRows, IsSamePending, same-rows, same-slots, same-pending, rows-done, rows-end}
+use Rattle.data_safety.proofs.OwnershipStill.{SameRows, same-rows, same-slots, rows-done, rows-end}
 use Rattle.data_safety.proofs.OwnershipFrame.{IsFramed, IsSameObject, IsRenewed, with_chains, framed-replicated, framed-copied}
 use Rattle.data_safety.proofs.OwnershipKept.{framed-entered, framed-booked}
 

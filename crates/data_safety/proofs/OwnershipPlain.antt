@@ -1,6 +1,5 @@
 -- Each move of views, reports, letters and ownership keeps what holds of a story.
-use Rattle.std.specs.Prelude.{ℕ, ◌≡◌}
-use Rattle.zeus_packet.specs.declared.write.Content.{Content}
+use Rattle.std.specs.Prelude.{◌≡◌}
 use Rattle.machine_moves.specs.Scene.{Scene}
 use Rattle.zeus_model.specs.Ownership.{gather_for, noted}
 use Rattle.zeus_model.specs.State.{gather}

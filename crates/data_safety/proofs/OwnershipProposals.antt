@@ -1,28 +1,26 @@
 -- A node that drives, accepts or says a proposal again keeps what holds of a story: what it gives is what the history leaves.
-use Rattle.std.specs.Prelude.{ℕ, zero, suc, ◌≡◌, ◌≢◌, ◌==◌, ◌+◌, ◌-◌, ◌<◌, ◌≤◌, Bool, true, false, ◌&&◌, List, [], ◌∷◌, length, Option, Some, None, is_some, is_none, ◌⊎◌, if◌then◌else◌}
+use Rattle.std.specs.Prelude.{ℕ, ◌≡◌, ◌==◌, ◌<◌, ◌≤◌, Bool, true, ◌&&◌, List, length, Option, Some, None}
 use Rattle.std.proofs.Common.{arith, refl, sym, ap, subst, ◌∙◌, inl, inr}
 use Rattle.std.proofs.lemmas.Bool.{cases_Bool, eq-eqb}
 use Rattle.std.proofs.lemmas.Bool.Decides.{nat_tests}
 use Rattle.zeus_base.specs.Nodes.{has}
-use Rattle.zeus_base.specs.declared.order.Stamp.{Stamp}
 use Rattle.zeus_base.specs.declared.order.Stream.{Stream}
-use Rattle.zeus_packet.specs.Place.{source}
 use Rattle.zeus_packet.specs.declared.letter.Letter.{Letter}
 use Rattle.zeus_packet.specs.declared.place.Place.{Place}
 use Rattle.zeus_packet.specs.declared.place.Proposal.{Proposal}
 use Rattle.zeus_packet.specs.declared.place.Want.{Want}
 use Rattle.zeus_packet.specs.declared.write.Content.{Content}
-use Rattle.zeus_txn.specs.Ops.{mentions, named}
+use Rattle.zeus_txn.specs.Ops.{mentions}
 use Rattle.zeus_model.specs.In.{In}
 use Rattle.zeus_model.specs.Tables.{nth}
-use Rattle.zeus_model.specs.State.{Node, copy, entry, gather, owns, slot, is_open}
+use Rattle.zeus_model.specs.State.{Node, copy, entry, owns, slot, is_open}
 use Rattle.zeus_model.specs.Commit.{no_pending}
-use Rattle.zeus_model.specs.Ownership.{holding, driven, is_node, is_source, own_content, content_of, unready_cause}
+use Rattle.zeus_model.specs.Ownership.{holding, driven, is_node, is_source, own_content, content_of}
 use Rattle.zeus_model.specs.declared.state.Copy.{Copy}
 use Rattle.zeus_model.specs.declared.state.Entry.{Entry}
-use Rattle.machine_moves.specs.Scene.{Scene, IsLive, Changes}
+use Rattle.machine_moves.specs.Scene.{IsLive, Changes}
 use Rattle.machine_moves.specs.Move.{Move, IsAboutProposal, to_arbiter, to_collector, HasAcked, MayDrive, MayAccept}
-use Rattle.ownership_safety.specs.Object.{Object, Invalidates, Acknowledges, HasGiven, IsSaid, Letter as Said, place_at, latest}
+use Rattle.ownership_safety.specs.Object.{Invalidates, Acknowledges, HasGiven, IsSaid, Letter as Said, place_at}
 use Rattle.ownership_safety.specs.Moves as moves
 use Rattle.ownership_safety.specs.Ordered.{Ordered, IsHeld}
 use Rattle.ownership_safety.proofs.Arbiters.{source-owner}
@@ -30,11 +28,11 @@ use Rattle.ownership_safety.proofs.Chain.{ack-said}
 use Rattle.ownership_safety.proofs.Choice.{settled-base}
 use Rattle.invariants.specs.Objects.{object, said_of}
 use Rattle.invariants.proofs.AboutObjects.{says, sends_object, object-entry, only_about-from}
-use Rattle.invariants.proofs.Frames.{IsQuiet, holding-entry, holding-other}
+use Rattle.invariants.proofs.Frames.{holding-entry, holding-other}
 use Rattle.invariants.proofs.ObjectKeeps.{sees_move as object_sees_move}
 use Rattle.invariants.proofs.ObjectMoves.{object-live}
 use Rattle.invariants.proofs.ObjectSeen.{same_or_not, accept_here}
-use Rattle.data_safety.specs.Story.{Story, Truth, tx_ops, place_now}
+use Rattle.data_safety.specs.Story.{Story, Truth, place_now}
 use Rattle.data_safety.specs.Faithful.{Faithful, IsClean, left}
 use Rattle.data_safety.proofs.Consequences.{numbered, unheld, unready-none, source-content}
 use Rattle.data_safety.proofs.OwnershipStill.{SameRows, same-rows}

@@ -1,31 +1,26 @@
 -- Stops, views, letters, gathers, reports and acknowledgements keep what holds of a story.
-use Rattle.std.specs.Prelude.{ℕ, zero, suc, ◌≡◌, ◌≢◌, ◌+◌, ◌-◌, ◌<◌, ◌≤◌, true, false, List, [], ◌∷◌, ◌++◌, length, Option, Some, None, is_some, ◌⊎◌}
-use Rattle.std.proofs.Common.{arith, refl, sym, ap, subst, ◌∙◌, inl, inr}
-use Rattle.std.proofs.lemmas.Bool.{cases_lt, true≢false}
+use Rattle.std.specs.Prelude.{ℕ, ◌≡◌, ◌<◌, true, false, List, [], ◌∷◌, ◌++◌, length, Option, Some}
+use Rattle.std.proofs.Common.{refl, inl, inr}
+use Rattle.std.proofs.lemmas.Bool.{cases_lt}
 use Rattle.zeus_base.specs.Nodes.{has, with_node}
 use Rattle.zeus_base.specs.TableLaws.{nth-put_same, nth-put_other, length-put, nth-append_old}
 use Rattle.zeus_base.specs.declared.order.Stamp.{Stamp}
 use Rattle.zeus_base.specs.declared.order.Stream.{Stream}
-use Rattle.zeus_packet.specs.declared.letter.Letter.{Letter}
 use Rattle.zeus_packet.specs.declared.place.Place.{Place}
 use Rattle.zeus_packet.specs.declared.place.Proposal.{Proposal}
 use Rattle.zeus_packet.specs.declared.write.Content.{Content}
-use Rattle.zeus_model.specs.In.{In}
 use Rattle.zeus_model.specs.Tables.{nth, put}
-use Rattle.zeus_model.specs.State.{Node, Slot, StreamLog, copy, entry, gather, owns, slot, log, with_slot, with_log, with_gather}
+use Rattle.zeus_model.specs.State.{Node, Slot, StreamLog, entry, slot, log, with_slot, with_log, with_gather}
 use Rattle.zeus_model.specs.Commit.{no_kept, no_pending, acked_kept, acked_pending}
-use Rattle.zeus_model.specs.Membership.{dropped}
 use Rattle.zeus_model.specs.declared.state.Gather.{Gather}
 use Rattle.zeus_model.specs.declared.state.Kept.{Kept}
 use Rattle.zeus_model.specs.declared.state.Pending.{Pending}
-use Rattle.machine_moves.specs.Scene.{Scene, IsLive, Changes, NewView, Sends, nothing, view}
-use Rattle.machine_moves.specs.Move.{Move, IsTellable, makes_view, stops}
+use Rattle.machine_moves.specs.Scene.{Scene, Changes, NewView, nothing, view}
+use Rattle.machine_moves.specs.Move.{Move, IsTellable}
 use Rattle.machine_moves.proofs.Lists.{nth-past}
-use Rattle.ownership_safety.specs.Object.{Object, Acknowledges, Validates, HasGiven, Letter as Said}
-use Rattle.replication_safety.specs.Line.{Entry, entry_of}
-use Rattle.invariants.specs.Lines.{line}
+use Rattle.ownership_safety.specs.Object.{Acknowledges, Validates}
+use Rattle.replication_safety.specs.Line.{entry_of}
 use Rattle.invariants.specs.Objects.{object}
-use Rattle.invariants.proofs.AboutObjects.{says}
 use Rattle.invariants.proofs.LineKeeps.{sees_move as line_sees_move}
 use Rattle.invariants.proofs.LineMoves.{with_slot-same, with_slot-other, with_log-same, with_log-other}
 use Rattle.invariants.proofs.LineSeen.{stream_cases}

@@ -1,25 +1,19 @@
 -- A node that settles a decided placement keeps what holds of a story.
-use Rattle.std.specs.Prelude.{ℕ, zero, suc, ◌≡◌, ◌≢◌, ◌+◌, ◌-◌, ◌<◌, ◌≤◌, true, false, List, [], ◌∷◌, length, Option, Some, None, ◌⊎◌}
+use Rattle.std.specs.Prelude.{ℕ, ◌≡◌, ◌<◌, ◌≤◌, true, List, length, Option, None}
 use Rattle.std.proofs.Common.{arith, refl, sym, ap, subst, ◌∙◌, inl, inr, le_refl}
 use Rattle.std.proofs.lemmas.Bool.{cases_Bool}
 use Rattle.zeus_base.specs.Order.{is_below}
 use Rattle.zeus_base.specs.declared.order.Stamp.{Stamp}
-use Rattle.zeus_base.specs.declared.order.Stream.{Stream}
 use Rattle.zeus_packet.specs.declared.letter.Letter.{Letter}
 use Rattle.zeus_packet.specs.declared.place.Place.{Place}
-use Rattle.zeus_packet.specs.declared.place.Proposal.{Proposal}
-use Rattle.zeus_packet.specs.declared.write.Content.{Content}
-use Rattle.zeus_txn.specs.Ops.{mentions}
-use Rattle.zeus_model.specs.In.{In}
 use Rattle.zeus_model.specs.Tables.{nth}
-use Rattle.zeus_model.specs.State.{Node, Slot, StreamLog, copy, entry, gather, owns, slot, with_entry, with_gather}
-use Rattle.zeus_model.specs.Commit.{no_pending}
-use Rattle.zeus_model.specs.Ownership.{settle, settled_entry, gather_above}
+use Rattle.zeus_model.specs.State.{Node, entry, owns}
+use Rattle.zeus_model.specs.Ownership.{settle}
 use Rattle.zeus_model.specs.declared.state.Copy.{Copy}
 use Rattle.zeus_model.specs.declared.state.Entry.{Entry}
-use Rattle.machine_moves.specs.Scene.{Scene, IsLive, IsReceivable, Changes, nothing}
+use Rattle.machine_moves.specs.Scene.{IsLive, IsReceivable, Changes, nothing}
 use Rattle.machine_moves.specs.Move.{Move, IsSettling}
-use Rattle.ownership_safety.specs.Object.{Object, IsOwner, chain_stamp}
+use Rattle.ownership_safety.specs.Object.{IsOwner, chain_stamp}
 use Rattle.ownership_safety.specs.Ordered.{Ordered, IsDecided}
 use Rattle.ownership_safety.proofs.Chain.{stamp_at-less}
 use Rattle.ownership_safety.proofs.Owner.{owner-stamp}
@@ -33,7 +27,7 @@ use Rattle.data_safety.specs.Story.{Story, Truth}
 use Rattle.data_safety.specs.Faithful.{Faithful}
 use Rattle.data_safety.proofs.Consequences.{numbered}
 use Rattle.data_safety.proofs.Running.{owns-owner}
-use Rattle.data_safety.proofs.OwnershipStill.{SameRows, same-rows}
+use Rattle.data_safety.proofs.OwnershipStill.{same-rows}
 use Rattle.data_safety.proofs.OwnershipMoves.{still-ordered, given-before, changed-frame, changed-rows, changed-low, changed-owned, changed-copies, low-before, framed-faithful}
 use Rattle.data_safety.proofs.OwnershipProposals.{pending-within}
 

@@ -1,12 +1,11 @@
 -- Moves that leave what the nodes keep of the streams, but for acknowledgements.
-use Rattle.std.specs.Prelude.{ℕ, zero, suc, ◌≡◌, ◌≢◌, ◌+◌, ◌-◌, ◌<◌, ◌≤◌, List, [], ◌∷◌, length, Option, ◌⊎◌}
+use Rattle.std.specs.Prelude.{ℕ, ◌≡◌, ◌-◌, ◌<◌, List, [], length}
 use Rattle.std.proofs.Common.{arith, refl, sym, ap, ◌∙◌, inl, inr, le_refl}
 use Rattle.zeus_base.specs.declared.order.Stream.{Stream}
 use Rattle.zeus_packet.specs.declared.write.Write.{Write}
-use Rattle.zeus_txn.specs.declared.reply.Reply.{Reply}
 use Rattle.zeus_model.specs.Tables.{nth}
 use Rattle.zeus_model.specs.State.{Node, Slot, StreamLog, no_slot, no_log, slot, log}
-use Rattle.zeus_model.specs.Commit.{as_kept, no_kept, no_pending}
+use Rattle.zeus_model.specs.Commit.{no_kept, no_pending}
 use Rattle.zeus_model.specs.declared.state.Kept.{Kept}
 use Rattle.zeus_model.specs.declared.state.Pending.{Pending}
 use Rattle.machine_moves.specs.Scene.{Scene}

@@ -1,15 +1,15 @@
 -- The book after a pass.
-use Rattle.std.specs.Prelude.{ℕ, zero, suc, ◌≡◌, ◌≢◌, ◌==◌, ◌+◌, ◌-◌, ◌<◌, ◌≤◌, ◌↔◌, Bool, true, false, List, [], ◌∷◌, ◌++◌, length, Option, Some, None, is_some, if◌then◌else◌, ◌⊎◌}
-use Rattle.std.proofs.Common.{arith, refl, sym, ap, subst, ◌∙◌, inl, inr, le_refl}
+use Rattle.std.specs.Prelude.{ℕ, zero, suc, ◌≡◌, ◌≢◌, ◌==◌, ◌+◌, ◌<◌, ◌≤◌, ◌↔◌, Bool, true, false, List, length, Option, Some, None, is_some, if◌then◌else◌, ◌⊎◌}
+use Rattle.std.proofs.Common.{arith, refl, sym, ap, subst, ◌∙◌, inl, inr}
 use Rattle.std.proofs.lemmas.Bool.{cases_Bool, eq-eqb, ne_eqb}
 use Rattle.zeus_base.specs.declared.config.Config.{Config}
 use Rattle.zeus_base.specs.declared.order.Stream.{Stream}
-use Rattle.zeus_txn.specs.Ops.{mentions, named, is_write}
+use Rattle.zeus_txn.specs.Ops.{named, is_write}
 use Rattle.zeus_txn.specs.declared.ops.Op.{Op}
 use Rattle.zeus_txn.specs.declared.reply.Reply.{Reply}
 use Rattle.zeus_txn.specs.declared.tx.TxDecl.{TxDecl}
 use Rattle.zeus_model.specs.Tables.{nth}
-use Rattle.zeus_model.specs.State.{Slot, slot}
+use Rattle.zeus_model.specs.State.{slot}
 use Rattle.zeus_model.specs.Commit.{no_pending}
 use Rattle.zeus_model.specs.Book.{Book, Point, TxRecord, EntryId, record_of, reply_or}
 use Rattle.zeus_model.specs.Serial.{start_map, serial_replies}
@@ -17,14 +17,12 @@ use Rattle.zeus_model.specs.Sound.{replies_of, times}
 use Rattle.zeus_model.specs.World.{no_tx}
 use Rattle.zeus_model.specs.declared.state.Current.{Current}
 use Rattle.zeus_model.specs.declared.state.Pending.{Pending}
-use Rattle.replication_safety.specs.Line.{end}
-use Rattle.invariants.specs.Lines.{line}
 use Rattle.invariants.proofs.LineSeen.{stream_cases}
 use Rattle.invariants.proofs.ObjectSeen.{same_or_not}
-use Rattle.data_safety.specs.Story.{Story, Truth, tx_ops, txs_of, pending_at, Lives}
+use Rattle.data_safety.specs.Story.{Story, Truth, tx_ops, txs_of, pending_at}
 use Rattle.data_safety.specs.Faithful.{Faithful, IsBooked, IsRun}
 use Rattle.data_safety.proofs.SerialRun.{HasPointed, tx_ops-same, txs_of-same, times-append, first-replies}
-use Rattle.data_safety.proofs.Booking.{HasPassed, pointed_record}
+use Rattle.data_safety.proofs.Booking.{HasPassed}
 use Rattle.data_safety.proofs.PassThins.{Thins}
 
 -- a pass that is a transaction's point

@@ -1,9 +1,8 @@
 -- Copies after a pass: those of what has passed are what the history leaves, and newer ones stay newer.
 use Rattle.std.specs.Prelude.{ℕ, suc, ◌≡◌, ◌≢◌, ◌+◌, ◌<◌, ◌≤◌, true, List, length, Option, Some, None, is_some, ◌⊎◌}
-use Rattle.std.proofs.Common.{arith, refl, sym, ap, subst, ◌∙◌, inl, inr, le_refl}
+use Rattle.std.proofs.Common.{arith, refl, sym, ap, subst, ◌∙◌, inl, inr}
 use Rattle.zeus_base.specs.Nodes.{has}
 use Rattle.zeus_base.specs.declared.order.Stream.{Stream}
-use Rattle.zeus_packet.specs.declared.letter.State.TheVariants.{Valid}
 use Rattle.zeus_packet.specs.declared.place.Place.{Place}
 use Rattle.zeus_packet.specs.declared.write.Content.{Content}
 use Rattle.zeus_packet.specs.declared.write.Write.{Write}
@@ -13,7 +12,6 @@ use Rattle.zeus_model.specs.Tables.{nth}
 use Rattle.zeus_model.specs.State.{copy}
 use Rattle.zeus_model.specs.Commit.{validated, each_write}
 use Rattle.zeus_model.specs.declared.state.Copy.{Copy}
-use Rattle.zeus_model.specs.declared.state.Kept.{Kept}
 use Rattle.machine_moves.specs.Scene.{IsLive}
 use Rattle.replication_safety.specs.Line.{Has, kept_at}
 use Rattle.invariants.specs.Lines.{line}
@@ -22,8 +20,8 @@ use Rattle.invariants.proofs.ObjectSeen.{same_or_not}
 use Rattle.data_safety.specs.Story.{Story, Truth, place_now, pending_at, Lives, overwritten}
 use Rattle.data_safety.specs.Faithful.{Faithful, IsCopied, IsNewer, IsWritten, left, content_of, found_at}
 use Rattle.data_safety.proofs.Names.{IsOnce}
-use Rattle.data_safety.proofs.Consequences.{kept-lives, kept-writes, written-named, witness-same_stream}
-use Rattle.data_safety.proofs.Running.{writes-cases, written_content, overwritten-in, overwritten-other, writes-once, write-version, found-start, versions-rise, home-has}
+use Rattle.data_safety.proofs.Consequences.{kept-writes, written-named, witness-same_stream}
+use Rattle.data_safety.proofs.Running.{writes-cases, written_content, overwritten-in, overwritten-other, writes-once, write-version, found-start, versions-rise}
 use Rattle.data_safety.proofs.PassValidated.{Was, validated-was, validated-some}
 use Rattle.data_safety.proofs.PassThins.{Thins, ThinLine}
 

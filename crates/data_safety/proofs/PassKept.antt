@@ -1,20 +1,17 @@
 -- The first stored entry of a non-member's stream passes, for the first time or again.
-use Rattle.std.specs.Prelude.{ℕ, zero, suc, ◌≡◌, ◌≢◌, ◌+◌, ◌-◌, ◌<◌, ◌≤◌, Bool, true, false, List, [], ◌∷◌, ◌++◌, take, drop, length, Option, Some, None, is_some, ◌⊎◌}
+use Rattle.std.specs.Prelude.{ℕ, suc, ◌≡◌, ◌≢◌, ◌+◌, ◌-◌, ◌<◌, ◌≤◌, true, false, List, [], ◌∷◌, take, drop, length, Option, Some, None, is_some}
 use Rattle.std.proofs.Common.{arith, refl, sym, ap, subst, ◌∙◌, inl, inr, append-nil}
 use Rattle.std.proofs.lemmas.Bool.{cases_lt}
 use Rattle.zeus_base.specs.Nodes.{has}
 use Rattle.zeus_base.specs.declared.order.Stream.{Stream}
 use Rattle.zeus_packet.specs.declared.write.Write.{Write}
-use Rattle.zeus_txn.specs.declared.reply.Reply.{Reply}
-use Rattle.zeus_model.specs.In.{In}
 use Rattle.zeus_model.specs.Tables.{nth}
 use Rattle.zeus_model.specs.State.{Node, Slot, slot, log}
-use Rattle.zeus_model.specs.Commit.{as_kept, no_kept, no_pending, passes, pass_kept, after_passing, writes_of, each_write, validated}
-use Rattle.zeus_model.specs.Book.{Book, EntryId, record_of, pass_tx, tx_of}
+use Rattle.zeus_model.specs.Commit.{as_kept, no_kept, passes, pass_kept, after_passing, writes_of, each_write, validated}
+use Rattle.zeus_model.specs.Book.{record_of, pass_tx, tx_of}
 use Rattle.zeus_model.specs.declared.state.Kept.{Kept}
-use Rattle.zeus_model.specs.declared.state.Pending.{Pending}
-use Rattle.machine_moves.specs.Scene.{Scene, IsLive, IsNumbered, Changes, nothing}
-use Rattle.machine_moves.specs.Move.{Move, passes_kept}
+use Rattle.machine_moves.specs.Scene.{IsLive, IsNumbered, Changes, nothing}
+use Rattle.machine_moves.specs.Move.{passes_kept}
 use Rattle.machine_moves.proofs.Steady.{IsSteady, IsNumbered-steady, move_keep}
 use Rattle.replication_safety.specs.Line.{Line, Has, IsAlive, end, entry, entry_of, kept_at}
 use Rattle.replication_safety.specs.Moves.{PassesFirst}
@@ -23,16 +20,15 @@ use Rattle.replication_safety.proofs.Consequences.{kept-committed}
 use Rattle.replication_safety.proofs.Passing.{passes-drops, passes-kept, first_pass-stored, keeps_PassesFirst_first, keeps_PassesFirst_again}
 use Rattle.invariants.specs.Lines.{line}
 use Rattle.invariants.proofs.LineEntries.{pass_kept_here}
-use Rattle.invariants.proofs.LineMoves as lines
-use Rattle.invariants.proofs.LineMoves.{line-home, line-stopped, logs-quiet, with_log-other}
+use Rattle.invariants.proofs.LineMoves.{line-stopped, logs-quiet, with_log-other}
 use Rattle.invariants.proofs.LineSeen.{stream_cases, log_done_is, log_kept_is}
 use Rattle.data_safety.specs.Story.{Story, Truth, pending_at, Lives}
-use Rattle.data_safety.specs.Faithful.{Faithful, left}
-use Rattle.data_safety.proofs.Consequences.{home-done, kept-lives, kept-entry, kept-writes, lives-pending}
-use Rattle.data_safety.proofs.Booking.{HasPassed, tx_of-found, pass_tx-kept_first, pass_tx-again}
+use Rattle.data_safety.specs.Faithful.{Faithful}
+use Rattle.data_safety.proofs.Consequences.{kept-lives, kept-entry, kept-writes, lives-pending}
+use Rattle.data_safety.proofs.Booking.{tx_of-found, pass_tx-kept_first, pass_tx-again}
 use Rattle.data_safety.proofs.Running as running
 use Rattle.data_safety.proofs.PassThins.{Thins, ThinLine, thin-drops, thin-quiet}
-use Rattle.data_safety.proofs.PassLogs.{KeepsSlots, kept-slots, thins-logs, writes_of-in, kept-low}
+use Rattle.data_safety.proofs.PassLogs.{KeepsSlots, kept-slots, thins-logs, kept-low}
 use Rattle.data_safety.proofs.PassCopies.{Revalidates}
 use Rattle.data_safety.proofs.PassBooked.{IsPoint}
 use Rattle.data_safety.proofs.PassMoves.{passed_on, passed_on-here, passed_on-other, pass-first, pass-again}

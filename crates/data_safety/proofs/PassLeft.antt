@@ -1,21 +1,19 @@
 -- What the history leaves and what entries find after a pass.
-use Rattle.std.specs.Prelude.{ℕ, suc, ◌≡◌, ◌≢◌, ◌+◌, ◌-◌, ◌<◌, ◌≤◌, true, List, ◌⊎◌}
-use Rattle.std.proofs.Common.{arith, refl, sym, ap, subst, ◌∙◌, inl, inr, le_refl}
+use Rattle.std.specs.Prelude.{ℕ, suc, ◌≡◌, ◌≢◌, ◌+◌, ◌-◌, ◌<◌, ◌≤◌, true, List}
+use Rattle.std.proofs.Common.{arith, sym, ap, subst, ◌∙◌, inl, inr}
 use Rattle.zeus_base.specs.declared.order.Stream.{Stream}
 use Rattle.zeus_packet.specs.declared.write.Content.{Content}
 use Rattle.zeus_packet.specs.declared.write.Write.{Write}
 use Rattle.zeus_txn.specs.Ops.{mentions}
 use Rattle.zeus_model.specs.In.{In}
-use Rattle.zeus_model.specs.Commit.{as_kept}
 use Rattle.zeus_model.specs.declared.state.Pending.{Pending}
-use Rattle.replication_safety.specs.Line.{Line, Entry, Stores, entry, entry_of}
-use Rattle.replication_safety.specs.Replicated.{IsCopy, Replicated}
+use Rattle.replication_safety.specs.Line.{Entry, Stores, entry}
+use Rattle.replication_safety.specs.Replicated.{IsCopy}
 use Rattle.invariants.specs.Lines.{line}
 use Rattle.invariants.proofs.LineSeen.{stream_cases}
 use Rattle.invariants.proofs.ObjectSeen.{same_or_not}
 use Rattle.data_safety.specs.Story.{Story, Truth, pending_at, Lives, overwritten, running}
 use Rattle.data_safety.specs.Faithful.{Faithful, IsClean, left, found_at}
-use Rattle.data_safety.proofs.Names.{IsOnce}
 use Rattle.data_safety.proofs.Consequences.{disjoint, home-entry, written-named}
 use Rattle.data_safety.proofs.Running.{writes-cases, written_content, overwritten-in, overwritten-other, writes-once, write-version, found-start}
 use Rattle.data_safety.proofs.SerialContents.{running-agree, running-shift}

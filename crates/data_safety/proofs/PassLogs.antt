@@ -1,24 +1,23 @@
 -- Moves that change the stored entries of one stream at one node alone.
-use Rattle.std.specs.Prelude.{ℕ, zero, suc, ◌≡◌, ◌≢◌, ◌+◌, ◌-◌, ◌<◌, ◌≤◌, Bool, true, false, List, [], ◌∷◌, ◌++◌, take, drop, length, Option, None, ◌⊎◌}
-use Rattle.std.proofs.Common.{arith, refl, sym, ap, subst, ◌∙◌, inl, inr}
+use Rattle.std.specs.Prelude.{ℕ, zero, suc, ◌≡◌, ◌≢◌, ◌+◌, ◌-◌, ◌<◌, ◌≤◌, List, [], ◌∷◌, take, length, Option, None}
+use Rattle.std.proofs.Common.{arith, refl, sym, ap, ◌∙◌, inl, inr}
 use Rattle.zeus_base.specs.declared.order.Stream.{Stream}
 use Rattle.zeus_packet.specs.declared.write.Write.{Write}
-use Rattle.zeus_model.specs.In.{In, here, there}
+use Rattle.zeus_model.specs.In.{In}
 use Rattle.zeus_model.specs.Tables.{nth}
 use Rattle.zeus_model.specs.State.{Node, Slot, no_slot, no_entry, slot, owns}
 use Rattle.zeus_model.specs.Commit.{no_kept, no_pending, writes_of}
 use Rattle.zeus_model.specs.declared.state.Entry.{Entry}
 use Rattle.zeus_model.specs.declared.state.Gather.{Gather}
 use Rattle.zeus_model.specs.declared.state.Kept.{Kept}
-use Rattle.machine_moves.specs.Scene.{Scene, IsLive, IsNumbered, Changes, nothing}
+use Rattle.machine_moves.specs.Scene.{Scene, IsLive, Changes, nothing}
 use Rattle.machine_moves.proofs.Steady.{IsNumbered-steady}
 use Rattle.ownership_safety.proofs.Basics.{In-append}
-use Rattle.replication_safety.specs.Line.{Line, Has, end, kept_at, entry_of}
+use Rattle.replication_safety.specs.Line.{Has, end, kept_at, entry_of}
 use Rattle.invariants.specs.Lines.{line}
-use Rattle.invariants.specs.Objects.{object}
 use Rattle.invariants.proofs.LineMoves.{line-home}
 use Rattle.invariants.proofs.ObjectSeen.{same_or_not}
-use Rattle.data_safety.specs.Story.{Story, Truth, pending_at}
+use Rattle.data_safety.specs.Story.{Story, Truth}
 use Rattle.data_safety.specs.Faithful.{Faithful, left}
 use Rattle.data_safety.proofs.Consequences.{home-end}
 use Rattle.data_safety.proofs.PassThins.{Thins, LineGoes, still-objects}

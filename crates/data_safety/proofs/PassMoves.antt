@@ -1,6 +1,6 @@
 -- What holds after a pass: the first of an entry, or a later one.
-use Rattle.std.specs.Prelude.{ℕ, suc, ◌≡◌, ◌≢◌, ◌<◌, ◌≤◌, Bool, true, false, List, if◌then◌else◌, ◌⊎◌}
-use Rattle.std.proofs.Common.{arith, refl, sym, ap, subst, ◌∙◌, inl, inr}
+use Rattle.std.specs.Prelude.{ℕ, suc, ◌≡◌, ◌≢◌, ◌≤◌, Bool, true, List, if◌then◌else◌}
+use Rattle.std.proofs.Common.{refl, sym, ap, subst, inl, inr}
 use Rattle.std.proofs.lemmas.Bool.{cases_Bool}
 use Rattle.zeus_base.specs.Nodes.{has}
 use Rattle.zeus_base.specs.Limits.{KeepsLimits}
@@ -9,7 +9,6 @@ use Rattle.zeus_base.specs.OrderLaws.{same_stream-true, same_stream-refl}
 use Rattle.zeus_base.specs.declared.config.Config.{Config}
 use Rattle.zeus_base.specs.declared.order.Stream.{Stream}
 use Rattle.zeus_packet.specs.declared.write.Write.{Write}
-use Rattle.zeus_txn.specs.declared.reply.Reply.{Reply}
 use Rattle.zeus_model.specs.In.{In}
 use Rattle.zeus_model.specs.State.{slot}
 use Rattle.zeus_model.specs.Book.{record_of, reply_or}

@@ -1,5 +1,5 @@
 -- The first entry of an own stream passes.
-use Rattle.std.specs.Prelude.{ℕ, zero, suc, ◌≡◌, ◌≢◌, ◌+◌, ◌-◌, ◌<◌, ◌≤◌, Bool, true, false, List, [], ◌∷◌, ◌++◌, map, take, drop, length, Option, Some, None, is_some, ◌⊎◌}
+use Rattle.std.specs.Prelude.{ℕ, suc, ◌≡◌, ◌≢◌, ◌+◌, ◌-◌, ◌<◌, ◌≤◌, true, List, [], ◌∷◌, map, take, drop, length, Option, Some, None, is_some, ◌⊎◌}
 use Rattle.std.proofs.Common.{arith, refl, sym, ap, subst, ◌∙◌, inl, inr, append-nil}
 use Rattle.std.proofs.lemmas.List.{length-drop}
 use Rattle.zeus_base.specs.Nodes.{has}
@@ -8,13 +8,12 @@ use Rattle.zeus_base.specs.declared.order.Stream.{Stream}
 use Rattle.zeus_packet.specs.declared.write.Write.{Write}
 use Rattle.zeus_txn.specs.declared.reply.Reply.{Reply}
 use Rattle.zeus_model.specs.Tables.{nth}
-use Rattle.zeus_model.specs.State.{Node, Slot, no_slot, slot, owns}
+use Rattle.zeus_model.specs.State.{Node, Slot, slot, owns}
 use Rattle.zeus_model.specs.Commit.{as_kept, no_kept, no_pending, passes, pass_own, after_passing, writes_of, each_write, validated}
-use Rattle.zeus_model.specs.Book.{Book, EntryId, record_of, pass_tx, tx_of}
-use Rattle.zeus_model.specs.declared.state.Kept.{Kept}
+use Rattle.zeus_model.specs.Book.{record_of, pass_tx, tx_of}
 use Rattle.zeus_model.specs.declared.state.Pending.{Pending}
-use Rattle.machine_moves.specs.Scene.{Scene, IsLive, IsNumbered, Changes, nothing}
-use Rattle.machine_moves.specs.Move.{Move, own_kept, passes_own}
+use Rattle.machine_moves.specs.Scene.{IsLive, IsNumbered, Changes, nothing}
+use Rattle.machine_moves.specs.Move.{own_kept, passes_own}
 use Rattle.machine_moves.proofs.Steady.{IsSteady, IsNumbered-steady, move_keep}
 use Rattle.replication_safety.specs.Line.{Line, Has, end, entry, entry_of, kept_at}
 use Rattle.replication_safety.specs.Moves.{PassesFirst}
@@ -26,10 +25,10 @@ use Rattle.invariants.proofs.LineMoves as lines
 use Rattle.invariants.proofs.LineMoves.{line-home, line-stopped, slots-quiet, with_slot-same, with_slot-other}
 use Rattle.invariants.proofs.LineSeen.{stream_cases, own_done_is}
 use Rattle.invariants.proofs.ObjectSeen.{same_or_not}
-use Rattle.data_safety.specs.Story.{Story, Truth, pending_at, Lives}
+use Rattle.data_safety.specs.Story.{Story, Truth, pending_at}
 use Rattle.data_safety.specs.Faithful.{Faithful}
 use Rattle.data_safety.proofs.Consequences.{home-done, home-end, kept-lives, kept-entry}
-use Rattle.data_safety.proofs.Booking.{HasPassed, tx_of-found, pass_tx-own_first}
+use Rattle.data_safety.proofs.Booking.{tx_of-found, pass_tx-own_first}
 use Rattle.data_safety.proofs.PassThins.{Thins, ThinLine, thin-drops, thin-quiet, still-objects}
 use Rattle.data_safety.proofs.PassCopies.{Revalidates}
 use Rattle.data_safety.proofs.PassBooked.{IsPoint}

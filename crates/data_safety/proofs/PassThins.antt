@@ -1,22 +1,19 @@
 -- Moves that only take entries away: what they leave of the entries, and what holds of them after it.
-use Rattle.std.specs.Prelude.{ℕ, ◌≡◌, ◌≢◌, ◌+◌, ◌-◌, ◌<◌, ◌≤◌, true, false, List, [], length, ◌⊎◌}
-use Rattle.std.proofs.Common.{arith, refl, sym, ap, subst, ◌∙◌, inl, inr}
+use Rattle.std.specs.Prelude.{ℕ, ◌≡◌, ◌+◌, ◌<◌, ◌≤◌, true, List, [], length}
+use Rattle.std.proofs.Common.{arith, refl, sym, ap, ◌∙◌, inl, inr}
 use Rattle.zeus_base.specs.Nodes.{has}
 use Rattle.zeus_base.specs.declared.order.Stream.{Stream}
-use Rattle.zeus_packet.specs.declared.letter.Letter.{Letter}
 use Rattle.zeus_packet.specs.declared.place.Place.{Place}
 use Rattle.zeus_packet.specs.declared.place.Proposal.{Proposal}
 use Rattle.zeus_packet.specs.declared.write.Content.{Content}
 use Rattle.zeus_packet.specs.declared.write.Write.{Write}
-use Rattle.zeus_txn.specs.Ops.{mentions, named}
-use Rattle.zeus_txn.specs.declared.tx.TxDecl.{TxDecl}
+use Rattle.zeus_txn.specs.Ops.{mentions}
 use Rattle.zeus_model.specs.In.{In}
 use Rattle.zeus_model.specs.Tables.{nth}
 use Rattle.zeus_model.specs.State.{Node, slot, owns}
 use Rattle.zeus_model.specs.Commit.{no_pending}
-use Rattle.zeus_model.specs.World.{no_tx}
 use Rattle.zeus_model.specs.declared.state.Pending.{Pending}
-use Rattle.machine_moves.specs.Scene.{Scene, IsLive, IsNumbered, Changes, nothing, view}
+use Rattle.machine_moves.specs.Scene.{Scene, IsLive, IsNumbered, Changes, nothing}
 use Rattle.ownership_safety.specs.Object.{HasGiven, latest}
 use Rattle.ownership_safety.specs.Ordered.{Ordered}
 use Rattle.ownership_safety.proofs.KeepsGathers as gathers
@@ -24,7 +21,6 @@ use Rattle.replication_safety.specs.Line.{Line, Letter as Said, Entry, Stores, H
 use Rattle.replication_safety.specs.Moves as moves
 use Rattle.replication_safety.specs.Replicated.{Replicated}
 use Rattle.replication_safety.proofs.Alive.{alive_Tells}
-use Rattle.replication_safety.proofs.Carries.{Grows}
 use Rattle.replication_safety.proofs.Drops.{Drops, drops-grows, drops-has_before, drops-kept_at}
 use Rattle.replication_safety.proofs.Entries.{has-stays}
 use Rattle.replication_safety.proofs.Letters.{keeps_Tells, tells-kept}
@@ -35,7 +31,7 @@ use Rattle.invariants.proofs.Frames.{IsQuiet}
 use Rattle.invariants.proofs.LineMoves as lines
 use Rattle.invariants.proofs.LineSeen.{quiet_sends}
 use Rattle.invariants.proofs.ObjectMoves as objects
-use Rattle.data_safety.specs.Story.{Story, Truth, tx_ops, place_now, pending_at, Lives}
+use Rattle.data_safety.specs.Story.{Story, Truth, pending_at, Lives}
 use Rattle.data_safety.specs.Faithful.{Faithful, IsEntered, IsClean, left, found_at}
 use Rattle.data_safety.proofs.Consequences.{lives-named}
 use Rattle.data_safety.proofs.SerialRun.{IsRun-agree}

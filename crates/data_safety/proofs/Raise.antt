@@ -1,5 +1,5 @@
 -- A node learns that stored entries have passed.
-use Rattle.std.specs.Prelude.{ℕ, zero, suc, ◌≡◌, ◌≢◌, ◌+◌, ◌-◌, ◌<◌, ◌≤◌, Bool, true, false, List, [], ◌∷◌, take, drop, length, ◌⊎◌, nat_lt, if◌then◌else◌}
+use Rattle.std.specs.Prelude.{ℕ, ◌≡◌, ◌≢◌, ◌+◌, ◌-◌, ◌<◌, ◌≤◌, List, take, drop, length}
 use Rattle.std.proofs.Common.{arith, refl, sym, ap, subst, ◌∙◌, inl, inr}
 use Rattle.std.proofs.lemmas.Bool.{lt-ltb}
 use Rattle.zeus_base.specs.declared.order.Stream.{Stream}
@@ -7,13 +7,13 @@ use Rattle.zeus_packet.specs.declared.letter.Letter.{Letter}
 use Rattle.zeus_packet.specs.declared.write.Write.{Write}
 use Rattle.zeus_model.specs.In.{In}
 use Rattle.zeus_model.specs.Tables.{nth}
-use Rattle.zeus_model.specs.State.{Node, Slot, slot, log, with_log}
-use Rattle.zeus_model.specs.Commit.{no_kept, raise, after_passing, writes_of, each_write, validated}
+use Rattle.zeus_model.specs.State.{Node, Slot, log, with_log}
+use Rattle.zeus_model.specs.Commit.{no_kept, raise, after_passing, writes_of}
 use Rattle.zeus_model.specs.declared.state.Kept.{Kept}
-use Rattle.machine_moves.specs.Scene.{Scene, IsLive, IsReceivable, Changes, nothing}
-use Rattle.machine_moves.specs.Move.{Move, IsRaising, raises}
-use Rattle.machine_moves.proofs.Steady.{IsSteady, move_keep}
-use Rattle.replication_safety.specs.Line.{Line, Has, kept_at}
+use Rattle.machine_moves.specs.Scene.{IsReceivable, Changes, nothing}
+use Rattle.machine_moves.specs.Move.{IsRaising, raises}
+use Rattle.machine_moves.proofs.Steady.{move_keep}
+use Rattle.replication_safety.specs.Line.{Has, kept_at}
 use Rattle.replication_safety.specs.Moves.{Raises}
 use Rattle.replication_safety.proofs.Alive.{alive_Raises}
 use Rattle.replication_safety.proofs.Drops.{raises-drops, keeps_Raises}
@@ -23,7 +23,7 @@ use Rattle.invariants.proofs.LineMoves.{logs-quiet}
 use Rattle.invariants.proofs.LineSeen.{stream_cases, log_done_is, log_kept_is}
 use Rattle.data_safety.specs.Story.{Story, Truth}
 use Rattle.data_safety.specs.Faithful.{Faithful, left}
-use Rattle.data_safety.proofs.PassThins.{Thins, ThinLine, thin-drops, thin-quiet}
+use Rattle.data_safety.proofs.PassThins.{ThinLine, thin-drops, thin-quiet}
 use Rattle.data_safety.proofs.PassLogs.{KeepsSlots, kept-slots, thins-logs, writes_of-in, kept-low}
 use Rattle.data_safety.proofs.PassCopies.{Revalidates}
 use Rattle.data_safety.proofs.PassMoves.{pass-again}

@@ -1,27 +1,20 @@
 -- A read has its point and its acknowledgement at once, and all stays faithful.
-use Rattle.std.specs.Prelude.{ℕ, zero, suc, ◌≡◌, ◌≢◌, ◌==◌, ◌+◌, ◌<◌, ◌≤◌, true, false, List, [], ◌∷◌, ◌++◌, length, Option, Some, None, is_some, ◌⊎◌, ◌↔◌, if◌then◌else◌}
-use Rattle.std.proofs.Common.{arith, refl, sym, ap, subst, ◌∙◌, inl, inr, eq-eqb}
+use Rattle.std.specs.Prelude.{ℕ, zero, suc, ◌≡◌, ◌≢◌, ◌==◌, ◌+◌, ◌≤◌, true, false, List, [], ◌∷◌, ◌++◌, Option, Some, None, is_some, ◌↔◌, if◌then◌else◌}
+use Rattle.std.proofs.Common.{arith, refl, sym, ap, ◌∙◌, inl, inr, eq-eqb}
 use Rattle.std.proofs.lemmas.Bool.{ne_eqb}
 use Rattle.zeus_base.specs.declared.value.Value.{Value}
-use Rattle.zeus_packet.specs.declared.letter.State.TheVariants.{Valid}
 use Rattle.zeus_packet.specs.declared.write.Content.{Content}
-use Rattle.zeus_packet.specs.declared.write.Write.{Write}
-use Rattle.zeus_txn.specs.Ops.{mentions, named, is_write}
+use Rattle.zeus_txn.specs.Ops.{is_write}
 use Rattle.zeus_txn.specs.Run.{run}
 use Rattle.zeus_txn.specs.declared.ops.Op.{Op}
 use Rattle.zeus_txn.specs.declared.reply.Ran.{Ran}
 use Rattle.zeus_txn.specs.declared.reply.Reply.{Reply}
-use Rattle.zeus_txn.specs.declared.tx.TxDecl.{TxDecl}
-use Rattle.zeus_model.specs.Tables.{nth}
-use Rattle.zeus_model.specs.State.{Node, copy, slot}
+use Rattle.zeus_model.specs.State.{Node, slot}
 use Rattle.zeus_model.specs.Book.{Book, Point, TxRecord, no_record, record_of, reply_or, book_reply, book_point, book_ack, book_read}
 use Rattle.zeus_model.specs.Local.{with_current, hindrance, run_here}
-use Rattle.zeus_model.specs.Serial.{start_map, serial_replies}
-use Rattle.zeus_model.specs.Sound.{replies_of, times}
-use Rattle.zeus_model.specs.World.{no_tx}
-use Rattle.zeus_model.specs.declared.state.Copy.{Copy}
+use Rattle.zeus_model.specs.Sound.{times}
 use Rattle.zeus_model.specs.declared.state.Current.{Current}
-use Rattle.machine_moves.specs.Scene.{Scene, Changes, nothing}
+use Rattle.machine_moves.specs.Scene.{Changes, nothing}
 use Rattle.machine_moves.proofs.Lists.{nth-put_same, nth-put_other}
 use Rattle.invariants.proofs.ObjectSeen.{same_or_not}
 use Rattle.data_safety.specs.Story.{Story, Truth, tx_ops, overwritten}
@@ -181,8 +174,8 @@ reads-faithful y z u f n s c is reader none ch txs book =
     let was = gb.current n s c is in
     let after = here x u gb c.id reply z.scene.node z.book book was.1 was.3 in
     let ran : (run (λ k. (left x k).value) c.tx).reply ≡ reply = ap (λ (r : Ran). r.reply)
-        (read_run (y.scene.node n) c.tx (left x)
-        (λ k d m at valid. ap (λ (e : Content). e.value) (read-valid x u g n k d (gb.objects c.id k (rw (← was.0) m)) ch.live at valid)) none) in
+    (read_run (y.scene.node n) c.tx (left x)
+    (λ k d m at valid. ap (λ (e : Content). e.value) (read-valid x u g n k d (gb.objects c.id k (rw (← was.0) m)) ch.live at valid)) none) in
     let same_reply : (run (λ k. (left x k).value) (tx_ops x c.id)).reply ≡ reply = ap (λ (ops : List Op). (run (λ k. (left x k).value) ops).reply) (sym was.0) ∙ ran in
     slot-faithful y z u f n s c.id None ch txs
     record {

@@ -1,8 +1,7 @@
 -- A transaction that runs on valid copies runs on what they hold.
-use Rattle.std.specs.Prelude.{ℕ, suc, ◌≡◌, ◌<◌, Bool, true, false, ◌||◌, List, [], ◌∷◌, length, Option, Some, None}
-use Rattle.std.proofs.Common.{arith, refl, sym, ap, ◌∙◌, inl, inr}
+use Rattle.std.specs.Prelude.{ℕ, ◌≡◌, true, List, [], ◌∷◌, Option, Some, None}
+use Rattle.std.proofs.Common.{refl, sym, ap, ◌∙◌, inl, inr}
 use Rattle.std.proofs.lemmas.Bool.{eqb-true, or_cases}
-use Rattle.zeus_base.specs.declared.value.Value.{Value}
 use Rattle.zeus_packet.specs.declared.letter.State.{State}
 use Rattle.zeus_packet.specs.declared.letter.State.TheVariants.{Valid, Invalid, Write}
 use Rattle.zeus_packet.specs.declared.write.Content.{Content}
@@ -10,7 +9,7 @@ use Rattle.zeus_txn.specs.Ops.{mentions, named}
 use Rattle.zeus_txn.specs.Run.{run}
 use Rattle.zeus_txn.specs.RunLaws.{run-agree}
 use Rattle.zeus_txn.specs.declared.ops.Op.{Op}
-use Rattle.zeus_model.specs.Tables.{or_else, first_of}
+use Rattle.zeus_model.specs.Tables.{first_of}
 use Rattle.zeus_model.specs.State.{Node, copy, value_of}
 use Rattle.zeus_model.specs.Local.{hindrance_at, hindrance, unready, Hindrance}
 use Rattle.zeus_model.specs.Ownership.{not_valid}

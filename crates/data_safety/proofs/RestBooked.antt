@@ -1,8 +1,8 @@
 -- A slot turns, and one transaction that has no entry is noted in the book: what the book then says.
-use Rattle.std.specs.Prelude.{ℕ, ◌≡◌, ◌≢◌, ◌+◌, ◌-◌, ◌<◌, ◌≤◌, true, false, List, length, Option, Some, None, is_some, ◌⊎◌, ◌↔◌}
-use Rattle.std.proofs.Common.{arith, refl, sym, ap, subst, ◌∙◌, inl, inr}
+use Rattle.std.specs.Prelude.{ℕ, ◌≡◌, ◌≢◌, ◌+◌, ◌<◌, ◌≤◌, true, false, length, Option, Some, None, is_some, ◌⊎◌, ◌↔◌}
+use Rattle.std.proofs.Common.{refl, sym, ap, ◌∙◌, inl, inr}
 use Rattle.zeus_base.specs.declared.order.Stream.{Stream}
-use Rattle.zeus_txn.specs.Ops.{mentions, named, is_write}
+use Rattle.zeus_txn.specs.Ops.{named}
 use Rattle.zeus_model.specs.Tables.{nth}
 use Rattle.zeus_model.specs.State.{Node, Slot, slot}
 use Rattle.zeus_model.specs.Commit.{no_pending}

@@ -1,22 +1,20 @@
 -- A rest, a begin and a refusal keep what holds of a story.
-use Rattle.std.specs.Prelude.{ℕ, ◌≡◌, ◌≢◌, ◌+◌, ◌-◌, ◌<◌, ◌≤◌, true, false, List, length, Option, Some, None, is_some, ◌⊎◌, ◌↔◌}
+use Rattle.std.specs.Prelude.{ℕ, ◌≡◌, ◌≢◌, ◌≤◌, true, false, List, Option, Some, None, is_some, ◌⊎◌}
 use Rattle.std.proofs.Common.{arith, refl, sym, ap, subst, ◌∙◌, inl, inr}
-use Rattle.zeus_txn.specs.Ops.{is_write}
 use Rattle.zeus_txn.specs.declared.ops.Op.{Op}
 use Rattle.zeus_txn.specs.declared.tx.TxDecl.{TxDecl}
-use Rattle.zeus_packet.specs.declared.write.Content.{Content}
-use Rattle.zeus_model.specs.Tables.{nth, put}
+use Rattle.zeus_model.specs.Tables.{nth}
 use Rattle.zeus_model.specs.State.{Node, slot}
-use Rattle.zeus_model.specs.Book.{Book, Point, EntryId, TxRecord, no_record, record_of, book_begin, book_refuse}
+use Rattle.zeus_model.specs.Book.{Book, Point, TxRecord, no_record, record_of, book_begin, book_refuse}
 use Rattle.zeus_model.specs.Local.{with_current}
 use Rattle.zeus_model.specs.Serial.{start_map, serial_replies}
-use Rattle.zeus_model.specs.Sound.{replies_of, times}
+use Rattle.zeus_model.specs.Sound.{replies_of}
 use Rattle.zeus_model.specs.World.{no_tx}
 use Rattle.zeus_model.specs.declared.state.Current.{Current}
-use Rattle.machine_moves.specs.Scene.{Scene, Changes, Same, Sends, nothing}
+use Rattle.machine_moves.specs.Scene.{Changes, Same, Sends, nothing}
 use Rattle.machine_moves.specs.Move.{Move, turns}
 use Rattle.machine_moves.proofs.Lists.{nth-put_same, nth-put_other}
-use Rattle.machine_moves.proofs.Steady.{IsSteady, move_keep, same_keep}
+use Rattle.machine_moves.proofs.Steady.{move_keep, same_keep}
 use Rattle.invariants.proofs.ObjectSeen.{same_or_not}
 use Rattle.data_safety.specs.Story.{Story, Truth, tx_ops, txs_of}
 use Rattle.data_safety.specs.Faithful.{Faithful, IsBooked, left}

@@ -1,10 +1,10 @@
 -- Nothing has changed but the order of letters: all stays faithful.
-use Rattle.std.specs.Prelude.{ℕ, ◌≡◌, ◌≢◌, ◌<◌, ◌≤◌, true, false, List, length}
-use Rattle.std.proofs.Common.{arith, refl, sym, ap, ◌∙◌, inl, inr}
+use Rattle.std.specs.Prelude.{ℕ, ◌≡◌, true}
+use Rattle.std.proofs.Common.{arith, refl, ap, ◌∙◌, inl, inr}
 use Rattle.std.proofs.lemmas.Bool.{cases_Bool}
 use Rattle.zeus_base.specs.declared.order.Stream.{Stream}
 use Rattle.zeus_model.specs.State.{Node}
-use Rattle.machine_moves.specs.Scene.{Scene, IsLive, IsNumbered, Same, nothing}
+use Rattle.machine_moves.specs.Scene.{Scene, IsNumbered, Same, nothing}
 use Rattle.machine_moves.proofs.Steady.{same_keep}
 use Rattle.ownership_safety.specs.Moves as owning
 use Rattle.ownership_safety.proofs.KeepsViews.{keeps_Stops}

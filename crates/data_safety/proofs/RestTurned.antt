@@ -1,32 +1,25 @@
 -- Stories that differ in current transactions and in the book alone: streams, objects, copies and entries are the same.
-use Rattle.std.specs.Prelude.{ℕ, ◌≡◌, ◌≢◌, ◌+◌, ◌-◌, ◌<◌, ◌≤◌, true, false, nat_lt, List, length, Option, Some, None, is_some, ◌⊎◌, ◌↔◌, if◌then◌else◌}
-use Rattle.std.proofs.Common.{arith, refl, sym, ap, subst, ◌∙◌, inl, inr}
-use Rattle.zeus_base.specs.Nodes.{has}
+use Rattle.std.specs.Prelude.{ℕ, ◌≡◌, ◌+◌, ◌-◌, false, nat_lt, List, Option, None, if◌then◌else◌}
+use Rattle.std.proofs.Common.{refl, sym, ap, subst, ◌∙◌, inl, inr}
 use Rattle.zeus_base.specs.declared.order.Stream.{Stream}
-use Rattle.zeus_packet.specs.declared.place.Proposal.{Proposal}
-use Rattle.zeus_packet.specs.declared.write.Content.{Content}
 use Rattle.zeus_packet.specs.declared.write.Write.{Write}
-use Rattle.zeus_txn.specs.Ops.{mentions}
 use Rattle.zeus_model.specs.In.{In}
 use Rattle.zeus_model.specs.Tables.{nth}
-use Rattle.zeus_model.specs.State.{Node, StreamLog, no_entry, copy, owns, slot}
+use Rattle.zeus_model.specs.State.{Node, no_entry, copy, owns, slot}
 use Rattle.zeus_model.specs.Commit.{no_pending}
 use Rattle.zeus_model.specs.Book.{Book}
 use Rattle.zeus_model.specs.declared.state.Copy.{Copy}
-use Rattle.zeus_model.specs.declared.state.Entry.{Entry}
-use Rattle.zeus_model.specs.declared.state.Gather.{Gather}
-use Rattle.zeus_model.specs.declared.state.Pending.{Pending}
-use Rattle.machine_moves.specs.Scene.{Scene, IsLive}
+use Rattle.machine_moves.specs.Scene.{IsLive}
 use Rattle.machine_moves.proofs.Steady.{IsSteady}
 use Rattle.ownership_safety.specs.Object.{Object, HasGiven}
 use Rattle.ownership_safety.specs.Ordered.{Ordered}
 use Rattle.replication_safety.specs.Line.{Line, Has, Entry as Sent, Stores, kept_at}
 use Rattle.replication_safety.specs.Replicated.{Replicated}
-use Rattle.invariants.specs.Lines.{line, done_of, kept_of, about}
+use Rattle.invariants.specs.Lines.{line, about}
 use Rattle.invariants.specs.Objects.{object, declared_entry, about as about_object}
 use Rattle.invariants.proofs.LineMoves.{IsQuiet, slots-quiet}
-use Rattle.data_safety.specs.Story.{Story, Truth, tx_ops, place_now, pending_at, Lives, running}
-use Rattle.data_safety.specs.Faithful.{Faithful, IsCopied, IsEntered, IsBooked, IsClean, IsNewer, IsRun, left, found_at, content_of}
+use Rattle.data_safety.specs.Story.{Story, Truth, place_now, pending_at, Lives, running}
+use Rattle.data_safety.specs.Faithful.{Faithful, IsCopied, IsEntered, IsBooked, IsClean, IsNewer, IsRun, left, found_at}
 
 -- a node that differs in current transactions alone
 pub record IsTurn (before after : Node) : Type 0 where
@@ -114,7 +107,10 @@ module _ (y : Story) (nodes : ℕ → Node) (book : Book) (q : (n : ℕ) → IsT
           above = rw same newer.above;
           not_valid = newer.not_valid;
           written = (
-            w.0, w.1, w.2, subst (λ (l : Line). Has l n w.1) (sym (turned-line w.0)) w.3,
+            w.0,
+            w.1,
+            w.2,
+            subst (λ (l : Line). Has l n w.1) (sym (turned-line w.0)) w.3,
             subst (λ (l : Line). In {A = Write} record { obj = x; ver = c.ver; value = c.value } (kept_at l n w.1).writes) (sym (turned-line w.0)) w.4,
           );
         }

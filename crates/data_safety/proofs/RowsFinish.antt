@@ -1,25 +1,22 @@
 -- The finish of a node as moves of a story: the passes in the order of the book, then what is said of them, then the report.
-use Rattle.std.specs.Prelude.{ℕ, ◌≡◌, ◌-◌, true, false, ◌&&◌, not, List, [], ◌∷◌, ◌++◌, length, take}
-use Rattle.std.proofs.Common.{arith, refl, sym, ap, ◌∙◌, subst, append_assoc, append-nil}
+use Rattle.std.specs.Prelude.{ℕ, ◌≡◌, ◌-◌, ◌&&◌, not, List, [], ◌∷◌, ◌++◌, length, take}
+use Rattle.std.proofs.Common.{refl, sym, ap, ◌∙◌, subst, append_assoc, append-nil}
 use Rattle.std.proofs.lemmas.Bool.{cond_both}
 use Rattle.zeus_base.specs.Nodes.{has}
 use Rattle.zeus_base.specs.declared.order.Stream.{Stream}
 use Rattle.zeus_base.specs.declared.step.Passed.{Passed}
-use Rattle.zeus_packet.specs.declared.letter.Letter.{Letter}
 use Rattle.zeus_model.specs.In.{In, here, there}
 use Rattle.zeus_model.specs.State.{Node}
 use Rattle.zeus_model.specs.Act.{Act, still}
 use Rattle.zeus_model.specs.Book.{Book, book_passes, in_stream_order}
 use Rattle.zeus_model.specs.Commit.{none_stored, outside, report, finish}
-use Rattle.machine_moves.specs.Scene.{Scene}
 use Rattle.machine_moves.proofs.Lists.{In-nothing, take-append}
-use Rattle.machine_moves.proofs.Within.{Keeps}
-use Rattle.machine_moves.proofs.Reach.{Became, PlainReached, IsReady, known}
+use Rattle.machine_moves.proofs.Reach.{PlainReached, IsReady, known}
 use Rattle.machine_moves.proofs.Passing.{self_member}
 use Rattle.machine_moves.proofs.Finish.{report-reached}
 use Rattle.data_safety.specs.Story.{Story}
 use Rattle.data_safety.proofs.RowsReach.{told_as, Arrives, plain_arrives, then_arrives, tells_arrives}
-use Rattle.data_safety.proofs.OrderAdvance.{advanced, all_advanced}
+use Rattle.data_safety.proofs.OrderAdvance.{all_advanced}
 use Rattle.data_safety.proofs.OrderSorted.{Apart, sorted-In, sorted-Apart, sorted-advanced}
 use Rattle.data_safety.proofs.OrderTurns.{IsDue, IsWord-tellable, Turned, idles, goes, IsTurn, IsRound}
 use Rattle.data_safety.proofs.OrderFinish.{IsAny, finish_passes, own_passes, kept_passes, finish_round}
@@ -44,6 +41,7 @@ turn_round m a t turn = by_turn turn.turned
     only : (p q : Passed) → IsDue m p → In q (p ∷ []) → IsDue m q
     only p q due (here _ _ e) = rw e due
     only p q due (there _ _ i) = In-nothing q i
+
     by_turn : Turned m a t → IsRound m a IsAny
     by_turn (idles none same) =
         record {

@@ -1,20 +1,18 @@
 -- Passes as moves of a story, in the order in which the book takes them.
-use Rattle.std.specs.Prelude.{ℕ, zero, suc, ◌≡◌, ◌≢◌, ◌+◌, ◌-◌, ◌<◌, ◌≤◌, Bool, true, false, ◌==◌, List, [], ◌∷◌, ◌++◌, length}
-use Rattle.std.proofs.Common.{arith, refl, sym, ap, ◌∙◌, subst, eq-eqb}
+use Rattle.std.specs.Prelude.{ℕ, zero, suc, ◌≡◌, ◌≢◌, ◌-◌, ◌≤◌, true, false, ◌==◌, List, [], ◌∷◌}
+use Rattle.std.proofs.Common.{arith, refl, sym, ◌∙◌, subst, eq-eqb}
 use Rattle.std.proofs.lemmas.Bool.{ne_eqb}
 use Rattle.zeus_base.specs.Nodes.{has}
 use Rattle.zeus_base.specs.declared.order.Stream.{Stream}
 use Rattle.zeus_base.specs.declared.step.Passed.{Passed}
-use Rattle.zeus_packet.specs.declared.letter.Letter.{Letter}
 use Rattle.zeus_model.specs.In.{In, here, there}
 use Rattle.zeus_model.specs.Tables.{front, numbers_from}
-use Rattle.zeus_model.specs.State.{Node, Slot, StreamLog, slot, log}
+use Rattle.zeus_model.specs.State.{Node, slot, log}
 use Rattle.zeus_model.specs.Book.{Book, tx_of, pass_tx, pass_numbers, book_passes}
 use Rattle.zeus_model.specs.Commit.{no_kept, passes, pass_own, pass_kept}
-use Rattle.machine_moves.specs.Scene.{Scene}
 use Rattle.machine_moves.specs.Move.{own_kept, passes_own, passes_kept}
 use Rattle.machine_moves.proofs.Within.{Keeps-pass_own, Keeps-pass_kept}
-use Rattle.machine_moves.proofs.Reach.{Became, IsReady, known}
+use Rattle.machine_moves.proofs.Reach.{IsReady, known}
 use Rattle.machine_moves.proofs.Passing.{front-parts, own_front, own_kept-length, pass_own-slot, pass_own-more, pass_kept-log, pass_kept-more, kept_front, outsider_other}
 use Rattle.data_safety.specs.Story.{Story}
 use Rattle.data_safety.specs.StoryMoves.{passes_own_tx, passes_kept_tx}

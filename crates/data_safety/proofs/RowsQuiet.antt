@@ -1,9 +1,6 @@
 -- What the rules of letters let pass, and what may stand against a commit.
-use Rattle.std.specs.Prelude.{ℕ, ◌≡◌, Bool, true, false, ◌&&◌, not, ◌==◌, nat_lt, List, [], ◌∷◌, ◌++◌, length, Option, Some, None, if◌then◌else◌}
+use Rattle.std.specs.Prelude.{ℕ, ◌≡◌, Bool, true, false, List, [], ◌∷◌, Option, Some, None}
 use Rattle.std.proofs.Common.{arith, refl}
-use Rattle.std.proofs.lemmas.Bool.{cond_both}
-use Rattle.zeus_base.specs.Order.{is_below}
-use Rattle.zeus_base.specs.Nodes.{has, with_node}
 use Rattle.zeus_base.specs.declared.order.Stamp.{Stamp}
 use Rattle.zeus_base.specs.declared.order.Stream.{Stream}
 use Rattle.zeus_base.specs.declared.step.Passed.{Passed}
@@ -19,13 +16,13 @@ use Rattle.zeus_txn.specs.declared.ops.Op.{Op}
 use Rattle.zeus_model.specs.Tables.{or_else, where_true, first_of}
 use Rattle.zeus_model.specs.declared.answer.Outcome.{Outcome}
 use Rattle.zeus_model.specs.declared.answer.Tried.{Tried}
-use Rattle.zeus_model.specs.declared.answer.Tried.TheVariants.{Stopped as TryStopped, Nothing, NoCopy, NotValid, Read, PipeFull, NotOwner, Held, WornOut, Committed}
+use Rattle.zeus_model.specs.declared.answer.Tried.TheVariants.{NoCopy, Read, PipeFull, NotOwner, Held, WornOut, Committed}
 use Rattle.zeus_model.specs.declared.state.Gather.{Gather}
-use Rattle.zeus_model.specs.State.{Node, Slot, holder}
-use Rattle.zeus_model.specs.Act.{Act, Did, just, sends, still}
+use Rattle.zeus_model.specs.State.{Node, holder}
+use Rattle.zeus_model.specs.Act.{Did}
 use Rattle.zeus_model.specs.Commit.{stored_rinv, on_rinv, on_rack, on_own_rack, on_kept_rack, on_rval, raise}
 use Rattle.zeus_model.specs.Local.{full_cause, owner_cause, held_elsewhere, holder_cause, worn_cause, write_cause}
-use Rattle.zeus_model.specs.Ownership.{answer_request, on_oreq, rebased, hold_cause, hold_or_refuse, oinv_on_base, on_oinv, decide_on, decide_gathered, decide, take_ack, gather_for, gather_or_older, greater_gather, collect_cause, collect_or_refuse, oack_on_base, on_oack, answer_settled, takes_over, on_oval, request_cause, settle}
+use Rattle.zeus_model.specs.Ownership.{answer_request, on_oreq, rebased, hold_cause, hold_or_refuse, oinv_on_base, on_oinv, decide_on, decide_gathered, take_ack, gather_or_older, collect_cause, collect_or_refuse, oack_on_base, on_oack, on_oval, request_cause}
 use Rattle.zeus_model.specs.Receive.{on_recovered, row}
 
 -- ---- no rule of a letter lets an entry pass

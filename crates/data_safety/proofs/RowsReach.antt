@@ -1,6 +1,6 @@
 -- From one story to another by moves of one node, which ends as a certain node, has sent certain letters and has left a certain book.
-use Rattle.std.specs.Prelude.{ℕ, ◌≡◌, ◌≤◌, Bool, List, [], ◌++◌, length, take}
-use Rattle.std.proofs.Common.{arith, refl, sym}
+use Rattle.std.specs.Prelude.{ℕ, ◌≡◌, List, [], ◌++◌, take}
+use Rattle.std.proofs.Common.{arith, refl}
 use Rattle.zeus_packet.specs.declared.letter.Letter.{Letter}
 use Rattle.zeus_txn.specs.declared.tx.TxDecl.{TxDecl}
 use Rattle.zeus_model.specs.In.{In}
@@ -8,8 +8,8 @@ use Rattle.zeus_model.specs.State.{Node}
 use Rattle.zeus_model.specs.Book.{Book, counted}
 use Rattle.machine_moves.specs.Scene.{Scene, IsLive, Changes, nothing}
 use Rattle.machine_moves.specs.Move.{Move, next, IsTellable}
-use Rattle.machine_moves.specs.Plain.{IsPlain, PlainMoves, stays, moves_on}
-use Rattle.machine_moves.proofs.Lists.{In-nothing, take-append}
+use Rattle.machine_moves.specs.Plain.{PlainMoves, stays, moves_on}
+use Rattle.machine_moves.proofs.Lists.{In-nothing}
 use Rattle.machine_moves.proofs.Within.{Keeps, Keeps-trans}
 use Rattle.machine_moves.proofs.Reach.{Became, Became-changed, Changes-became, Same-became, Became-trans, changed, Leads, PlainReaches, IsReady, ready_after, still_reaches, tells_at}
 use Rattle.data_safety.specs.Story.{Story}

@@ -1,12 +1,11 @@
 -- Each step of the world is a sequence of moves of its story.
-use Rattle.std.specs.Prelude.{ℕ, ◌≡◌, ◌≢◌, ◌+◌, ◌-◌, ◌<◌, ◌≤◌, Bool, true, false, nat_lt, List, [], ◌∷◌, ◌++◌, length, take, Option, Some, None, is_some, is_none, if◌then◌else◌}
-use Rattle.std.proofs.Common.{arith, refl, sym, ap, ◌∙◌, inl, inr, subst}
+use Rattle.std.specs.Prelude.{ℕ, ◌≡◌, ◌-◌, ◌<◌, ◌≤◌, true, false, nat_lt, List, [], ◌∷◌, ◌++◌, length, take, Option, Some, None, is_some, if◌then◌else◌}
+use Rattle.std.proofs.Common.{arith, refl, sym, ◌∙◌, inl, inr, subst}
 use Rattle.std.proofs.lemmas.Bool.{cond_both, ltb-true, ltb-false}
 use Rattle.zeus_base.specs.NodeLaws.{IsRising}
 use Rattle.zeus_base.specs.declared.step.Step.{Step}
 use Rattle.zeus_base.specs.declared.step.Step.TheVariants.{Begin, Try, Deliver, Tick, Stop, View, Install}
 use Rattle.zeus_packet.specs.declared.letter.Letter.{Letter}
-use Rattle.zeus_txn.specs.declared.tx.TxDecl.{TxDecl}
 use Rattle.zeus_base.specs.declared.step.Passed.{Passed}
 use Rattle.zeus_model.specs.In.{In}
 use Rattle.zeus_model.specs.Tables.{nth}
@@ -22,10 +21,10 @@ use Rattle.zeus_model.specs.State.{Node}
 use Rattle.zeus_model.specs.Act.{Did, just, did_then}
 use Rattle.zeus_model.specs.Book.{Book, record_of, counted, book_passes, in_stream_order}
 use Rattle.zeus_model.specs.Commit.{finish}
-use Rattle.zeus_model.specs.Local.{begin, try_slot}
-use Rattle.zeus_model.specs.Membership.{dropped, install, stop, tick}
+use Rattle.zeus_model.specs.Local.{try_slot}
+use Rattle.zeus_model.specs.Membership.{install, stop, tick}
 use Rattle.zeus_model.specs.Receive.{row, untaken, receive_or_not, receive}
-use Rattle.zeus_model.specs.World.{World, Event, no_node, no_tx, node, tx_decl, link, all_posted, cut, refuse_step, waits_for, begin_refused, begin_or_not, step_begin, tried_at, nth_letter, received_at, deliver_or_not, ticked_at, stopped_at, installed_at, view_refused, view_or_not, step_install, happens, stepped}
+use Rattle.zeus_model.specs.World.{World, Event, node, tx_decl, link, cut, refuse_step, begin_refused, begin_or_not, step_begin, tried_at, nth_letter, received_at, deliver_or_not, ticked_at, stopped_at, installed_at, view_refused, view_or_not, step_install, happens, stepped}
 use Rattle.machine_moves.specs.Scene.{Scene, scene, view, IsLive, nothing}
 use Rattle.machine_moves.specs.Move.{Move, makes_view, stops, installs}
 use Rattle.machine_moves.specs.Plain.{IsPlain}
@@ -44,7 +43,7 @@ use Rattle.data_safety.specs.StoryMoves.{StoryMoves, plain, rests, ended, onward
 use Rattle.data_safety.proofs.RowsReach.{told_as, Arrives, plain_arrives, then_arrives, arrived}
 use Rattle.data_safety.proofs.RowsQuiet.{row-silent}
 use Rattle.data_safety.proofs.RowsFinish.{finish_arrives}
-use Rattle.data_safety.proofs.RowsTry.{MayBegin, idle_arrives, begin_arrives, try_arrives}
+use Rattle.data_safety.proofs.RowsTry.{idle_arrives, begin_arrives, try_arrives}
 
 -- ---- a step that changes nothing
 

@@ -1,16 +1,13 @@
 -- A slot's transaction as moves of a story: begun, read, refused, or committed.
-use Rattle.std.specs.Prelude.{ℕ, ◌≡◌, ◌-◌, ◌<◌, Bool, true, false, List, [], ◌∷◌, ◌++◌, length, take, Option, Some, None}
-use Rattle.std.proofs.Common.{arith, refl, sym, ap, ◌∙◌, subst}
+use Rattle.std.specs.Prelude.{ℕ, ◌≡◌, ◌-◌, ◌<◌, true, false, List, [], length, take, Option, Some, None}
+use Rattle.std.proofs.Common.{refl, sym, subst}
 use Rattle.std.proofs.lemmas.Bool.{cond_both}
 use Rattle.zeus_base.specs.Nodes.{without, meet}
-use Rattle.zeus_base.specs.declared.order.Stream.{Stream}
 use Rattle.zeus_packet.specs.declared.letter.Body.TheVariants.{RInv}
 use Rattle.zeus_packet.specs.declared.letter.Letter.{Letter}
 use Rattle.zeus_packet.specs.declared.write.Write.{Write}
-use Rattle.zeus_txn.specs.declared.ops.Op.{Op}
 use Rattle.zeus_txn.specs.declared.reply.Ran.{Ran}
 use Rattle.zeus_txn.specs.Ops.{named, is_write}
-use Rattle.zeus_model.specs.In.{In}
 use Rattle.zeus_model.specs.Tables.{nth}
 use Rattle.zeus_model.specs.declared.answer.Begin.{Begin}
 use Rattle.zeus_model.specs.declared.answer.Begin.TheVariants.{Stopped}
@@ -18,17 +15,16 @@ use Rattle.zeus_model.specs.declared.answer.Tried.{Tried}
 use Rattle.zeus_model.specs.declared.answer.Tried.TheVariants.{Stopped as TryStopped, Nothing, NoCopy, NotValid, Read, PipeFull, NotOwner, Held, WornOut, Committed}
 use Rattle.zeus_model.specs.declared.state.Current.{Current}
 use Rattle.zeus_model.specs.State.{Node, slot, own_stream, next_number}
-use Rattle.zeus_model.specs.Act.{Act, Did, just, to_each}
+use Rattle.zeus_model.specs.Act.{Did, just, to_each}
 use Rattle.zeus_model.specs.Book.{Book, record_of, book_begin, book_commit, book_tried, book_passes, in_stream_order}
 use Rattle.zeus_model.specs.Commit.{advance_own}
-use Rattle.zeus_model.specs.Local.{with_current, begin_free, begin, requests, not_owned, not_copied, Hindrance, Missing, Unready, hindrance, run_here, read_missing, read_row, write_cause, new_writes, replicas_of, invalidation, committed, commit_entry, commit, write_row, try_current, try_slot}
+use Rattle.zeus_model.specs.Local.{with_current, begin_free, begin, not_owned, not_copied, Hindrance, Missing, Unready, hindrance, run_here, read_missing, read_row, write_cause, new_writes, replicas_of, invalidation, committed, commit_entry, commit, write_row, try_current, try_slot}
 use Rattle.zeus_model.specs.World.{no_tx, book_begun}
-use Rattle.machine_moves.specs.Scene.{Scene}
-use Rattle.machine_moves.specs.Move.{turns, commits, IsTellable}
+use Rattle.machine_moves.specs.Move.{turns, commits}
 use Rattle.machine_moves.proofs.Lists.{take-none, take-append}
 use Rattle.machine_moves.proofs.Within.{Keeps-with_slot, Keeps-committed}
 use Rattle.machine_moves.proofs.Steady.{IsSteady}
-use Rattle.machine_moves.proofs.Reach.{Became, IsReady, known, still_reaches, cut_none, cut_tells}
+use Rattle.machine_moves.proofs.Reach.{IsReady, known, still_reaches, cut_none, cut_tells}
 use Rattle.machine_moves.proofs.Trying.{requests_telling, commit_telling}
 use Rattle.data_safety.specs.Story.{Story}
 use Rattle.data_safety.specs.StoryMoves.{begins, reads, refuses, commits_tx}

@@ -1,37 +1,36 @@
 -- The contents that the entries of a stream find: versions rise along a stream, and what an owner's copy is.
 use Rattle.std.specs.Prelude.{◌&&◌, is_none, ℕ, zero, suc, ◌≡◌, ◌≢◌, ◌==◌, ◌+◌, ◌-◌, ◌<◌, ◌≤◌, Bool, true, false, List, [], ◌∷◌, length, Option, Some, None, is_some, ◌⊎◌}
 use Rattle.std.proofs.Common.{arith, refl, sym, ap, subst, ◌∙◌, inl, inr, le_refl}
-use Rattle.std.proofs.lemmas.Bool.{cases_Bool, cases_lt, eq-eqb, true≢false}
+use Rattle.std.proofs.lemmas.Bool.{cases_Bool, eq-eqb}
 use Rattle.std.proofs.lemmas.Bool.Decides.{nat_tests}
 use Rattle.zeus_base.specs.declared.order.Stream.{Stream}
-use Rattle.zeus_base.specs.declared.value.Value.{Value}
 use Rattle.zeus_packet.specs.declared.write.Content.{Content}
 use Rattle.zeus_packet.specs.declared.write.Write.{Write}
-use Rattle.zeus_txn.specs.Ops.{mentions, named}
+use Rattle.zeus_txn.specs.Ops.{mentions}
 use Rattle.zeus_txn.specs.Run.{run}
 use Rattle.zeus_model.specs.In.{In, here, there}
 use Rattle.zeus_model.specs.Tables.{nth}
-use Rattle.zeus_model.specs.State.{Node, copy, entry, slot, owns}
+use Rattle.zeus_model.specs.State.{copy, entry, slot, owns}
 use Rattle.zeus_model.specs.Commit.{no_pending}
 use Rattle.zeus_model.specs.declared.state.Copy.{Copy}
 use Rattle.zeus_model.specs.declared.state.Entry.{Entry}
 use Rattle.zeus_packet.specs.declared.place.Place.{Place}
 use Rattle.zeus_base.specs.Nodes.{has}
-use Rattle.machine_moves.specs.Scene.{Scene, IsLive}
-use Rattle.replication_safety.specs.Line.{Line, Has, IsAlive, end}
+use Rattle.machine_moves.specs.Scene.{IsLive}
+use Rattle.replication_safety.specs.Line.{Has, IsAlive, end}
 use Rattle.replication_safety.proofs.Consequences.{stored-down}
 use Rattle.invariants.specs.Lines.{line}
 use Rattle.invariants.proofs.LineMoves.{line-home, line-stopped}
 use Rattle.invariants.proofs.ObjectSeen.{same_or_not}
 use Rattle.data_safety.specs.Story.{Story, Truth, tx_ops, place_now, pending_at, Lives, running, overwritten}
-use Rattle.data_safety.specs.Faithful.{Faithful, IsNewer, IsRun, left, content_of, raised, found_at}
+use Rattle.data_safety.specs.Faithful.{Faithful, IsRun, left, content_of, raised, found_at}
 use Rattle.data_safety.proofs.Names.{IsOnce, raised-from, raised-once, run-once}
 use Rattle.ownership_safety.specs.Object.{IsOwner}
 use Rattle.ownership_safety.proofs.Chain.{latest-placed}
 use Rattle.ownership_safety.proofs.Owner.{owner-latest}
 use Rattle.invariants.specs.Objects.{object}
 use Rattle.invariants.proofs.AboutObjects.{object-entry}
-use Rattle.data_safety.proofs.Consequences.{numbered, lives-pending, kept-lives, kept-writes, written-named}
+use Rattle.data_safety.proofs.Consequences.{lives-pending, kept-lives, kept-writes, written-named}
 
 -- ---- writes over contents
 

@@ -1,15 +1,14 @@
 -- The history with one transaction more, and entries whose transactions find what they found.
-use Rattle.std.specs.Prelude.{ℕ, zero, suc, ◌≡◌, ◌==◌, ◌+◌, ◌-◌, true, false, List, [], ◌∷◌, ◌++◌, if◌then◌else◌}
+use Rattle.std.specs.Prelude.{ℕ, ◌≡◌, ◌+◌, ◌-◌, true, List, [], ◌∷◌, ◌++◌}
 use Rattle.std.proofs.Common.{arith, refl, sym, ap, ◌∙◌}
 use Rattle.zeus_base.specs.declared.config.Config.{Config}
 use Rattle.zeus_base.specs.declared.order.Stream.{Stream}
-use Rattle.zeus_base.specs.declared.value.Value.{Value}
 use Rattle.zeus_packet.specs.declared.write.Content.{Content}
 use Rattle.zeus_packet.specs.declared.write.Write.{Write}
 use Rattle.zeus_txn.specs.Map.{run_at, applied_map}
 use Rattle.zeus_txn.specs.Ops.{mentions, named}
 use Rattle.zeus_txn.specs.Run.{run}
-use Rattle.zeus_txn.specs.RunLaws.{keys, AreOf, run-are_of, run-agree}
+use Rattle.zeus_txn.specs.RunLaws.{AreOf, run-are_of, run-agree}
 use Rattle.zeus_txn.specs.declared.map.Versioned.{Versioned}
 use Rattle.zeus_txn.specs.declared.ops.Op.{Op}
 use Rattle.zeus_txn.specs.declared.reply.Ran.{Ran}
@@ -23,7 +22,7 @@ use Rattle.zeus_model.specs.World.{no_tx}
 use Rattle.zeus_model.specs.declared.state.Pending.{Pending}
 use Rattle.data_safety.specs.Story.{Story, Truth, tx_ops, txs_of, pending_at, overwritten, running}
 use Rattle.data_safety.specs.Faithful.{left, found_at, raised, IsRun}
-use Rattle.data_safety.proofs.SerialContents.{serial_map-append, serial_replies-append, content_in, written_map-contents, raised-agree, overwritten-base}
+use Rattle.data_safety.proofs.SerialContents.{serial_map-append, serial_replies-append, content_in, written_map-contents, raised-agree}
 
 -- ---- one point more
 

@@ -1,6 +1,6 @@
 -- A node stores the next entry of a stream.
-use Rattle.std.specs.Prelude.{ℕ, zero, suc, ◌≡◌, ◌≢◌, ◌+◌, ◌-◌, ◌<◌, ◌≤◌, Bool, true, false, List, [], ◌∷◌, ◌++◌, length, Option, Some, None, is_some, ◌⊎◌}
-use Rattle.std.proofs.Common.{arith, refl, sym, ap, subst, ◌∙◌, inl, inr, le_refl}
+use Rattle.std.specs.Prelude.{ℕ, ◌≡◌, ◌≢◌, ◌<◌, ◌≤◌, List, [], ◌∷◌, ◌++◌, length, Option, Some, None, is_some, ◌⊎◌}
+use Rattle.std.proofs.Common.{arith, refl, sym, ap, subst, ◌∙◌, inl, inr}
 use Rattle.zeus_base.specs.Nodes.{has}
 use Rattle.zeus_base.specs.Limits.{KeepsLimits}
 use Rattle.zeus_base.specs.declared.config.Config.{Config}
@@ -15,28 +15,28 @@ use Rattle.zeus_packet.specs.declared.write.Content.{Content}
 use Rattle.zeus_packet.specs.declared.write.Write.{Write}
 use Rattle.zeus_model.specs.In.{In}
 use Rattle.zeus_model.specs.Tables.{nth}
-use Rattle.zeus_model.specs.State.{Node, Slot, StreamLog, slot, log, copy, with_copies}
+use Rattle.zeus_model.specs.State.{Node, Slot, log, copy, with_copies}
 use Rattle.zeus_model.specs.Book.{Book}
 use Rattle.zeus_model.specs.Commit.{store, next_kept, each_write, applied}
 use Rattle.zeus_model.specs.declared.state.Copy.{Copy}
 use Rattle.zeus_model.specs.declared.state.Kept.{Kept}
-use Rattle.machine_moves.specs.Scene.{Scene, IsLive, IsReceivable, Changes, nothing}
-use Rattle.machine_moves.specs.Move.{Move, stores}
+use Rattle.machine_moves.specs.Scene.{IsLive, IsReceivable, Changes, nothing}
+use Rattle.machine_moves.specs.Move.{stores}
 use Rattle.machine_moves.proofs.Steady.{IsSteady, move_keep}
 use Rattle.replication_safety.specs.Line.{Line, Has, Entry, kept_at, top}
 use Rattle.replication_safety.specs.Moves.{StoresNext}
 use Rattle.replication_safety.proofs.Alive.{alive_StoresNext}
-use Rattle.replication_safety.proofs.Appends.{stores-appends, appends-top, appends-has_before, appends-has, appends-old, appends-new, grows_StoresNext, keeps_StoresNext}
+use Rattle.replication_safety.proofs.Appends.{stores-appends, appends-top, appends-has_before, appends-has, appends-old, appends-new, keeps_StoresNext}
 use Rattle.replication_safety.proofs.Entries.{stores-unpassed}
 use Rattle.invariants.specs.Lines.{line}
 use Rattle.invariants.proofs.LineEntries.{store_here}
 use Rattle.invariants.proofs.LineMoves.{logs-quiet, with_log-other}
 use Rattle.invariants.proofs.LineSeen.{stream_cases}
 use Rattle.invariants.proofs.ObjectSeen.{same_or_not}
-use Rattle.data_safety.specs.Story.{Story, Truth, place_now}
+use Rattle.data_safety.specs.Story.{Story, Truth}
 use Rattle.data_safety.specs.Faithful.{Faithful, IsCopied, IsNewer, IsWritten, left, content_of}
 use Rattle.data_safety.proofs.SerialRun.{left-same}
-use Rattle.data_safety.proofs.StoreApplied.{Took, IsTaken, applied-took, applied-some}
+use Rattle.data_safety.proofs.StoreApplied.{Took, applied-took, applied-some}
 use Rattle.data_safety.proofs.PassThins.{Thins, LineGoes, ThinLine, thin-quiet, none_new, thins-entered}
 use Rattle.data_safety.proofs.PassLogs.{KeepsSlots, kept-slots, thins-logs}
 use Rattle.data_safety.proofs.PassLeft.{again-left}

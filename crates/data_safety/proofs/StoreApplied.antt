@@ -1,11 +1,10 @@
 -- What a follower's copies are after it has taken writes.
-use Rattle.std.specs.Prelude.{ℕ, ◌≡◌, ◌≢◌, ◌<◌, ◌≤◌, Bool, true, false, List, [], ◌∷◌, Option, Some, None, is_some, if◌then◌else◌, ◌⊎◌, nat_lt}
+use Rattle.std.specs.Prelude.{ℕ, ◌≡◌, ◌≢◌, ◌<◌, ◌≤◌, List, [], ◌∷◌, Option, Some, None, is_some, ◌⊎◌, nat_lt}
 use Rattle.std.proofs.Common.{arith, refl, sym, ap, ◌∙◌, inl, inr, le_refl}
 use Rattle.std.proofs.lemmas.Bool.{cases_Bool}
 use Rattle.std.proofs.lemmas.Bool.Decides.{nat_tests}
 use Rattle.zeus_base.specs.TableLaws.{nth-put_same, nth-put_other}
-use Rattle.zeus_packet.specs.declared.letter.State.{State}
-use Rattle.zeus_packet.specs.declared.letter.State.TheVariants.{Valid, Invalid}
+use Rattle.zeus_packet.specs.declared.letter.State.TheVariants.{Invalid}
 use Rattle.zeus_packet.specs.declared.write.Write.{Write}
 use Rattle.zeus_model.specs.In.{In, here, there}
 use Rattle.zeus_model.specs.Tables.{nth, put}

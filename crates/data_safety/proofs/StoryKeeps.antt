@@ -1,7 +1,5 @@
 -- Each move of a story keeps it faithful.
-use Rattle.std.specs.Prelude.{ℕ, ◌≡◌}
-use Rattle.std.proofs.Common.{refl}
-use Rattle.machine_moves.specs.Scene.{Scene}
+use Rattle.std.specs.Prelude.{◌≡◌}
 use Rattle.machine_moves.specs.Move.{Move, makes_view, stops, installs, tells, turns, settles, drives, accepts, redrives, gathers, decides, raises, stores, notes_own, notes_kept, passes_own, passes_kept, reports, hears, commits}
 use Rattle.machine_moves.specs.Plain.{IsPlain}
 use Rattle.data_safety.specs.Story.{Story, Truth}

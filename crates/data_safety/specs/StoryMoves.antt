@@ -10,7 +10,7 @@ use Rattle.zeus_model.specs.Local.{with_current, committed, write_cause, hindran
 use Rattle.zeus_model.specs.Tables.{nth}
 use Rattle.zeus_model.specs.World.{no_tx}
 use Rattle.zeus_model.specs.declared.state.Current.{Current}
-use Rattle.machine_moves.specs.Scene.{Scene, Changes, Same, nothing}
+use Rattle.machine_moves.specs.Scene.{Changes, Same, nothing}
 use Rattle.machine_moves.specs.Move.{Move, own_kept}
 unfoldable pub use Rattle.machine_moves.specs.Plain.{IsPlain}
 use Rattle.data_safety.specs.Story.{Story}

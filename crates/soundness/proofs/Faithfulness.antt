@@ -1,25 +1,23 @@
 -- A faithful world is sound.
-use Rattle.std.specs.Prelude.{ℕ, zero, suc, ◌≡◌, ◌≢◌, ◌<◌, ◌≤◌, nat_lt, Bool, true, false, List, [], ◌∷◌, length, Option, Some, None, is_some, ◌⊎◌}
+use Rattle.std.specs.Prelude.{ℕ, zero, suc, ◌≡◌, ◌<◌, ◌≤◌, nat_lt, true, false, List, [], ◌∷◌, length, Option, Some, None, is_some, ◌⊎◌}
 use Rattle.std.proofs.Common.{arith, refl, sym, ap, inl, inr, ◌∙◌, subst}
 use Rattle.std.proofs.lemmas.Bool.{cases_Bool, cases_lt}
 use Rattle.std.proofs.lemmas.Bool.Decides.{nat_tests}
-use Rattle.zeus_base.specs.Limits.{KeepsLimits}
 use Rattle.zeus_base.specs.Nodes.{has}
 use Rattle.zeus_base.specs.Order.{is_below}
-use Rattle.zeus_base.specs.OrderLaws.{is_below-irrefl, not_below-trans, is_below-ver, is_below-asym}
+use Rattle.zeus_base.specs.OrderLaws.{is_below-irrefl, not_below-trans, is_below-asym}
 use Rattle.zeus_base.specs.declared.order.Stamp.{Stamp}
-use Rattle.zeus_packet.specs.declared.letter.State.TheVariants.{Valid}
 use Rattle.zeus_packet.specs.declared.place.Proposal.{Proposal}
 use Rattle.zeus_packet.specs.declared.write.Content.{Content}
 use Rattle.zeus_txn.specs.declared.ops.Op.{Op}
 use Rattle.zeus_model.specs.Tables.{nth}
 use Rattle.zeus_model.specs.Book.{Point, record_of}
-use Rattle.zeus_model.specs.Sound.{Sound, IsOneHistory, HasItsPlace, HasUpToDateCopy, IsUpToDate, IsLiveOwner, history_txs, times, newer, newest, latest_entry, latest_place, left as left_of}
+use Rattle.zeus_model.specs.Sound.{Sound, IsOneHistory, IsUpToDate, history_txs, newer, newest, latest_entry, latest_place, left as left_of}
 use Rattle.zeus_model.specs.State.{Node, entry, copy}
 use Rattle.zeus_model.specs.World.{World, node, no_node, start_entry}
 use Rattle.zeus_model.specs.declared.state.Copy.{Copy}
 use Rattle.zeus_model.specs.declared.state.Entry.{Entry}
-use Rattle.machine_moves.specs.Scene.{Scene, scene, IsNumbered}
+use Rattle.machine_moves.specs.Scene.{scene, IsNumbered}
 use Rattle.machine_moves.proofs.Steady.{IsNumbered-steady}
 use Rattle.ownership_safety.specs.Object.{Object, chain_stamp, place_at, first_stamp}
 use Rattle.ownership_safety.specs.Ordered.{Ordered, IsDecided}
@@ -28,7 +26,7 @@ use Rattle.ownership_safety.proofs.Chain.{stamp_at-ver}
 use Rattle.ownership_safety.proofs.Owner.{one_owner}
 use Rattle.invariants.specs.Objects.{object}
 use Rattle.invariants.proofs.AboutObjects.{object-entry}
-use Rattle.data_safety.specs.Story.{Story, Truth, story, txs_of, place_now}
+use Rattle.data_safety.specs.Story.{Truth, story, txs_of, place_now}
 use Rattle.data_safety.specs.Faithful.{Faithful, IsNewer, left, content_of}
 use Rattle.soundness.proofs.Owners.{live_owner}
 
@@ -64,18 +62,18 @@ is_some_of o a e = rw e refl
 one_history : (w : World) (u : Truth) → Faithful (story w) u → IsOneHistory w
 one_history w u f = record {
   placed = λ id there.
-    let pointed : is_some (record_of w.book id).point ≡ true = (f.booked.in_history id).1 there in
-    let started : is_some (record_of w.book id).begun ≡ true = f.booked.begun id (inr (inl pointed)) in
-    let step : (s : ℕ) × ((record_of w.book id).point ≡ Some s) = some_value (record_of w.book id).point pointed in
-    let begin : (s : ℕ) × ((record_of w.book id).begun ≡ Some s) = some_value (record_of w.book id).begun started in
-    record {
-      once = let most = f.booked.once id in omega arith;
-      begun = (step.0, begin.0, step.1, begin.1, (f.booked.point_after id begin.0 step.0 begin.1 step.1).0);
-      acked = λ s ack point acked. let same : s ≡ ack = same_some (record_of w.book id).point s ack point (f.booked.acked_at id ack acked) in omega arith;
-    };
+      let pointed : is_some (record_of w.book id).point ≡ true = (f.booked.in_history id).1 there in
+      let started : is_some (record_of w.book id).begun ≡ true = f.booked.begun id (inr (inl pointed)) in
+      let step : (s : ℕ) × ((record_of w.book id).point ≡ Some s) = some_value (record_of w.book id).point pointed in
+      let begin : (s : ℕ) × ((record_of w.book id).begun ≡ Some s) = some_value (record_of w.book id).begun started in
+      record {
+        once = let most = f.booked.once id in omega arith;
+        begun = (step.0, begin.0, step.1, begin.1, (f.booked.point_after id begin.0 step.0 begin.1 step.1).0);
+        acked = λ s ack point acked. let same : s ≡ ack = same_some (record_of w.book id).point s ack point (f.booked.acked_at id ack acked) in omega arith;
+      };
   complete = λ id acked.
-    let ack : (s : ℕ) × ((record_of w.book id).acked ≡ Some s) = some_value (record_of w.book id).acked acked in
-    (f.booked.in_history id).0 (is_some_of (record_of w.book id).point ack.0 (f.booked.acked_at id ack.0 ack.1));
+      let ack : (s : ℕ) × ((record_of w.book id).acked ≡ Some s) = some_value (record_of w.book id).acked acked in
+      (f.booked.in_history id).0 (is_some_of (record_of w.book id).point ack.0 (f.booked.acked_at id ack.0 ack.1));
 }
 
 -- ---- the latest placement
@@ -169,14 +167,14 @@ latest_is w u x f count within =
     let top : Entry = latest_entry w x in
     let is : IsNewest x (entry (node w 0) x) w.nodes top = latest-newest w x in
     let from : (i : ℕ) × (i < w.config.nodes) × (top ≡ entry (node w i) x) =
-        elim is.found [
-          | inl first ↦ (0, omega arith, first)
-          | inr later ↦ (later.0, let h = later.1 in omega (arith, count), later.2)
-        ] in
+    elim is.found [
+      | inl first ↦ (0, omega arith, first)
+      | inr later ↦ (later.0, let h = later.1 in omega (arith, count), later.2)
+    ] in
     let seen : o.entry from.0 ≡ top = object_node w x from.0 from.1 ∙ sym from.2 in
     let decided : IsDecided o chain top.stamp top.place = subst (λ (e : Entry). IsDecided o chain e.stamp e.place) seen (ordered.settled from.0) in
     let reached : length chain ≤ top.stamp.ver =
-        reach w x o chain top ordered is count in
+    reach w x o chain top ordered is count in
     let last : top.stamp.ver ≡ length chain = let low = decided.ver in omega arith in
     decided.place ∙ ap (λ (v : ℕ). place_at o chain v) last
 
@@ -204,14 +202,14 @@ pub faithful-sound : (w : World) (u : Truth) → Faithful (story w) u → length
 unfolding scene
 faithful-sound w u f count = record {
   one_owner = λ x a b within first second.
-    let numbered : IsNumbered (scene w) = IsNumbered-steady (scene w) f.steady in
-    one_owner (object (scene w) x) (u.chain x) (f.ordered x (scene_objects w x within)) a b (live_owner w x a numbered first) (live_owner w x b numbered second);
+      let numbered : IsNumbered (scene w) = IsNumbered-steady (scene w) f.steady in
+      one_owner (object (scene w) x) (u.chain x) (f.ordered x (scene_objects w x within)) a b (live_owner w x a numbered first) (live_owner w x b numbered second);
   one_history = one_history w u f;
   serial = rw (txs-same w w.book.points) f.booked.replies;
   copies = λ x n within live there.
-    let placed : has n (place_now (story w) u x).replicas ≡ true = rw (← latest_is w u x f count within) there in
-    let lives : ((scene w).node n).stopped ≡ false = rw (scene_node w n) live in
-    let some : is_some (copy (node w n) x) ≡ true = subst (λ (k : Node). is_some (copy k x) ≡ true) (scene_node w n) ((f.copied.placed n x (scene_objects w x within) lives).1 placed) in
-    let found : (c : Copy) × (copy (node w n) x ≡ Some c) = some_value (copy (node w n) x) some in
-    (found.0, found.1, up_to_date w u n x found.0 (f.copied.content n x found.0 (scene_objects w x within) lives (ap (λ (k : Node). copy k x) (scene_node w n) ∙ found.1)) (left-same w x));
+      let placed : has n (place_now (story w) u x).replicas ≡ true = rw (← latest_is w u x f count within) there in
+      let lives : ((scene w).node n).stopped ≡ false = rw (scene_node w n) live in
+      let some : is_some (copy (node w n) x) ≡ true = subst (λ (k : Node). is_some (copy k x) ≡ true) (scene_node w n) ((f.copied.placed n x (scene_objects w x within) lives).1 placed) in
+      let found : (c : Copy) × (copy (node w n) x ≡ Some c) = some_value (copy (node w n) x) some in
+      (found.0, found.1, up_to_date w u n x found.0 (f.copied.content n x found.0 (scene_objects w x within) lives (ap (λ (k : Node). copy k x) (scene_node w n) ∙ found.1)) (left-same w x));
 }

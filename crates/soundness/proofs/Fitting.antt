@@ -1,5 +1,5 @@
 -- Steps within the limits fit their configuration.
-use Rattle.std.specs.Prelude.{ℕ, List, [], ◌∷◌, length, All}
+use Rattle.std.specs.Prelude.{List, [], ◌∷◌, length, All}
 use Rattle.std.proofs.lemmas.List.Elements.{All-nil, All-cons, All-head, All-tail}
 use Rattle.zeus_base.specs.declared.config.Config.{Config}
 use Rattle.zeus_base.specs.declared.step.Step.{Step}

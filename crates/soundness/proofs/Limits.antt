@@ -1,10 +1,9 @@
 -- What the limits of a configuration and its transactions give over whole runs.
-use Rattle.std.specs.Prelude.{ℕ, zero, suc, ◌≡◌, ◌+◌, ◌<◌, ◌≤◌, ◌==◌, ◌||◌, Bool, true, false, List, [], ◌∷◌, ◌++◌, length, map, Option, Some, None, All, if◌then◌else◌, ◌⊎◌, nat_lt, is_some}
-use Rattle.std.proofs.Common.{arith, refl, sym, ap, inl, inr, ◌∙◌}
+use Rattle.std.specs.Prelude.{ℕ, zero, suc, ◌≡◌, ◌<◌, ◌==◌, Bool, true, false, List, [], ◌∷◌, ◌++◌, length, Option, Some, None, All, ◌⊎◌, nat_lt}
+use Rattle.std.proofs.Common.{arith, refl, inl, inr, ◌∙◌}
 use Rattle.std.proofs.lemmas.Bool.{cases_Bool, cases_lt}
 use Rattle.std.proofs.lemmas.Bool.Decides.{nat_tests}
 use Rattle.std.proofs.lemmas.List.Elements.{All-head, All-tail}
-use Rattle.zeus_base.specs.Limits.{KeepsLimits}
 use Rattle.zeus_base.specs.TableLaws.{length-put}
 use Rattle.zeus_base.specs.declared.config.Config.{Config}
 use Rattle.zeus_base.specs.declared.step.Step.{Step}
@@ -13,9 +12,8 @@ use Rattle.zeus_packet.specs.declared.letter.Letter.{Letter}
 use Rattle.zeus_txn.specs.Ops.{object_of, mentions, mentioned, named, named_after}
 use Rattle.zeus_txn.specs.declared.ops.Op.{Op}
 use Rattle.zeus_txn.specs.declared.tx.TxDecl.{TxDecl}
-use Rattle.zeus_model.specs.Scripts.{FitTxs, FitsTx, FitsOp}
+use Rattle.zeus_model.specs.Scripts.{FitTxs, FitsOp}
 use Rattle.zeus_model.specs.Tables.{nth, put, or_else, where_true}
-use Rattle.zeus_model.specs.Book.{record_of}
 use Rattle.zeus_model.specs.State.{Node}
 use Rattle.zeus_model.specs.World.{World, no_node, no_tx, node, tx_decl, start, start_node, stepped, happens, step_begin, begin_or_not, begin_refused, tried_at, deliver_or_not, received_at, ticked_at, stopped_at, installed_at, step_install, view_or_not, view_refused, nth_letter, link}
 use Rattle.zeus_model.specs.declared.answer.Answer.{Answer}
@@ -51,10 +49,10 @@ unfolding named_after
 named-declared c [] seen x fits known h = known x h
 named-declared c (op ∷ ops) seen x fits known h =
     named-declared c ops (mentioned seen (object_of op)) x (All-tail (FitsOp c) op ops fits)
-        (λ y m. elim (mentioned-from y seen (object_of op) m) [
-          | inl before ↦ known y before
-          | inr now ↦ let is : object_of op < length c.objects = (All-head (FitsOp c) op ops fits).object in omega arith
-        ]) h
+    (λ y m. elim (mentioned-from y seen (object_of op) m) [
+      | inl before ↦ known y before
+      | inr now ↦ let is : object_of op < length c.objects = (All-head (FitsOp c) op ops fits).object in omega arith
+    ]) h
 
 tx-declared : (c : Config) (k : ℕ) (txs : List TxDecl) (id x : ℕ) → FitTxs c k txs → mentions x (named (nth no_tx txs id).tx) ≡ true → x < length c.objects
 unfolding nth FitTxs named named_after

@@ -1,11 +1,10 @@
 -- Every run is sound.
-use Rattle.std.specs.Prelude.{ℕ, zero, suc, ◌≡◌, ◌<◌, List, [], ◌∷◌, ◌++◌, length, take, All}
-use Rattle.std.proofs.Common.{refl, sym, ap, ◌∙◌}
+use Rattle.std.specs.Prelude.{ℕ, zero, suc, ◌≡◌, List, [], ◌∷◌, length, take, All}
+use Rattle.std.proofs.Common.{◌∙◌}
 use Rattle.std.proofs.lemmas.List.Elements.{All-nil, All-cons, All-head, All-tail}
 use Rattle.zeus_base.specs.Limits.{KeepsLimits}
 use Rattle.zeus_base.specs.declared.config.Config.{Config}
 use Rattle.zeus_base.specs.declared.step.Step.{Step}
-use Rattle.zeus_base.specs.declared.step.Step.TheVariants.{Begin, Try, Deliver, Tick, Stop, View, Install}
 use Rattle.zeus_txn.specs.declared.tx.TxDecl.{TxDecl}
 use Rattle.zeus_model.specs.Scripts.{FitTxs, FitsTxs, FitsStep}
 use Rattle.zeus_model.specs.Sound.{Sound}
@@ -14,8 +13,7 @@ use Rattle.machine_moves.specs.Fits.{StepFits}
 use Rattle.machine_moves.proofs.Runs.{usual_after, reached_usual}
 use Rattle.machine_moves.proofs.Start.{start_usual, start-config}
 use Rattle.machine_moves.proofs.Steps.{IsStep, IsUsual, step_is_moves}
-use Rattle.data_safety.specs.Story.{Story, Truth, story}
-use Rattle.data_safety.specs.StoryMoves.{StoryMoves}
+use Rattle.data_safety.specs.Story.{Truth, story}
 use Rattle.data_safety.specs.Faithful.{Faithful}
 use Rattle.data_safety.proofs.Beginning.{untold, start-faithful}
 use Rattle.data_safety.proofs.OwnershipPlain.{IsFaithful}
@@ -72,7 +70,7 @@ run-reached c txs (s ∷ ss) w config same r fits =
 pub run-sound : (c : Config) (txs : List TxDecl) (steps : List Step) → KeepsLimits c → FitsTxs c txs → All (FitsStep c (length txs)) steps → Sound (run (start c txs) steps)
 run-sound c txs steps keeps fit fits =
     reached-sound (run (start c txs) steps)
-        (run-reached c txs steps (start c txs) (start-config c txs) (start-txs c txs) (start-reached c txs keeps fit.each) (fits-steps c txs steps fits))
+    (run-reached c txs steps (start c txs) (start-config c txs) (start-txs c txs) (start-reached c txs keeps fit.each) (fits-steps c txs steps fits))
 
 -- a run keeps its configuration
 pub run-config : (c : Config) (txs : List TxDecl) (steps : List Step) → KeepsLimits c → All (FitsStep c (length txs)) steps → (run (start c txs) steps).config ≡ c

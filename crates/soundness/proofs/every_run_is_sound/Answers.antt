@@ -1,4 +1,3 @@
-use Rattle.zeus_model.specs.Sound.{Sound}
 use Rattle.soundness.proofs.Runs.{run-sound, run-config, prefix-sound}
 use Rattle.soundness.proofs.every_run_is_sound.Goals as goal
 
