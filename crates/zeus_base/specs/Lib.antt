@@ -1,5 +1,5 @@
 pub mod Bits
-pub mod NodeBits
+pub mod Limits
 pub mod NodeLaws
 pub mod Nodes
 pub mod Order

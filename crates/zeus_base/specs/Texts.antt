@@ -5,7 +5,8 @@ use Rattle.std.proofs.Common.{arith, refl, sym, ap, ◌∙◌}
 use Rattle.std.proofs.lemmas.Bool.Decides.{same_from_decides, Decides-eqb, Decides-and}
 use Rattle.std.proofs.lemmas.Bool.{eq-eqb}
 use Rattle.std.proofs.lemmas.Slice.Eq.{bytes_eq-Decides}
-use Rattle.std.proofs.lemmas.List.{take-append-drop, length-take-le}
+use Rattle.std.proofs.lemmas.List.{take-append-drop, length-take-le, length-append, length-replicate, drop-replicate}
+use Rattle.std.proofs.Math.Seq.{take-append_seam, drop-append_seam}
 use Rattle.zeus_base.specs.declared.value.Text.TheInside.{Inside}
 
 -- whether two texts are one
@@ -46,3 +47,22 @@ same_text-take s t h g =
 pub same_text-length : (s t : Inside) (r : Bool) → IsPadded s → IsPadded t → s.len ≡ t.len → r ≡ bytes_eq s.bytes t.bytes → r ≡ same_text (take s.len s.bytes) (take t.len t.bytes)
 same_text-length s t r h g same is =
     rw (← same_text-take s t h g, eq-eqb s.len t.len same) is
+
+-- a text, and bytes 0 up to 32 behind it
+IsPadded-append : (bytes front rest : List ℕ) → IsText bytes → front ≡ bytes → rest ≡ replicate (32 - length bytes) 0 → IsPadded record { len = length bytes; bytes = front ++ rest }
+IsPadded-append bytes front rest text is zeros =
+    let short : length bytes ≤ 32 = text.1 in
+    let first : take (length bytes) (front ++ rest) ≡ bytes = rw is (take-append_seam bytes rest) in
+    let last : drop (length bytes) (front ++ rest) ≡ rest = rw is (drop-append_seam bytes rest) in
+    let room : length rest ≡ 32 - length bytes = rw zeros (length-replicate (32 - length bytes) 0) in
+    record {
+      text = rw first text;
+      whole = rw (is, length-append bytes rest, room) (omega arith);
+      fits = short;
+      padding = last ∙ zeros;
+    }
+
+-- a text that is copied over the front of 32 bytes 0
+pub IsPadded-copied : (bytes front : List ℕ) → IsText bytes → front ≡ bytes → IsPadded record { len = length bytes; bytes = front ++ drop (length bytes) (replicate {A = ℕ} 32 0) }
+IsPadded-copied bytes front text is =
+    IsPadded-append bytes front (drop (length bytes) (replicate {A = ℕ} 32 0)) text is (drop-replicate {X = ℕ} (length bytes) 32 0)

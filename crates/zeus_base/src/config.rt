@@ -96,3 +96,41 @@ pub struct Config {
     pub degree: Option<u8>,
     pub objects: ObjectList,
 }
+
+impl Config {
+    ghost use Rattle.zeus_base.specs.Limits.{KeepsLimits, limits_of};
+
+    /// The ranges that the numbers of a packet keep under this configuration.
+    pub fn limits(&self) -> Limits
+        requires { KeepsLimits self.now }
+        ensures { result ≡ limits_of self.now }
+    {
+        Limits {
+            version: self.version,
+            nodes: self.nodes,
+            slots: self.slots,
+            objects: self.objects.len() as u16,
+        }
+    }
+}
+
+#[cfg(test)]
+mod tests {
+    use super::*;
+    use std::test::Fail;
+
+    #[test]
+    fn counts_its_objects(rt: HostRuntime) -> Result<(), Fail> {
+        let nodes = NodeSet::empty().insert(NodeId(1));
+        let declared = ObjectDecl {
+            value: Value::Num(9),
+            owner: NodeId(1),
+            replicas: nodes,
+        };
+        let objects = ObjectList::from_vec(vec![in rt.alloc(); declared, declared]?);
+        assert_eq!(rt; objects.len(), 2);
+        assert_eq!(rt; objects.get(1), Some(&declared));
+        assert_eq!(rt; objects.get(2), None);
+        Ok(())
+    }
+}

@@ -183,6 +183,7 @@ impl IntoIterator for NodeSet {
 mod tests {
     use super::*;
     use std::alloc::{AllocError, Global};
+    use std::test::Fail;
 
     fn chained(alloc: Global, set: NodeSet) -> Result<Vec<NodeId>, AllocError>
         ensures { IfOk result (λ v. v.items ≡ set) }
@@ -198,5 +199,18 @@ mod tests {
             all.push(node)?;
         }
         Ok(all)
+    }
+
+    #[test]
+    fn goes_over_its_nodes_in_order(rt: HostRuntime) -> Result<(), Fail> {
+        let set = NodeSet::empty()
+            .insert(NodeId(5))
+            .insert(NodeId(7))
+            .insert(NodeId(0));
+        assert_eq!(rt; set.bits, 0b1010_0001);
+        let wanted = [NodeId(0), NodeId(5), NodeId(7)];
+        assert_eq!(rt; chained(rt.alloc(), set)?.as_slice(), wanted.as_slice());
+        assert_eq!(rt; looped(rt.alloc(), set)?.as_slice(), wanted.as_slice());
+        Ok(())
     }
 }

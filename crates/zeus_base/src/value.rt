@@ -1,5 +1,5 @@
 //! The values that objects hold.
-ghost use Rattle.std.specs.Prelude.{◌≡◌};
+ghost use Rattle.std.specs.Prelude.{◌≡◌, ◌↔◌, IsSome, IfSome};
 
 use std::marker::Model;
 
@@ -23,6 +23,35 @@ impl Model for Text {
     ghost inverse = { padded };
 
     ghost inverse_ok = { padded-take };
+}
+
+impl Text {
+    ghost use Rattle.zeus_base.specs.Texts.{IsText};
+
+    /// The text of these bytes, where they are 1 to 32 and each is from 33 to 126.
+    pub fn new(bytes: &[u8]) -> Option<Text>
+        ensures valid { IsSome result ↔ IsText bytes.now }
+        ensures value { IfSome result (λ text. text ≡ bytes.now) }
+    {
+        let is_printable = bytes.iter().all(|byte| 33 <= *byte && *byte <= 126);
+        if bytes.is_empty() || bytes.len() > 32 || !is_printable {
+            return None;
+        }
+        let mut kept = [0; 32];
+        kept[..bytes.len()].copy_from_slice(bytes);
+        Some(Text {
+            len: bytes.len() as u8,
+            bytes: kept,
+        })
+    }
+
+    /// The bytes of the text.
+    pub fn as_bytes(&self) -> &[u8]
+        ensures bytes { result.now ≡ self.now }
+        ensures text { IsText self.now }
+    {
+        &self.bytes[..self.len as usize]
+    }
 }
 
 impl PartialEq for Text {
@@ -51,5 +80,23 @@ impl Default for Value {
         ensures { result ≡ Value.Num 0 }
     {
         Value::Num(0)
+    }
+}
+
+#[cfg(test)]
+mod tests {
+    use super::*;
+
+    #[test]
+    fn takes_short_printable_texts_alone(rt: HostRuntime) {
+        let long = [b'a'; 33];
+        assert!(rt; Text::new(&long).is_none());
+        assert!(rt; Text::new(&long[..32]).is_some());
+        for refused in [b"".as_slice(), b"a b", b"\x7f", b"\xc3\xa9"] {
+            assert!(rt; Text::new(refused).is_none(), "{refused:?}");
+        }
+        let text = Text::new(b"!~").expect(&rt, "a text");
+        assert_eq!(rt; text.as_bytes(), b"!~".as_slice());
+        assert_ne!(rt; Value::Text(text), Value::Num(2));
     }
 }

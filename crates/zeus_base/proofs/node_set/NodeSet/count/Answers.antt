@@ -1,4 +1,4 @@
-use Rattle.zeus_base.specs.NodeBits.{IsNodeSet-nodes_of, length-nodes_of}
+use Rattle.zeus_base.proofs.NodeBits.{IsNodeSet-nodes_of, length-nodes_of}
 use Rattle.std.proofs.Common.{sym}
 use Rattle.zeus_base.proofs.node_set.NodeSet.count.Goals as goal
 

@@ -1,4 +1,4 @@
-use Rattle.zeus_base.specs.NodeBits.{nodes_of-zero}
+use Rattle.zeus_base.proofs.NodeBits.{nodes_of-zero}
 use Rattle.zeus_base.proofs.node_set.NodeSet.empty.Goals as goal
 
 pub returns : goal.returns

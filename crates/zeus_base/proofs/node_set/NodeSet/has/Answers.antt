@@ -1,6 +1,6 @@
 use Rattle.std.proofs.Common.{sym, ap, ◌∙◌, ◌==◌, ℕ}
 use Rattle.std.proofs.lemmas.Nat.Bits.{shr_and_one}
-use Rattle.zeus_base.specs.NodeBits.{has-nodes_of}
+use Rattle.zeus_base.proofs.NodeBits.{has-nodes_of}
 use Rattle.zeus_base.proofs.node_set.NodeSet.has.Goals as goal
 
 pub returns : goal.returns

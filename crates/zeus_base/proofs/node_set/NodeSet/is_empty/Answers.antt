@@ -1,6 +1,6 @@
 use Rattle.std.proofs.Common.{eq-eqb, eqb-true, ◌∙◌, ap}
 use Rattle.zeus_base.specs.Bits.{nodes_of}
-use Rattle.zeus_base.specs.NodeBits.{nodes_of-zero, nodes_of-empty}
+use Rattle.zeus_base.proofs.NodeBits.{nodes_of-zero, nodes_of-empty}
 use Rattle.zeus_base.proofs.node_set.NodeSet.is_empty.Goals as goal
 
 pub returns : goal.returns

@@ -1,4 +1,4 @@
-use Rattle.zeus_base.specs.NodeBits.{is_subset-nodes_of}
+use Rattle.zeus_base.proofs.NodeBits.{is_subset-nodes_of}
 use Rattle.zeus_base.proofs.node_set.NodeSet.is_subset.Goals as goal
 
 pub returns : goal.returns

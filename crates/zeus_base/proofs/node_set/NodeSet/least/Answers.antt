@@ -1,5 +1,5 @@
 use Rattle.std.proofs.Common.{sym, arith}
-use Rattle.zeus_base.specs.NodeBits.{IsNodeSet-nodes_of, least-zero, least-nodes_of}
+use Rattle.zeus_base.proofs.NodeBits.{IsNodeSet-nodes_of, least-zero, least-nodes_of}
 use Rattle.zeus_base.proofs.node_set.NodeSet.least.Goals as goal
 
 pub returns-then-self-eq0 : goal.returns-then-self-eq0

@@ -1,4 +1,4 @@
-use Rattle.zeus_base.specs.NodeBits.{same_nodes-nodes_of}
+use Rattle.zeus_base.proofs.NodeBits.{same_nodes-nodes_of}
 use Rattle.zeus_base.proofs.node_set.NodeSetPartialEq.eq.Goals as goal
 
 pub returns : goal.returns
