@@ -1,4 +1,6 @@
 //! Writes of objects, and the content of a copy.
+ghost use Rattle.std.specs.Prelude.{◌≡◌};
+
 use smallvec::SmallVec;
 use std::marker::Model;
 use zeus_base::{ObjId, Value};
@@ -33,4 +35,13 @@ impl Model for Writes {
     ghost view = { λ w. w.items.items };
 
     ghost invariant = { λ w. w.items.capacity ≡ 8 };
+}
+
+impl Writes {
+    /// The writes as a slice.
+    pub fn as_slice(&self) -> &[Write]
+        ensures { result.now ≡ self.now }
+    {
+        self.items.as_slice()
+    }
 }

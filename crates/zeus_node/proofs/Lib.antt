@@ -1,0 +1,3 @@
+pub mod Cut
+pub mod Places
+pub mod Written

@@ -1,0 +1,6 @@
+//! A node of the cluster: what it keeps, and what it does with a transaction, a try and a letter.
+#![tactic(auto)]
+
+mod effect;
+
+pub use effect::{Effect, Letters, PassedList};
