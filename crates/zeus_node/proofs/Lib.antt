@@ -1,3 +1,3 @@
 pub mod Cut
-pub mod Places
+pub mod ByIndex
 pub mod Written

@@ -1,6 +1,8 @@
 //! A node of the cluster: what it keeps, and what it does with a transaction, a try and a letter.
 #![tactic(auto)]
 
+mod copies;
 mod effect;
+mod places;
 
 pub use effect::{Effect, Letters, PassedList};
