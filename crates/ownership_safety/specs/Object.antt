@@ -8,6 +8,7 @@ use Rattle.zeus_packet.specs.declared.place.Place.{Place}
 use Rattle.zeus_packet.specs.declared.place.Proposal.{Proposal}
 use Rattle.zeus_packet.specs.declared.place.Want.TheVariants.{Own}
 use Rattle.zeus_packet.specs.declared.write.Content.{Content}
+pub use Rattle.zeus_model.specs.In.{In, here, there}
 use Rattle.zeus_model.specs.Tables.{nth}
 use Rattle.zeus_model.specs.declared.state.Entry.{Entry}
 use Rattle.zeus_model.specs.declared.state.Gather.{Gather}
@@ -31,11 +32,6 @@ pub record Object : Type 0 where
   pub gather : ℕ → Option Gather
   -- all letters about the object that were ever sent
   pub letters : List Letter
-
--- the element stands in the list
-pub data In {A : Type 0} (a : A) : List A → Type 0 where
-  here : (b : A) (bs : List A) → a ≡ b → In a (b ∷ bs)
-  there : (b : A) (bs : List A) → In a bs → In a (b ∷ bs)
 
 -- the members of an epoch
 abbrev pub view : Object → ℕ → List ℕ
@@ -91,6 +87,12 @@ pub record IsChosen (o : Object) (p : Proposal) (e : ℕ) : Type 0 where
   pub directory : (d : ℕ) × (has d o.directory ≡ true) × IsMember o e d
   pub source : (s : ℕ) × IsSource o e p.base_place s
   pub acked : (a : ℕ) → IsArbiter o e p.base_place a → HasAcked o a p e
+
+-- a live node owns the object: its settled placement names it as owner, and it holds no proposal
+pub record IsOwner (o : Object) (n : ℕ) : Type 0 where
+  pub live : IsLive o n
+  pub free : (o.entry n).proposal ≡ None
+  pub owner : (o.entry n).place.owner ≡ n
 
 -- an arbiter has not acknowledged the stamp in the epoch and never will, since it is stopped, past the epoch, or holds a greater one
 abbrev pub IsBlocker : Object → Stamp → ℕ → ℕ → Type 0

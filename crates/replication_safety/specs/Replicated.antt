@@ -3,11 +3,13 @@ use Rattle.std.specs.Prelude.{ℕ, suc, ◌≡◌, ◌≢◌, ◌+◌, ◌<◌, 
 use Rattle.zeus_base.specs.Nodes.{has, is_subset}
 use Rattle.replication_safety.specs.Line.{Line, Entry, Stores, Stored, Passes, Reports, In, IsView, IsLive, IsMember, IsOut, Has, HasReported, view, end, kept_at, entry_of, entry}
 
--- views shrink, live nodes are in all of them and in one of their epochs, and letters come from members of their epoch
+-- views shrink, live nodes are in all of them and in one of their epochs, no node is past the last epoch, and letters
+-- come from members of their epoch
 pub record IsViewed (l : Line) : Type 0 where
   pub shrinking : (e : ℕ) → IsView l e → IsView l (suc e) → is_subset (view l (suc e)) (view l e) ≡ true
   pub live : (n e : ℕ) → IsLive l n → IsView l e → IsMember l e n
   pub epochs : (n : ℕ) → IsLive l n → IsView l (l.epoch n)
+  pub bounded : (n : ℕ) → l.epoch n ≤ length l.views
   pub entries : (from to e k d : ℕ) (x : Entry) → In (Stores from to e k d x) l.letters → IsView l e × (e ≤ l.epoch from) × IsMember l e from
   pub reports : (from e : ℕ) → In (Reports from e) l.letters → IsView l e × (e ≤ l.epoch from) × IsMember l e from
 

@@ -4,6 +4,7 @@ pub mod NodeLaws
 pub mod Nodes
 pub mod Order
 pub mod OrderLaws
+pub mod TableLaws
 pub mod Tables
 pub mod Texts
 pub mod ValueLaws

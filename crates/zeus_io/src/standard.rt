@@ -4,7 +4,7 @@ ghost use Rattle.std.specs.Io.{ReadsAtMost, WritesAtMost};
 ghost use Rattle.std.specs.Io.KnownBytes.{ReadConsumes, WriteAppends};
 ghost use Rattle.zeus_io.specs.Bytes.{WritesInRoom};
 ghost use Rattle.zeus_io.specs.Faults.{HasCause, one_more};
-ghost use Rattle.zeus_io.specs.Standard.{read_faults, write_faults};
+ghost use Rattle.zeus_io.specs.Standard.{reader_of, read_faults, writer_of, write_faults};
 
 use crate::sink::Sink;
 use crate::source::{Failed, Source};
@@ -20,7 +20,8 @@ pub struct StdSource<I> {
 impl<I: Read> StdSource<I> {
     /// The source over this reader, with no fault so far.
     pub fn new(input: I) -> StdSource<I>
-        ensures { read_faults result ≡ 0 }
+        ensures reader { reader_of result ≡ input }
+        ensures faults { read_faults result ≡ 0 }
     {
         StdSource { input, faults: 0 }
     }
@@ -35,6 +36,9 @@ impl<I: Read> Source for StdSource<I> {
         ensures bound { ReadsAtMost result buf.new }
         ensures bytes { ReadConsumes None None result buf.new }
         ensures cause { HasCause (read_faults self.old) (read_faults self.new) result }
+
+        // Where the reader's own type tells its bytes, these are the bytes that it gave.
+        ensures passed { ReadConsumes (I.remaining (reader_of self.old)) (I.remaining (reader_of self.new)) result buf.new }
         ensures ok { OnOk result (read_faults self.new ≡ read_faults self.old) }
         ensures err { OnErr result (read_faults self.new ≡ one_more (read_faults self.old)) }
     {
@@ -59,7 +63,8 @@ pub struct StdSink<O> {
 impl<O: Write> StdSink<O> {
     /// The sink over this writer, with no fault so far.
     pub fn new(output: O) -> StdSink<O>
-        ensures { write_faults result ≡ 0 }
+        ensures writer { writer_of result ≡ output }
+        ensures faults { write_faults result ≡ 0 }
     {
         StdSink { output, faults: 0 }
     }
@@ -76,6 +81,9 @@ impl<O: Write> Sink for StdSink<O> {
         ensures some { IfOk result (λ n. 0 < length piece.now → 0 < n) }
         ensures cause { HasCause (write_faults self.old) (write_faults self.new) result }
         ensures room { WritesInRoom 0 0 (write_faults self.old) (write_faults self.new) result }
+
+        // Where the writer's own type tells its bytes, it took these.
+        ensures passed { WriteAppends (O.contents (writer_of self.old)) (O.contents (writer_of self.new)) result piece.now }
         ensures ok { OnOk result (write_faults self.new ≡ write_faults self.old) }
         ensures err { OnErr result (write_faults self.new ≡ one_more (write_faults self.old)) }
     {

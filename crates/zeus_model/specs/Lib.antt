@@ -1,4 +1,7 @@
 pub mod In
+pub mod Names
+pub mod Spelling
+pub mod Scripts
 pub mod Tables
 pub mod State
 pub mod Act
@@ -11,3 +14,7 @@ pub mod Book
 pub mod World
 pub mod Serial
 pub mod Sound
+pub mod Readers
+pub mod ReportWords
+pub mod ReportText
+pub mod FirstRange

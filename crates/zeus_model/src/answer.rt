@@ -109,3 +109,20 @@ pub enum Answer {
     NoView(u32),
     Install(Install),
 }
+
+/// How far a transaction has come.
+#[derive(Clone, Copy, Debug, PartialEq, Eq)]
+pub enum TxState {
+    /// Not begun.
+    New,
+    /// Begun, and neither committed nor read nor refused.
+    Current,
+    /// Committed; its entry has passed at no node.
+    Pending,
+    /// In the history, and not acknowledged.
+    Passed,
+    /// Acknowledged.
+    Acked,
+    /// Ended without effect: its node had no copy to read.
+    Refused,
+}

@@ -2,7 +2,9 @@
 #![tactic(auto)]
 
 mod answer;
+mod script;
 mod state;
 
-pub use answer::{Answer, Begin, Install, Made, Outcome, Stop, Ticked, Tried};
+pub use answer::{Answer, Begin, Install, Made, Outcome, Stop, Ticked, Tried, TxState};
+pub use script::{Name, Names, Script};
 pub use state::{Copy, Current, Entry, Gather, Kept, Pending};

@@ -1,18 +1,11 @@
 -- Who decides on a placement, and what a proposal makes of one.
-use Rattle.std.specs.Prelude.{ℕ, Bool, true, false, ◌&&◌, ◌||◌, ◌==◌, nat_lt, List, [], ◌∷◌, Option, Some, None, if◌then◌else◌}
-use Rattle.zeus_base.specs.Nodes.{has, with_node, without, meet, least}
+use Rattle.std.specs.Prelude.{ℕ, Bool, true, false, ◌&&◌, ◌==◌, List, Option, Some, None, if◌then◌else◌}
+use Rattle.zeus_base.specs.Nodes.{has, with_node, without, meet, least, same_nodes}
 use Rattle.zeus_base.specs.Order.{same_stamp}
 use Rattle.zeus_packet.specs.declared.place.Place.{Place}
 use Rattle.zeus_packet.specs.declared.place.Proposal.{Proposal}
 use Rattle.zeus_packet.specs.declared.place.Want.{Want}
 use Rattle.zeus_packet.specs.declared.place.Want.TheVariants.{Own, Read, Leave}
-
--- whether two sets of nodes are the same
-unfoldable pub same_nodes : List ℕ → List ℕ → Bool
-same_nodes [] [] = true
-same_nodes [] (n ∷ ns) = false
-same_nodes (m ∷ ms) [] = false
-same_nodes (m ∷ ms) (n ∷ ns) = (m == n) && same_nodes ms ns
 
 -- whether two placements are the same
 unfoldable pub same_place : Place → Place → Bool

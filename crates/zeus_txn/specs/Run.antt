@@ -1,25 +1,12 @@
 -- What a transaction replies and writes, from the values that it finds.
 use Rattle.std.specs.Prelude.{ℕ, suc, ◌+◌, ◌%◌, ◌^◌, Bool, true, false, ◌&&◌, ◌==◌, nat_lt, List, [], ◌∷◌, ◌++◌, Option, Some, None, if◌then◌else◌}
+use Rattle.zeus_base.specs.Values.{same_value}
 use Rattle.zeus_base.specs.declared.value.Value.{Value}
 use Rattle.zeus_base.specs.declared.value.Value.TheVariants.{Num, Text}
 use Rattle.zeus_txn.specs.declared.ops.Op.{Op}
 use Rattle.zeus_txn.specs.declared.ops.Op.TheVariants.{Get, Put, Add, Need, Same}
 use Rattle.zeus_txn.specs.declared.reply.Ran.{Ran}
 use Rattle.zeus_txn.specs.Ops.{object_of}
-
--- whether two texts have the same bytes
-unfoldable pub same_bytes : List ℕ → List ℕ → Bool
-same_bytes [] [] = true
-same_bytes [] (y ∷ ys) = false
-same_bytes (x ∷ xs) [] = false
-same_bytes (x ∷ xs) (y ∷ ys) = (x == y) && same_bytes xs ys
-
--- whether two values are the same
-unfoldable pub same_value : Value → Value → Bool
-same_value (Num m) (Num n) = m == n
-same_value (Num m) (Text t) = false
-same_value (Text t) (Num n) = false
-same_value (Text s) (Text t) = same_bytes s t
 
 -- what an operation that does not fail gives to the reply, and what it stores
 pub record Effect : Type 0 where

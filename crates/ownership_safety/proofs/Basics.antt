@@ -1,0 +1,95 @@
+-- Members of lists, tables by index, and the order of ballots.
+use Rattle.std.specs.Prelude.{ℕ, zero, suc, ◌≡◌, ◌≢◌, ◌<◌, ◌≤◌, true, false, List, [], ◌∷◌, ◌++◌, length, ◌⊎◌}
+use Rattle.std.proofs.Common.{arith, refl, sym, inl, inr}
+use Rattle.std.proofs.lemmas.Bool.{cases_order, cases_Bool}
+use Rattle.zeus_base.specs.Order.{is_below}
+use Rattle.zeus_base.specs.OrderLaws.{is_below-irrefl, is_below-total, is_below-lower}
+use Rattle.zeus_base.specs.declared.order.Stamp.{Stamp}
+use Rattle.zeus_model.specs.Tables.{nth}
+use Rattle.ownership_safety.specs.Object.{In, here, there}
+use Rattle.ownership_safety.specs.Ordered.{IsLesser}
+
+-- ---- members
+
+pub In-append_left : {A : Type 0} (a : A) (xs ys : List A) → In a xs → In a (xs ++ ys)
+In-append_left a [] ys m = elim m [ ]
+In-append_left a (x ∷ xs) ys (here _ _ e) = here x (xs ++ ys) e
+In-append_left a (x ∷ xs) ys (there _ _ m) = there x (xs ++ ys) (In-append_left a xs ys m)
+
+pub In-append_right : {A : Type 0} (a : A) (xs ys : List A) → In a ys → In a (xs ++ ys)
+In-append_right a [] ys m = m
+In-append_right a (x ∷ xs) ys m = there x (xs ++ ys) (In-append_right a xs ys m)
+
+pub In-append : {A : Type 0} (a : A) (xs ys : List A) → In a (xs ++ ys) → In a xs ⊎ In a ys
+In-append a [] ys m = inr m
+In-append a (x ∷ xs) ys (here _ _ e) = inl (here x xs e)
+In-append a (x ∷ xs) ys (there _ _ m) =
+    elim (In-append a xs ys m) [ inl l ↦ inl (there x xs l) | inr r ↦ inr r ]
+
+-- ---- tables
+
+pub nth-append : {A : Type 0} (d : A) (xs ys : List A) (i : ℕ) → i < length xs → nth d (xs ++ ys) i ≡ nth d xs i
+unfolding nth
+nth-append d [] ys i h = absurd (omega arith)
+nth-append d (x ∷ xs) ys zero h = refl
+nth-append d (x ∷ xs) ys (suc i) h = nth-append d xs ys i (omega arith)
+
+pub nth-last : {A : Type 0} (d : A) (xs : List A) (y : A) → nth d (xs ++ y ∷ []) (length xs) ≡ y
+unfolding nth
+nth-last d [] y = refl
+nth-last d (x ∷ xs) y = nth-last d xs y
+
+-- ---- ballots
+
+-- of two ballots of different stamps one is the lesser
+pub ballots : (e f : ℕ) (t s : Stamp) → t ≢ s → IsLesser e t f s ⊎ IsLesser f s e t
+ballots e f t s ne =
+    elim (cases_order e f) [
+      | inl same ↦ elim (cases_Bool (is_below t s)) [
+        | inl yes_below ↦ inl (inr (same, yes_below))
+        | inr not_below ↦ elim (cases_Bool (is_below s t)) [
+          | inl above ↦ inr (inr (sym same, above))
+          | inr not_above ↦ absurd (ne (is_below-total t s not_below not_above))
+        ]
+      ]
+      | inr other ↦ elim other [ inl less ↦ inl (inl less) | inr more ↦ inr (inl more) ]
+    ]
+
+-- a stamp that is below one is another
+pub below_ne : (t s : Stamp) → is_below t s ≡ true → t ≢ s
+below_ne t s h same =
+    let none : is_below s s ≡ false = is_below-irrefl s in
+    let some : is_below s s ≡ true = rw (same) at h in
+    absurd cc
+
+pub stamp_cases : (t s : Stamp) → (t ≡ s) ⊎ (t ≢ s)
+stamp_cases t s =
+    elim (cases_Bool (is_below t s)) [
+      | inl below ↦ inr (below_ne t s below)
+      | inr not_below ↦ elim (cases_Bool (is_below s t)) [
+        | inl above ↦ inr (λ same. below_ne s t above (sym same))
+        | inr not_above ↦ inl (is_below-total t s not_below not_above)
+      ]
+    ]
+
+-- what is not below another stamp has no lower version
+pub not_below-ver : (t s : Stamp) → is_below t s ≡ false → s.ver ≤ t.ver
+not_below-ver t s h = grind (arith, is_below-lower t s)
+
+-- a stamp that is not below another one is above it
+pub not_below-above : (t s : Stamp) → is_below t s ≡ false → t ≢ s → is_below s t ≡ true
+not_below-above t s h ne =
+    elim (cases_Bool (is_below s t)) [ inl above ↦ above | inr not_above ↦ absurd (ne (is_below-total t s h not_above)) ]
+
+-- a lower stamp of an epoch that is not later has the lesser ballot
+pub lesser-from : (e f : ℕ) (t s : Stamp) → e ≤ f → is_below t s ≡ true → IsLesser e t f s
+lesser-from e f t s le below =
+    elim (cases_order e f) [
+      | inl same ↦ inr (same, below)
+      | inr other ↦ elim other [ inl less ↦ inl less | inr more ↦ absurd (omega arith) ]
+    ]
+
+-- so has an epoch that is not later, and a lower stamp where the epochs are one
+pub lesser-epoch : (e f : ℕ) (t s : Stamp) → IsLesser e t f s → e ≤ f
+lesser-epoch e f t s (inl less) = omega arith
+lesser-epoch e f t s (inr both) = omega (arith, both.0)
