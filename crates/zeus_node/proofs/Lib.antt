@@ -1,3 +1,5 @@
 pub mod Cut
 pub mod ByIndex
 pub mod Written
+pub mod Within
+pub mod Streams

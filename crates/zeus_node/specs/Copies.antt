@@ -1,5 +1,5 @@
 -- What writes do to copies.
-use Rattle.std.specs.Prelude.{ℕ, ◌<◌, List, [], ◌∷◌, Option, All}
+use Rattle.std.specs.Prelude.{ℕ, ◌<◌, List, [], ◌∷◌, Option}
 use Rattle.zeus_packet.specs.declared.write.Write.{Write}
 use Rattle.zeus_model.specs.declared.state.Copy.{Copy}
 use Rattle.zeus_model.specs.Commit.{validated, applied}
@@ -14,5 +14,6 @@ changed_by Apply = applied
 changed_by Rewrite = rewritten_copy
 
 -- the writes are of objects that there are
-abbrev pub IsWithin : ℕ → List Write → Type 0
-IsWithin objects ws = All (λ w. w.obj < objects) ws
+unfoldable pub IsWithin : ℕ → List Write → Type 0
+IsWithin objects [] = Unit {0}
+IsWithin objects (w ∷ ws) = (w.obj < objects) × IsWithin objects ws

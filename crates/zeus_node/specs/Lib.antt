@@ -1,2 +1,4 @@
 pub mod Copies
 pub mod Effect
+pub mod Stored
+pub mod Slots

@@ -65,8 +65,8 @@ impl Copies {
         ensures { self.new ≡ each_write (changed_by how) self.old writes.now }
     {
         for write in writes {
-            let place = object_place(write.obj);
-            self.items[place] = changed(how, write, &self.items[place]);
+            let copy = &mut self.items[object_place(write.obj)];
+            *copy = changed(how, write, copy);
         }
     }
 }

@@ -3,6 +3,8 @@
 
 mod copies;
 mod effect;
+mod pipeline;
 mod places;
+mod stored;
 
 pub use effect::{Effect, Letters, PassedList};
