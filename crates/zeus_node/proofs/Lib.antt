@@ -3,3 +3,5 @@ pub mod ByIndex
 pub mod Written
 pub mod Within
 pub mod Streams
+pub mod Acks
+pub mod Fronts

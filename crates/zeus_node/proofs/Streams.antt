@@ -35,7 +35,7 @@ pass_step copies [] rest e a b eq few is left = absurd (omega arith)
 pass_step copies (x ∷ xs) rest e a b eq few is left =
     rw (eq, is, left) (sym (each_write-append validated copies x.writes (writes_of (take a xs))))
 
-pub drop_step : (ks rest : List Kept) (a b : ℕ) → b ≡ suc a → b ≤ length ks → rest ≡ remove ks 0 → drop a rest ≡ drop b ks
+pub drop_step : {A : Type 0} (ks rest : List A) (a b : ℕ) → b ≡ suc a → b ≤ length ks → rest ≡ remove ks 0 → drop a rest ≡ drop b ks
 drop_step [] rest a b eq few left = absurd (omega arith)
 drop_step (x ∷ xs) rest a b eq few left = rw (eq, left) refl
 

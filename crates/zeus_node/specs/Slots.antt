@@ -1,5 +1,5 @@
 -- What becomes of an own slot.
-use Rattle.std.specs.Prelude.{ℕ, ◌+◌, ◌-◌, Bool, ◌&&◌, not, List, length, drop, if◌then◌else◌}
+use Rattle.std.specs.Prelude.{ℕ, ◌≡◌, ◌+◌, ◌-◌, Bool, ◌&&◌, not, List, length, drop, if◌then◌else◌}
 use Rattle.zeus_base.specs.Nodes.{has, without, meet, is_subset}
 use Rattle.zeus_model.specs.declared.answer.Outcome.{Outcome}
 use Rattle.zeus_model.specs.declared.answer.Outcome.TheVariants.{Taken, Again}
@@ -16,21 +16,23 @@ passes_at me members k = is_subset (without me (meet k.followers members)) k.ack
 abbrev pub passed : Slot → ℕ → Slot
 passed l count = record { current = l.current; done = l.done + count; pending = drop count l.pending }
 
--- whether an acknowledgement counts: its entry is pending and the sender has not acknowledged it
-unfoldable pub counts : Slot → ℕ → ℕ → Bool
-counts l from number =
-    is_within number l.done (length l.pending) && not (has from (nth no_pending l.pending (number - l.done)).acks)
+-- an acknowledgement counts where its entry is pending and the sender has not acknowledged it
+unfoldable pub counts : ℕ → ℕ → ℕ → ℕ → List ℕ → Bool
+counts from number done count acks = is_within number done count && not (has from acks)
 
--- the slot after an acknowledgement
-unfoldable pub acknowledged : Slot → ℕ → ℕ → Slot
-acknowledged l from number =
-    if counts l from number
-    then record {
-      current = l.current;
-      done = l.done;
-      pending = put no_pending l.pending (number - l.done) (acked_pending (nth no_pending l.pending (number - l.done)) from);
-    }
-    else l
+-- whether one counts at a slot
+abbrev pub counts_at : Slot → ℕ → ℕ → Bool
+counts_at l from number = counts from number l.done (length l.pending) (nth no_pending l.pending (number - l.done)).acks
 
-unfoldable pub answered : Slot → ℕ → ℕ → Outcome
-answered l from number = if counts l from number then Taken else Again
+-- what an acknowledgement is answered, and what becomes of the slot
+pub record IsAcknowledged (l : Slot) (from number : ℕ) (answer : Outcome) (after : Slot) : Type 0 where
+  pub says : answer ≡ (if counts_at l from number then Taken else Again)
+  pub becomes :
+      after
+      ≡ (if counts_at l from number
+      then record {
+        current = l.current;
+        done = l.done;
+        pending = put no_pending l.pending (number - l.done) (acked_pending (nth no_pending l.pending (number - l.done)) from);
+      }
+      else l)

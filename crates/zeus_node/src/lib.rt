@@ -3,8 +3,10 @@
 
 mod copies;
 mod effect;
+mod node;
 mod pipeline;
 mod places;
 mod stored;
 
 pub use effect::{Effect, Letters, PassedList};
+pub use node::Node;

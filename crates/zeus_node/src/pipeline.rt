@@ -1,10 +1,10 @@
 //! An own slot: its current transaction, and the pending entries of its stream.
-ghost use Rattle.std.specs.Prelude.{◌≡◌, ◌==◌, ◌<◌, ◌≤◌, ◌+◌, ◌-◌, ◌^◌, [], ◌∷◌, ◌++◌, None, Some, IfOk, MatchOption, length, take, drop, map, vec_capacity, option_copied};
+ghost use Rattle.std.specs.Prelude.{◌≡◌, ◌<◌, ◌≤◌, ◌+◌, ◌^◌, [], ◌∷◌, ◌++◌, IfOk, length, take, drop, map, vec_capacity, option_copied};
 ghost use Rattle.zeus_model.specs.Commit.{as_kept, each_write, followers_of, validated, writes_of};
 ghost use Rattle.zeus_model.specs.State.{no_slot};
 ghost use Rattle.zeus_model.specs.Tables.{front};
 ghost use Rattle.zeus_node.specs.Copies.{IsWithin};
-ghost use Rattle.zeus_node.specs.Slots.{acknowledged, answered, passes_at, passed};
+ghost use Rattle.zeus_node.specs.Slots.{IsAcknowledged, passes_at, passed};
 
 use crate::copies::{Change, Copies};
 use std::alloc::Global;
@@ -98,7 +98,8 @@ impl Pipeline {
         ensures { result ≡ followers_of (take count (map as_kept self.now.pending)) }
     {
         let mut all = NodeSet::empty();
-        for entry in self.pending[..count].iter().rev() {
+        for turn in 0..count {
+            let entry = &self.pending[count - 1 - turn];
             all = entry.followers.join(all);
         }
         all
@@ -117,8 +118,7 @@ impl Pipeline {
 
     /// The node has acknowledged the entry of this number.
     pub(crate) fn acknowledge(&mut self, from: NodeId, number: u32) -> Outcome
-        ensures answer { result ≡ answered self.old from number }
-        ensures after { self.new ≡ acknowledged self.old from number }
+        ensures { IsAcknowledged self.old from number result self.new }
     {
         if number < self.done {
             return Outcome::Again;
@@ -127,10 +127,10 @@ impl Pipeline {
         if place >= self.pending.len() {
             return Outcome::Again;
         }
-        let entry = &mut self.pending[place];
-        if entry.acks.has(from) {
+        if self.pending[place].acks.has(from) {
             return Outcome::Again;
         }
+        let entry = &mut self.pending[place];
         entry.acks = entry.acks.insert(from);
         Outcome::Taken
     }

@@ -3,13 +3,13 @@ ghost use Rattle.std.specs.Prelude.{◌≡◌, ◌==◌, ◌<◌, ◌≤◌, ◌
 ghost use Rattle.zeus_model.specs.Commit.{each_write, validated, writes_of, next_kept};
 ghost use Rattle.zeus_model.specs.State.{no_log};
 ghost use Rattle.zeus_node.specs.Copies.{IsWithin};
-ghost use Rattle.zeus_node.specs.Stored.{raised, stored};
+ghost use Rattle.zeus_node.specs.Stored.{IsKeptAcknowledged, raised, stored};
 
 use crate::copies::{Change, Copies};
 use std::alloc::Global;
 use std::marker::Model;
-use zeus_base::{NoMemory, NodeSet};
-use zeus_model::Kept;
+use zeus_base::{NoMemory, NodeId, NodeSet};
+use zeus_model::{Kept, Outcome};
 use zeus_packet::Writes;
 
 /// How many entries are stored at most.
@@ -67,6 +67,25 @@ impl StoredLog {
         }
     }
 
+    /// The node has acknowledged the entry of this number.
+    pub(crate) fn acknowledge(&mut self, from: NodeId, number: u32) -> Outcome
+        ensures { IsKeptAcknowledged self.old from number result self.new }
+    {
+        if number < self.done {
+            return Outcome::Again;
+        }
+        let place = (number - self.done) as usize;
+        if place >= self.kept.len() {
+            return Outcome::Again;
+        }
+        if self.kept[place].acks.has(from) {
+            return Outcome::Again;
+        }
+        let entry = &mut self.kept[place];
+        entry.acks = entry.acks.insert(from);
+        Outcome::Taken
+    }
+
     /// Stores the entry with the next number.
     pub(crate) fn store(&mut self, followers: NodeSet, writes: Writes)
         requires { length self.old.kept < 16 }
@@ -92,4 +111,19 @@ fn pass(kept: &mut Vec<Kept>, count: usize, copies: &mut Copies)
         let entry = kept.remove(0);
         copies.change(Change::Validate, entry.writes.as_slice());
     }
+}
+
+/// The foreign streams of one node, by slot, seen as a list.
+#[derive(Debug, Drop)]
+pub(crate) struct NodeLogs {
+    pub(crate) slots: Vec<StoredLog>,
+}
+
+impl Model for NodeLogs {
+    ghost use Rattle.std.specs.Prelude.{List};
+    ghost use Rattle.zeus_model.specs.State.{StreamLog};
+
+    ghost Value = { List StreamLog };
+
+    ghost view = { λ l. l.slots.items };
 }
