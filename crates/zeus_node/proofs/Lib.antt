@@ -5,3 +5,4 @@ pub mod Within
 pub mod Streams
 pub mod Acks
 pub mod Fronts
+pub mod Logs

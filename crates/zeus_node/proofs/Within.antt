@@ -1,5 +1,5 @@
 -- Writes of objects that there are.
-use Rattle.std.proofs.Common.{ℕ, zero, suc, ◌≡◌, ◌<◌, ◌≤◌, ◌+◌, List, [], ◌∷◌, ◌++◌, length, take, drop, map, Option, None, refl, sym, ap, ◌∙◌, subst, arith}
+use Rattle.std.proofs.Common.{ℕ, zero, suc, ◌≡◌, ◌<◌, ◌≤◌, ◌+◌, List, [], ◌∷◌, ◌++◌, length, take, drop, map, Option, None, refl, sym, ap, ◌∙◌, subst, arith, append_assoc}
 use Rattle.std.proofs.Math.ListN.{get_or}
 use Rattle.zeus_packet.specs.declared.write.Write.{Write}
 use Rattle.zeus_model.specs.declared.state.Copy.{Copy}
@@ -57,3 +57,12 @@ unfolding each_write IsWithin
 length-each_write f [] copies n e h = e
 length-each_write f (w ∷ ws) copies n e h =
     length-each_write f ws (put None copies w.obj (f w (nth None copies w.obj))) n (length-put None copies w.obj _ (rw e h.0) ∙ e) h.1
+
+pub writes_of-append : (ks ls : List Kept) → writes_of (ks ++ ls) ≡ writes_of ks ++ writes_of ls
+unfolding writes_of
+writes_of-append [] ls = refl
+writes_of-append (k ∷ ks) ls = ap (λ l. k.writes ++ l) (writes_of-append ks ls) ∙ sym (append_assoc k.writes (writes_of ks) (writes_of ls))
+
+pub within-one : (n : ℕ) (e : Kept) → IsWithin n e.writes → IsWithin n (writes_of (e ∷ []))
+unfolding writes_of
+within-one n e h = IsWithin-append n e.writes [] h (IsWithin-none n)
