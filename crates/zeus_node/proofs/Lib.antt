@@ -6,3 +6,5 @@ pub mod Streams
 pub mod Acks
 pub mod Fronts
 pub mod Logs
+pub mod Adding
+pub mod Rows

@@ -1,20 +1,22 @@
 //! A node: its state, and what it does with transactions, tries and letters.
-ghost use Rattle.std.specs.Prelude.{◌≡◌, ◌==◌, ◌<◌, length, take};
-ghost use Rattle.zeus_model.specs.Act.{letter};
-ghost use Rattle.zeus_model.specs.Commit.{next_kept, raise, store};
+ghost use Rattle.std.specs.Prelude.{◌≡◌, ◌==◌, ◌<◌, ◌≤◌, [], ◌∷◌, length};
+ghost use Rattle.zeus_model.specs.Act.{letter, to_each};
+ghost use Rattle.zeus_model.specs.Commit.{next_kept, on_rinv, on_rval, raise, store, stored_rinv};
 ghost use Rattle.zeus_model.specs.State.{is_open, log};
 ghost use Rattle.zeus_model.specs.Receive.{untaken};
 ghost use Rattle.zeus_node.specs.FirstNode.{IsFirstBody, IsStream};
 ghost use Rattle.zeus_node.specs.Copies.{IsWithin};
+ghost use Rattle.zeus_node.specs.Done.{Adds, IsDone, IsQuiet};
 
 use crate::copies::{Change, Copies};
+use crate::effect::Effect;
 use crate::pipeline::Pipeline;
 use crate::places::{node_place, slot_place};
 use crate::stored::NodeLogs;
 use std::marker::Model;
 use zeus_base::{NodeId, NodeSet, Stream};
 use zeus_model::{Entry, Gather, Outcome};
-use zeus_packet::{Letter, RInv};
+use zeus_packet::{Body, Cause, Letter, RInv};
 
 /// A node, seen as its state by the rules of the protocol.
 #[derive(Debug, Drop)]
@@ -98,5 +100,115 @@ impl Node {
         let log = &mut logs.slots[slot_place(inv.stream.slot)];
         log.store(inv.followers, inv.writes.duplicate());
         self.copies.change(Change::Apply, inv.writes.as_slice());
+    }
+
+    /// Whether no more entries of the stream can be stored.
+    fn is_full(&self, stream: &Stream) -> bool
+        requires { IsStream self.now stream.now }
+        ensures full { result ≡ (length (log self.now stream.now).kept == 16) }
+        ensures most { length (log self.now stream.now).kept ≤ 16 }
+    {
+        let logs = &self.logs[node_place(stream.node)];
+        logs.slots[slot_place(stream.slot)].is_full()
+    }
+
+    /// How many entries of the stream are known to have passed.
+    fn passed(&self, stream: &Stream) -> u32
+        requires { IsStream self.now stream.now }
+        ensures { result ≡ (log self.now stream.now).done }
+    {
+        let logs = &self.logs[node_place(stream.node)];
+        logs.slots[slot_place(stream.slot)].done()
+    }
+
+    /// Sends a letter of the node's epoch.
+    fn send(&self, to: NodeId, body: Body, out: &mut Effect)
+        ensures { Adds (letter self.now to body ∷ []) [] out.old out.new }
+    {
+        out.sent.push(Letter {
+            from: self.me,
+            to,
+            epoch: self.epoch,
+            body,
+        });
+    }
+
+    /// Sends the same letter to each of the nodes.
+    fn send_each(&self, receivers: NodeSet, body: &Body, out: &mut Effect)
+        requires { length out.old.sent ≤ 64 }
+        ensures { Adds (to_each self.now receivers body.now) [] out.old out.new }
+    {
+        for receiver in receivers {
+            self.send(receiver, body.duplicate(), out);
+        }
+    }
+
+    /// Why a letter meets no rule: the first test that it fails.
+    fn untaken(&self, letter: &Letter) -> Option<Outcome>
+        requires { IsFirstBody self.now letter.now.body }
+        ensures { result ≡ untaken self.now letter.now }
+    {
+        if self.stopped {
+            Some(Outcome::Stopped)
+        } else if letter.to != self.me {
+            Some(Outcome::NotMine(letter.to))
+        } else if letter.epoch != self.epoch {
+            Some(Outcome::OtherEpoch(letter.epoch, self.epoch))
+        } else {
+            None
+        }
+    }
+
+    /// An entry of a foreign stream: what passed before it is raised first.
+    fn on_inv(&mut self, from: NodeId, inv: &RInv, out: &mut Effect) -> Outcome
+        requires stream { IsStream self.old inv.now.stream }
+        requires within { IsWithin (length self.old.copies) inv.now.writes }
+        requires room { length out.old.sent ≤ 64 }
+        ensures { IsDone (on_rinv self.old from inv.now) result self.new out.old out.new }
+    {
+        if inv.stream.node == self.me {
+            return Outcome::Refused(Cause::OwnStream);
+        }
+        self.raise(&inv.stream, inv.done);
+        self.store(from, inv, out)
+    }
+
+    /// An entry for the next number is stored, a lower one was stored before, a higher one comes too early.
+    fn store(&mut self, from: NodeId, inv: &RInv, out: &mut Effect) -> Outcome
+        requires stream { IsStream self.old inv.now.stream }
+        requires within { IsWithin (length self.old.copies) inv.now.writes }
+        requires room { length out.old.sent ≤ 64 }
+        ensures { IsDone (stored_rinv self.old from inv.now) result self.new out.old out.new }
+    {
+        let next = self.next(&inv.stream);
+        let number = u64::from(inv.number);
+        if number < next {
+            self.send(from, Body::RAck(inv.stream, inv.number), out);
+            return Outcome::Again;
+        }
+        if next < number {
+            return Outcome::Gap(next as u32);
+        }
+        if self.is_full(&inv.stream) {
+            return Outcome::Refused(Cause::Window);
+        }
+        self.keep(inv);
+        self.send(from, Body::RAck(inv.stream, inv.number), out);
+        Outcome::Taken
+    }
+
+    /// All entries of a stream below this number have passed.
+    fn on_val(&mut self, stream: &Stream, done: u32) -> Outcome
+        requires { IsStream self.old stream.now }
+        ensures { IsQuiet (on_rval self.old stream.now done) result self.new }
+    {
+        if stream.node == self.me {
+            Outcome::Refused(Cause::OwnStream)
+        } else if self.passed(stream) < done {
+            self.raise(stream, done);
+            Outcome::Taken
+        } else {
+            Outcome::Again
+        }
     }
 }

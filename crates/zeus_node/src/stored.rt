@@ -48,8 +48,16 @@ impl StoredLog {
         u64::from(self.done) + self.kept.len() as u64
     }
 
+    /// How many entries are known to have passed.
+    pub(crate) fn done(&self) -> u32
+        ensures { result ≡ self.now.done }
+    {
+        self.done
+    }
+
     pub(crate) fn is_full(&self) -> bool
-        ensures { result ≡ (length self.now.kept == 16) }
+        ensures full { result ≡ (length self.now.kept == 16) }
+        ensures most { length self.now.kept ≤ 16 }
     {
         self.kept.len() == WINDOW
     }
