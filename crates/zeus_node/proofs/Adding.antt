@@ -3,7 +3,8 @@ use Rattle.std.proofs.Common.{ℕ, ◌≡◌, ◌≤◌, List, [], ◌∷◌, �
 use Rattle.std.proofs.lemmas.List.{take_all, length-take}
 use Rattle.zeus_base.specs.declared.step.Passed.{Passed}
 use Rattle.zeus_packet.specs.declared.letter.Letter.{Letter}
-use Rattle.zeus_model.specs.Act.{Act, Did, did_then}
+use Rattle.zeus_packet.specs.declared.letter.Body.{Body}
+use Rattle.zeus_model.specs.Act.{Act, Did, did_then, letter, to_each}
 use Rattle.zeus_model.specs.State.{Node}
 use Rattle.zeus_node.specs.declared.effect.Effect.{Effect}
 use Rattle.zeus_node.specs.Done.{Adds, IsActed, IsDone, IsQuiet}
@@ -44,4 +45,27 @@ done_then d next answer m n a b c f g =
       says = f.says;
       becomes = g.becomes ∙ ap (λ (x : Act). x.node) same;
       adds = rw (← same) (adds-append d.sent (next m).sent d.passed (next m).passed a b c f.adds g.adds);
+    }
+
+pub adds_passes : (xs : List Letter) (a b : Effect) → Adds xs [] a b → b.passed ≡ a.passed
+adds_passes xs a b f = f.passes ∙ append-nil a.passed
+
+-- a loop that sends a letter to each of the nodes
+pub sent_step :
+    (n : Node) (body : Body) (to : ℕ) (left right : List ℕ) (a b : Effect) → left ≡ to ∷ right → Adds (letter n to body ∷ []) [] a b
+    → take 64 (b.sent ++ to_each n right body) ≡ take 64 (a.sent ++ to_each n left body)
+unfolding to_each
+sent_step n body to left right a b e f =
+    rw (e, f.letters) (cut-append a.sent (letter n to body ∷ []) (to_each n right body))
+
+pub sent_end :
+    (n : Node) (body : Body) (all : List ℕ) (left : List ℕ) (a b : Effect) → left ≡ []
+    → take 64 (b.sent ++ to_each n left body) ≡ take 64 (a.sent ++ to_each n all body) → b.passed ≡ a.passed → length b.sent ≤ 64
+    → Adds (to_each n all body) [] a b
+unfolding to_each
+sent_end n body all left a b e same passes room =
+    let cut : take 64 (b.sent ++ []) ≡ b.sent = take_all 64 (b.sent ++ []) (rw append-nil room) ∙ append-nil b.sent in
+    record {
+      letters = sym cut ∙ rw e at same;
+      passes = passes ∙ sym (append-nil a.passed);
     }

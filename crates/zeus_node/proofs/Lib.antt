@@ -8,3 +8,4 @@ pub mod Fronts
 pub mod Logs
 pub mod Adding
 pub mod Rows
+pub mod OwnSlots

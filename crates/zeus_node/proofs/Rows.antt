@@ -1,7 +1,7 @@
 -- What each rule answers, by its cases.
 use Rattle.std.proofs.Common.{ℕ, ◌≡◌, ◌<◌, ◌≤◌, ◌+◌, ◌-◌, Bool, true, false, cond, List, [], ◌∷◌, ◌++◌, Option, Some, None, length, take, drop, refl, sym, ap, ◌∙◌, arith}
 use Rattle.std.specs.Prelude.{nat_lt, not, ◌==◌, if◌then◌else◌}
-use Rattle.std.proofs.lemmas.Bool.{lt-ltb, le-ltb}
+use Rattle.std.proofs.lemmas.Bool.{lt-ltb, le-ltb, eq-eqb, ne_eqb}
 use Rattle.zeus_base.specs.declared.order.Stream.{Stream}
 use Rattle.zeus_packet.specs.declared.letter.Body.{Body}
 use Rattle.zeus_packet.specs.declared.letter.Body.TheVariants.{RInv, RAck, RVal, OReq, OInv, OAck, ONack, OVal, Recovered}
@@ -33,7 +33,7 @@ untaken-not_mine n l s m = rw (s, m) refl
 pub untaken-other_epoch :
     (n : Node) (l : Letter) → n.stopped ≡ false → not (l.to == n.me) ≡ false → (l.epoch ≡ n.epoch → ⊥) → Some (OtherEpoch l.epoch n.epoch) ≡ untaken n l
 unfolding untaken or_else where_true
-untaken-other_epoch n l s m e = rw (s, m, ne-eqb l.epoch n.epoch e) refl
+untaken-other_epoch n l s m e = rw (s, m, ne_eqb l.epoch n.epoch e) refl
 
 needs_open-first : (n : Node) (b : Body) → IsFirstBody n b → needs_open b ≡ false
 unfolding IsFirstBody needs_open

@@ -22,5 +22,5 @@ store-requires-clause-within c =
 pub returns : goal.returns
 returns c =
     let me = ap (λ (n : Node). c.args.inv.now.stream.node == n.me) c.self.view_is in
-    let row = on_rinv-foreign _ c.args.from c.args.inv.now (sym (c.eq.ensures ∙ me) ∙ c.if-eq.false) in
+    let row = on_rinv-foreign c.args.self.now c.args.from c.args.inv.now (sym (c.eq.ensures ∙ me) ∙ c.if-eq.false) in
     rw (row, ← c.raise.ensures) c.store.ensures
