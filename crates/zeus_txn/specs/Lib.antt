@@ -1,4 +1,6 @@
 pub mod Map
+pub mod OpLaws
 pub mod Ops
 pub mod Run
+pub mod RunLaws
 pub mod Tx

@@ -6,12 +6,8 @@ use Rattle.zeus_base.specs.declared.value.Value.TheVariants.{Num, Text}
 use Rattle.zeus_txn.specs.declared.ops.Op.{Op}
 use Rattle.zeus_txn.specs.declared.ops.Op.TheVariants.{Get, Put, Add, Need, Same}
 use Rattle.zeus_txn.specs.declared.reply.Ran.{Ran}
+use Rattle.zeus_txn.specs.declared.run.Effect.{Effect}
 use Rattle.zeus_txn.specs.Ops.{object_of}
-
--- what an operation that does not fail gives to the reply, and what it stores
-pub record Effect : Type 0 where
-  pub gives : Option Value
-  pub stores : Option Value
 
 -- an addition fails at a text, and else stores and gives the sum modulo 2^64
 unfoldable pub added : Value → ℕ → Option Effect
@@ -40,10 +36,14 @@ unfoldable pub given : List Value → Option Value → List Value
 given vs None = vs
 given vs (Some v) = vs ++ v ∷ []
 
+-- the last value that was written to the object, else the other one
+unfoldable pub latest : List (ℕ × Value) → ℕ → Value → Value
+latest [] x v = v
+latest (w ∷ ws) x v = if x == w.0 then w.1 else latest ws x v
+
 -- the last value that was written to the object, else the one that was found
-unfoldable pub present : (ℕ → Value) → List (ℕ × Value) → ℕ → Value
-present found [] x = found x
-present found (w ∷ ws) x = if x == w.0 then w.1 else present found ws x
+abbrev pub present : (ℕ → Value) → List (ℕ × Value) → ℕ → Value
+present found ws x = latest ws x (found x)
 
 -- the writes with a new value of the object: in its place, or at the end where it is the first
 unfoldable pub rewritten : List (ℕ × Value) → ℕ → Value → List (ℕ × Value)
@@ -74,3 +74,9 @@ run_from found place vs ws (op ∷ ops) =
 -- operations run in order on the transaction's own view of the values; the first that fails ends it
 unfoldable pub run : (ℕ → Value) → List Op → Ran
 run found ops = run_from found 0 [] [] ops
+
+-- the value at the object's place among the named ones
+unfoldable pub value_at : List ℕ → List Value → ℕ → Value
+value_at [] vs x = Num 0
+value_at (n ∷ ns) [] x = Num 0
+value_at (n ∷ ns) (v ∷ vs) x = if x == n then v else value_at ns vs x

@@ -5,11 +5,13 @@ mod lists;
 mod map;
 mod ops;
 mod reply;
+mod run;
 mod tx;
 
 pub use lists::{Named, NewValues, Values};
 pub use map::{Map, Versioned};
 pub use ops::Op;
 pub use reply::{Ran, Reply};
+pub use run::run_ops;
 pub use tx::{Tx, TxDecl, TxFault, TxList};
 pub use zeus_base::{NoMemory, NodeId, ObjId, SlotId, TxId, Value};

@@ -1,4 +1,6 @@
 //! What a transaction answers, and what it leaves.
+ghost use Rattle.std.specs.Prelude.{◌≡◌};
+
 use crate::lists::{NewValues, Values};
 
 /// The answer of a transaction.
@@ -8,6 +10,18 @@ pub struct Reply {
     pub values: Values,
     /// The place from 0 of the operation that failed.
     pub failed: Option<u8>,
+}
+
+impl Reply {
+    /// The same answer once more, without memory.
+    pub fn duplicate(&self) -> Reply
+        ensures { result ≡ self.now }
+    {
+        Reply {
+            values: self.values.duplicate(),
+            failed: self.failed,
+        }
+    }
 }
 
 /// The answer of a transaction and what it writes.

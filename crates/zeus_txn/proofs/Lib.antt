@@ -1,0 +1,4 @@
+pub mod NamedLemmas
+pub mod Rests
+pub mod RunLemmas
+pub mod WriteLemmas
