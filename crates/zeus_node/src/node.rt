@@ -1,12 +1,13 @@
 //! A node: its state, and what it does with transactions, tries and letters.
-ghost use Rattle.std.specs.Prelude.{◌≡◌, ◌==◌, ◌<◌, ◌≤◌, [], ◌∷◌, length};
+ghost use Rattle.std.specs.Prelude.{◌≡◌, ◌==◌, ◌<◌, ◌≤◌, ◌+◌, ◌^◌, [], ◌∷◌, length, map, take};
 ghost use Rattle.zeus_model.specs.Act.{letter, to_each};
-ghost use Rattle.zeus_model.specs.Commit.{next_kept, on_rinv, on_rval, raise, store, stored_rinv};
-ghost use Rattle.zeus_model.specs.State.{is_open, log};
-ghost use Rattle.zeus_model.specs.Receive.{untaken};
+ghost use Rattle.zeus_model.specs.Commit.{advance_own, as_kept, followers_of, next_kept, on_kept_rack, on_own_rack, on_rack, on_rinv, on_rval, pass_own, passing, raise, store, stored_rinv};
+ghost use Rattle.zeus_model.specs.State.{is_open, log, slot as slot_of};
+ghost use Rattle.zeus_model.specs.Receive.{receive, row, untaken};
 ghost use Rattle.zeus_node.specs.FirstNode.{IsFirstBody, IsStream};
 ghost use Rattle.zeus_node.specs.Copies.{IsWithin};
-ghost use Rattle.zeus_node.specs.Done.{Adds, IsDone, IsQuiet};
+ghost use Rattle.zeus_node.specs.Done.{Adds, IsActed, IsDone, IsQuiet};
+ghost use Rattle.zeus_node.specs.Effect.{IsCleared};
 
 use crate::copies::{Change, Copies};
 use crate::effect::Effect;
@@ -14,7 +15,7 @@ use crate::pipeline::Pipeline;
 use crate::places::{node_place, slot_place};
 use crate::stored::NodeLogs;
 use std::marker::Model;
-use zeus_base::{NodeId, NodeSet, Stream};
+use zeus_base::{NodeId, NodeSet, Passed, SlotId, Stream};
 use zeus_model::{Entry, Gather, Outcome};
 use zeus_packet::{Body, Cause, Letter, RInv};
 
@@ -210,5 +211,136 @@ impl Node {
         } else {
             Outcome::Again
         }
+    }
+
+    /// An acknowledgement of an entry counts where the entry is pending and the sender had not acknowledged it.
+    fn on_ack(&mut self, from: NodeId, stream: &Stream, number: u32) -> Outcome
+        requires { IsStream self.old stream.now }
+        ensures { IsQuiet (on_rack self.old from stream.now number) result self.new }
+    {
+        if stream.node == self.me {
+            self.on_own_ack(from, stream.slot, number)
+        } else {
+            self.on_kept_ack(from, stream, number)
+        }
+    }
+
+    fn on_own_ack(&mut self, from: NodeId, slot: SlotId, number: u32) -> Outcome
+        requires { slot < 1 }
+        ensures { IsQuiet (on_own_rack self.old from slot number) result self.new }
+    {
+        let pipeline = &mut self.slots[slot_place(slot)];
+        pipeline.acknowledge(from, number)
+    }
+
+    fn on_kept_ack(&mut self, from: NodeId, stream: &Stream, number: u32) -> Outcome
+        requires { IsStream self.old stream.now }
+        ensures { IsQuiet (on_kept_rack self.old from stream.now number) result self.new }
+    {
+        let logs = &mut self.logs[node_place(stream.node)];
+        let log = &mut logs.slots[slot_place(stream.slot)];
+        log.acknowledge(from, number)
+    }
+
+    /// The rule of the letter's body.
+    fn row(&mut self, letter: &Letter, out: &mut Effect) -> Outcome
+        requires known { IsFirstBody self.old letter.now.body }
+        requires room { length out.old.sent ≤ 64 }
+        ensures { IsDone (row self.old letter.now.from letter.now.body) result self.new out.old out.new }
+    {
+        match &letter.body {
+            Body::RInv(inv) => self.on_inv(letter.from, inv, out),
+            Body::RAck(stream, number) => self.on_ack(letter.from, stream, *number),
+            Body::RVal(stream, done) => self.on_val(stream, *done),
+            _ => unreachable!(),
+        }
+    }
+
+    /// How many pending entries of the slot pass from the front on.
+    fn passing(&self, slot: SlotId) -> usize
+        requires { slot < 1 }
+        ensures value { result ≡ passing self.now (map as_kept (slot_of self.now slot).pending) }
+        ensures most { result ≤ length (slot_of self.now slot).pending }
+    {
+        self.slots[slot_place(slot)].passing(self.me, self.members)
+    }
+
+    /// All followers of the first pending entries of the slot.
+    fn followers(&self, slot: SlotId, count: usize) -> NodeSet
+        requires one { slot < 1 }
+        requires few { count ≤ length (slot_of self.now slot).pending }
+        ensures { result ≡ followers_of (take count (map as_kept (slot_of self.now slot).pending)) }
+    {
+        self.slots[slot_place(slot)].followers(count)
+    }
+
+    /// How many entries of the slot have passed, and how many are pending.
+    fn numbers(&self, slot: SlotId) -> (u32, usize)
+        requires { slot < 1 }
+        ensures done { result.0 ≡ (slot_of self.now slot).done }
+        ensures pending { result.1 ≡ length (slot_of self.now slot).pending }
+        ensures numbered { result.0 + result.1 < 2 ^ 32 }
+        ensures most { result.1 ≤ 16 }
+    {
+        let pipeline = &self.slots[slot_place(slot)];
+        (pipeline.done(), pipeline.len())
+    }
+
+    /// The first pending entries of the slot have passed.
+    fn pass(&mut self, slot: SlotId, count: usize)
+        requires one { slot < 1 }
+        requires few { count ≤ length (slot_of self.old slot).pending }
+        ensures { self.new ≡ pass_own self.old slot count }
+    {
+        let pipeline = &mut self.slots[slot_place(slot)];
+        pipeline.pass(count, &mut self.copies);
+    }
+
+    /// The slot's stream passes its longest front of acknowledged entries, and tells their followers.
+    pub(crate) fn advance(&mut self, slot: SlotId, out: &mut Effect)
+        requires one { slot < 1 }
+        requires room { length out.old.sent ≤ 64 }
+        requires passes { length out.old.passed < 64 }
+        ensures { IsActed (advance_own self.old slot) self.new out.old out.new }
+    {
+        let count = self.passing(slot);
+        if count == 0 {
+            return;
+        }
+        let (first, _) = self.numbers(slot);
+        let receivers = self.followers(slot, count);
+        self.pass(slot, count);
+        let stream = Stream {
+            node: self.me,
+            slot,
+        };
+        let after = first + count as u32;
+        self.send_each(
+            receivers.meet(self.members).without(self.me),
+            &Body::RVal(stream, after),
+            out,
+        );
+        out.passed.push(Passed {
+            stream,
+            first,
+            after,
+        });
+    }
+
+    /// Takes a letter: the tests before every letter, the rule of its body, and the finish.
+    pub fn receive(&mut self, letter: &Letter, out: &mut Effect) -> Outcome
+        requires known { IsFirstBody self.old letter.now.body }
+        requires cleared { IsCleared out.old }
+        ensures answer { result ≡ (receive self.old letter.now).answer }
+        ensures after { self.new ≡ (receive self.old letter.now).node }
+        ensures sent { out.new.sent ≡ take 64 (receive self.old letter.now).sent }
+        ensures passed { out.new.passed ≡ (receive self.old letter.now).passed }
+    {
+        if let Some(outcome) = self.untaken(letter) {
+            return outcome;
+        }
+        let outcome = self.row(letter, out);
+        self.advance(SlotId(0), out);
+        outcome
     }
 }
