@@ -9,3 +9,4 @@ pub mod Logs
 pub mod Adding
 pub mod Rows
 pub mod OwnSlots
+pub mod Finish

@@ -2,7 +2,7 @@
 use Rattle.std.proofs.Common.{ℕ, zero, suc, ◌≡◌, ◌<◌, ◌≤◌, ◌+◌, ◌-◌, Bool, true, false, List, [], ◌∷◌, ◌++◌, Option, Some, None, length, take, drop, map, refl, sym, ap, ◌∙◌, arith}
 use Rattle.std.specs.Prelude.{not, ◌&&◌, ◌==◌, if◌then◌else◌}
 use Rattle.std.proofs.Math.ListN.{get_or, set}
-use Rattle.std.proofs.lemmas.List.{take-map, drop-map}
+use Rattle.std.proofs.lemmas.List.{take-map, drop-map, length-take-le}
 use Rattle.zeus_base.specs.Nodes.{has, without, meet, is_subset}
 use Rattle.zeus_base.specs.declared.order.Stream.{Stream}
 use Rattle.zeus_base.specs.declared.step.Passed.{Passed}
@@ -26,8 +26,9 @@ use Rattle.zeus_node.specs.FirstNode.{IsFirstNode, IsStream}
 use Rattle.zeus_node.specs.Slots.{counts, counts_at, passes_at, passed, IsAcknowledged}
 use Rattle.zeus_node.specs.Stored.{counts_kept, IsKeptAcknowledged}
 use Rattle.zeus_node.proofs.Acks.{nth_read}
-use Rattle.zeus_node.proofs.Adding.{adds_nothing}
+use Rattle.zeus_node.proofs.Adding.{adds_nothing, adds_passes}
 use Rattle.zeus_node.proofs.ByIndex.{put-set}
+use Rattle.zeus_node.proofs.Fronts.{length-as_kept}
 use Rattle.zeus_node.proofs.Logs.{put-nth, with_log_same, first-with_log, first-with_copies}
 use Rattle.zeus_node.proofs.Within.{IsWithin-take, IsWithin-drop, length-each_write}
 
@@ -161,3 +162,18 @@ advance-none n s out e h = rw e record { becomes = refl; adds = adds_nothing out
 pub advance-some : (n : Node) (s k : ℕ) (a b : Effect) → passing n (map as_kept (slot n s).pending) ≡ suc k → Adds (told (pass_own n s (suc k)) (own_stream n s) (slot n s).done (take (suc k) (map as_kept (slot n s).pending))).sent (told (pass_own n s (suc k)) (own_stream n s) (slot n s).done (take (suc k) (map as_kept (slot n s).pending))).passed a b → IsActed (advance_own n s) (pass_own n s (suc k)) a b
 unfolding advance_own advance_own_by
 advance-some n s k a b e f = rw e record { becomes = refl; adds = f }
+
+pub advance-count : (n : Node) (s count : ℕ) (a b : Effect) → passing n (map as_kept (slot n s).pending) ≡ count → (count ≡ 0 → ⊥) → Adds (told (pass_own n s count) (own_stream n s) (slot n s).done (take count (map as_kept (slot n s).pending))).sent (told (pass_own n s count) (own_stream n s) (slot n s).done (take count (map as_kept (slot n s).pending))).passed a b → IsActed (advance_own n s) (pass_own n s count) a b
+advance-count n s zero a b e some f = absurd (some refl)
+advance-count n s (suc k) a b e some f = advance-some n s k a b e f
+
+-- the word that entries have passed is sent and noted
+pub told_adds : (n : Node) (s : Stream) (first after : ℕ) (ks : List Kept) (a b : Effect) (ps : List Passed) → after ≡ first + length ks → Adds (to_each n (without n.me (meet (followers_of ks) n.members)) (RVal s after)) [] a b → ps ≡ b.passed ++ record { stream = s; first = first; after = after } ∷ [] → Adds (told n s first ks).sent (told n s first ks).passed a record { sent = b.sent; passed = ps }
+told_adds n s first after ks a b ps e f g =
+    record {
+      letters = rw (← e) f.letters;
+      passes = rw (← e) (g ∙ ap (λ l. l ++ record { stream = s; first = first; after = after } ∷ []) (adds_passes _ a b f));
+    }
+
+pub length-front : (ps : List Pending) (count : ℕ) → count ≤ length ps → length (take count (map as_kept ps)) ≡ count
+length-front ps count h = length-take-le count (map as_kept ps) (rw length-as_kept h)

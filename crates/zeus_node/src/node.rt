@@ -2,9 +2,9 @@
 ghost use Rattle.std.specs.Prelude.{◌≡◌, ◌==◌, ◌<◌, ◌≤◌, ◌+◌, ◌^◌, [], ◌∷◌, length, map, take};
 ghost use Rattle.zeus_model.specs.Act.{letter, to_each};
 ghost use Rattle.zeus_model.specs.Commit.{advance_own, as_kept, followers_of, next_kept, on_kept_rack, on_own_rack, on_rack, on_rinv, on_rval, pass_own, passing, raise, store, stored_rinv};
-ghost use Rattle.zeus_model.specs.State.{is_open, log, slot as slot_of};
+ghost use Rattle.zeus_model.specs.State.{is_open, log, own_stream, slot as slot_of};
 ghost use Rattle.zeus_model.specs.Receive.{receive, row, untaken};
-ghost use Rattle.zeus_node.specs.FirstNode.{IsFirstBody, IsStream};
+ghost use Rattle.zeus_node.specs.FirstNode.{IsFirstBody, IsFirstNode, IsStream};
 ghost use Rattle.zeus_node.specs.Copies.{IsWithin};
 ghost use Rattle.zeus_node.specs.Done.{Adds, IsActed, IsDone, IsQuiet};
 ghost use Rattle.zeus_node.specs.Effect.{IsCleared};
@@ -261,6 +261,7 @@ impl Node {
         requires { slot < 1 }
         ensures value { result ≡ passing self.now (map as_kept (slot_of self.now slot).pending) }
         ensures most { result ≤ length (slot_of self.now slot).pending }
+        ensures first { IsFirstNode self.now }
     {
         self.slots[slot_place(slot)].passing(self.me, self.members)
     }
@@ -286,6 +287,16 @@ impl Node {
         (pipeline.done(), pipeline.len())
     }
 
+    /// The stream of the slot.
+    fn own_stream(&self, slot: SlotId) -> Stream
+        ensures { result ≡ own_stream self.now slot }
+    {
+        Stream {
+            node: self.me,
+            slot,
+        }
+    }
+
     /// The first pending entries of the slot have passed.
     fn pass(&mut self, slot: SlotId, count: usize)
         requires one { slot < 1 }
@@ -301,7 +312,8 @@ impl Node {
         requires one { slot < 1 }
         requires room { length out.old.sent ≤ 64 }
         requires passes { length out.old.passed < 64 }
-        ensures { IsActed (advance_own self.old slot) self.new out.old out.new }
+        ensures acted { IsActed (advance_own self.old slot) self.new out.old out.new }
+        ensures first { IsFirstNode self.old }
     {
         let count = self.passing(slot);
         if count == 0 {
@@ -310,18 +322,12 @@ impl Node {
         let (first, _) = self.numbers(slot);
         let receivers = self.followers(slot, count);
         self.pass(slot, count);
-        let stream = Stream {
-            node: self.me,
-            slot,
-        };
         let after = first + count as u32;
-        self.send_each(
-            receivers.meet(self.members).without(self.me),
-            &Body::RVal(stream, after),
-            out,
-        );
+        let body = Body::RVal(self.own_stream(slot), after);
+        let receivers = receivers.meet(self.members).without(self.me);
+        self.send_each(receivers, &body, out);
         out.passed.push(Passed {
-            stream,
+            stream: self.own_stream(slot),
             first,
             after,
         });

@@ -1,0 +1,16 @@
+use Rattle.std.proofs.Common.{◌≡◌, ◌≤◌, length, map, sym, ap, ◌∙◌}
+use Rattle.zeus_model.specs.Commit.{as_kept, passing}
+use Rattle.zeus_model.specs.State.{Slot}
+use Rattle.zeus_node.specs.Shown.{shown}
+use Rattle.zeus_node.proofs.OwnSlots.{slot_read, passing-own}
+use Rattle.zeus_node.proofs.node.Node.passing.Goals as goal
+
+pub returns : goal.returns
+returns c =
+    let pipeline = rw c.slot_place.ensures at c.index.ensures in
+    let there = slot_read _ c.args.slot _ c.self.invariant c.requires pipeline in
+    record {
+      value = rw (← c.self.view_is, there) (c.passing.ensures.value ∙ passing-own (shown c.self.inside) _);
+      most = rw (← c.self.view_is, there) c.passing.ensures.most;
+      first = rw (← c.self.view_is) c.self.invariant;
+    }
