@@ -83,34 +83,34 @@ pub row-val : (n : Node) (from : ℕ) (b : Body) (s : Stream) (d : ℕ) → b �
 unfolding row
 row-val n from b s d e = rw e refl
 
-pub inv-stream : (n : Node) (b : Body) (r : Invalidation) → b ≡ RInv r → IsFirstBody n b → IsStream n r.stream
+pub inv-stream : (n : Node) (b : Body) (r : Invalidation) → b ≡ RInv r → IsFirstBody (length n.logs) (length n.copies) b → IsStream n r.stream
 unfolding IsFirstBody
 inv-stream n b r e h = let k = rw e at h in k.0
 
-pub inv-within : (n : Node) (b : Body) (r : Invalidation) → b ≡ RInv r → IsFirstBody n b → IsWithin (length n.copies) r.writes
+pub inv-within : (n : Node) (b : Body) (r : Invalidation) → b ≡ RInv r → IsFirstBody (length n.logs) (length n.copies) b → IsWithin (length n.copies) r.writes
 unfolding IsFirstBody
 inv-within n b r e h = let k = rw e at h in k.1
 
-pub ack-stream : (n : Node) (b : Body) (s : Stream) (number : ℕ) → b ≡ RAck s number → IsFirstBody n b → IsStream n s
+pub ack-stream : (n : Node) (b : Body) (s : Stream) (number : ℕ) → b ≡ RAck s number → IsFirstBody (length n.logs) (length n.copies) b → IsStream n s
 unfolding IsFirstBody
 ack-stream n b s number e h = rw e at h
 
-pub val-stream : (n : Node) (b : Body) (s : Stream) (d : ℕ) → b ≡ RVal s d → IsFirstBody n b → IsStream n s
+pub val-stream : (n : Node) (b : Body) (s : Stream) (d : ℕ) → b ≡ RVal s d → IsFirstBody (length n.logs) (length n.copies) b → IsStream n s
 unfolding IsFirstBody
 val-stream n b s d e h = rw e at h
 
 -- the other bodies are none of the first range
-pub no_other_body : (n : Node) (b : Body) → IsFirstBody n b → ((r : Invalidation) → b ≡ RInv r → ⊥) → ((s : Stream) (k : ℕ) → b ≡ RAck s k → ⊥) → ((s : Stream) (k : ℕ) → b ≡ RVal s k → ⊥) → ⊥
+pub no_other_body : (nodes objects : ℕ) (b : Body) → IsFirstBody nodes objects b → ((r : Invalidation) → b ≡ RInv r → ⊥) → ((s : Stream) (k : ℕ) → b ≡ RAck s k → ⊥) → ((s : Stream) (k : ℕ) → b ≡ RVal s k → ⊥) → ⊥
 unfolding IsFirstBody
-no_other_body n (RInv r) h i a v = i r refl
-no_other_body n (RAck s number) h i a v = a s number refl
-no_other_body n (RVal s done) h i a v = v s done refl
-no_other_body n (OReq x want) h i a v = h
-no_other_body n (OInv x p) h i a v = h
-no_other_body n (OAck x p content) h i a v = h
-no_other_body n (ONack x stamp cause) h i a v = h
-no_other_body n (OVal x stamp place) h i a v = h
-no_other_body n Recovered h i a v = h
+no_other_body nodes objects (RInv r) h i a v = i r refl
+no_other_body nodes objects (RAck s number) h i a v = a s number refl
+no_other_body nodes objects (RVal s done) h i a v = v s done refl
+no_other_body nodes objects (OReq x want) h i a v = h
+no_other_body nodes objects (OInv x p) h i a v = h
+no_other_body nodes objects (OAck x p content) h i a v = h
+no_other_body nodes objects (ONack x stamp cause) h i a v = h
+no_other_body nodes objects (OVal x stamp place) h i a v = h
+no_other_body nodes objects Recovered h i a v = h
 
 -- the rules of commit letters pass nothing themselves
 stored-unpassed : (n : Node) (from : ℕ) (r : Invalidation) → (stored_rinv n from r).passed ≡ []
@@ -129,7 +129,7 @@ on_rval-unpassed : (n : Node) (s : Stream) (d : ℕ) → (on_rval n s d).passed 
 unfolding on_rval
 on_rval-unpassed n s d = grind arith
 
-pub row-unpassed : (n : Node) (from : ℕ) (b : Body) → IsFirstBody n b → (row n from b).passed ≡ []
+pub row-unpassed : (n : Node) (from : ℕ) (b : Body) → IsFirstBody (length n.logs) (length n.copies) b → (row n from b).passed ≡ []
 unfolding row IsFirstBody
 row-unpassed n from (RInv r) h = on_rinv-unpassed n from r
 row-unpassed n from (RAck s number) h = on_rack-unpassed n from s number

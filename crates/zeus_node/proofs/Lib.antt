@@ -10,3 +10,7 @@ pub mod Adding
 pub mod Rows
 pub mod OwnSlots
 pub mod Finish
+pub mod Sent
+pub mod Beginning
+pub mod Reading
+pub mod Writing

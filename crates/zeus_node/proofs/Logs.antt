@@ -84,6 +84,9 @@ first-with_log n s l f h w =
     let all = length-put [] n.logs s.node (put no_log row s.slot l) h.node in
     record {
       one_slot = f.one_slot;
+      plain = f.plain;
+      objects = f.objects;
+      current = f.current;
       rows = λ m k. put_within [] (λ r. length r ≡ 1) n.logs s.node (put no_log row s.slot l) f.rows size m (rw (← all) k);
       members = rw all f.members;
       reported = f.reported;
@@ -97,16 +100,15 @@ pub first-with_copies : (n : Node) (copies : List (Option Copy)) → IsFirstNode
 first-with_copies n copies f e =
     record {
       one_slot = f.one_slot;
+      plain = f.plain;
+      objects = e ∙ f.objects;
+      current = f.current;
       rows = f.rows;
       members = f.members;
       reported = f.reported;
       pending = rw e f.pending;
       kept = λ m s. rw e (f.kept m s);
     }
-
--- a stream stays one of the node's
-pub stream-with_copies : (n : Node) (copies : List (Option Copy)) (s : Stream) → IsStream n s → IsStream (with_copies n copies) s
-stream-with_copies n copies s h = record { node = h.node; slot = h.slot }
 
 pub raise-first : (n : Node) (s : Stream) (d : ℕ) → IsFirstNode n → IsStream n s → IsFirstNode (raise n s d)
 unfolding raise
@@ -120,7 +122,7 @@ raise-first n s d f h =
     IsFirstNode
     (if b then with_log (after_passing n (take k kept)) s record { done = d; kept = drop k kept } else n)) [
       | true ↦
-          first-with_log (after_passing n (take k kept)) s record { done = d; kept = drop k kept } passed (stream-with_copies n _ s h)
+          first-with_log (after_passing n (take k kept)) s record { done = d; kept = drop k kept } passed h
           (rw size (IsWithin-drop _ k kept within))
       | false ↦ f
     ]
@@ -154,7 +156,7 @@ store-first n r f h w =
     let e : Kept = record { followers = r.followers; writes = r.writes; acks = [] } in
     first-with_log (with_copies n (each_write applied n.copies r.writes)) r.stream
     record { done = (log n r.stream).done; kept = (log n r.stream).kept ++ e ∷ [] }
-    (first-with_copies n (each_write applied n.copies r.writes) f size) (stream-with_copies n _ r.stream h)
+    (first-with_copies n (each_write applied n.copies r.writes) f size) h
     (rw (size, writes_of-append (log n r.stream).kept (e ∷ []))
     (IsWithin-append _ _ _ (f.kept r.stream.node r.stream.slot) (within-one _ e w)))
 

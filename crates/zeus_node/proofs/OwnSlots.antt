@@ -22,7 +22,7 @@ use Rattle.zeus_model.specs.Commit.{as_kept, each_write, validated, writes_of, p
 use Rattle.zeus_node.specs.declared.effect.Effect.{Effect}
 use Rattle.zeus_node.specs.Copies.{IsWithin}
 use Rattle.zeus_node.specs.Done.{Adds, IsActed, IsQuiet}
-use Rattle.zeus_node.specs.FirstNode.{IsFirstNode, IsStream}
+use Rattle.zeus_node.specs.FirstNode.{IsFirstCurrent, IsFirstNode, IsStream}
 use Rattle.zeus_node.specs.Slots.{counts, counts_at, passes_at, passed, IsAcknowledged}
 use Rattle.zeus_node.specs.Stored.{counts_kept, IsKeptAcknowledged}
 use Rattle.zeus_node.proofs.Acks.{nth_read}
@@ -41,11 +41,14 @@ slot_written n s l f h = sym (put-set no_slot n.slots s l (rw f.one_slot h))
 with_slot_same : (n : Node) (s : ℕ) → IsFirstNode n → s < 1 → with_slot n s (slot n s) ≡ n
 with_slot_same n s f h = ap (λ (ls : List Slot). let m : Node = record n { slots = ls } in m) (put-nth no_slot n.slots s (rw f.one_slot h))
 
-pub first-with_slot : (n : Node) (s : ℕ) (l : Slot) → IsFirstNode n → s < 1 → IsWithin (length n.copies) (writes_of (map as_kept l.pending)) → IsFirstNode (with_slot n s l)
-first-with_slot n s l f h w =
+pub first-with_slot : (n : Node) (s : ℕ) (l : Slot) → IsFirstNode n → s < 1 → IsWithin (length n.copies) (writes_of (map as_kept l.pending)) → IsFirstCurrent n.me n.entries l.current → IsFirstNode (with_slot n s l)
+first-with_slot n s l f h w q =
     let none : s ≡ 0 = omega arith in
     record {
       one_slot = length-put no_slot n.slots s l (rw f.one_slot h) ∙ f.one_slot;
+      plain = f.plain;
+      objects = f.objects;
+      current = rw (none, nth-put_same no_slot n.slots 0 l) q;
       rows = f.rows;
       members = f.members;
       reported = f.reported;
@@ -100,6 +103,11 @@ own_acked-first n from s number answer m f h a =
       | true ↦ rw (writes_of-acked l.pending (number - l.done) from) old
       | false ↦ old
     ]))
+    (rw a.becomes
+    (elim (counts_at l from number) as (λ b. IsFirstCurrent n.me n.entries (if b then after else l).current) [
+      | true ↦ rw none f.current
+      | false ↦ rw none f.current
+    ]))
 
 -- R-ACK of a foreign entry
 pub kept_acked : (n : Node) (from : ℕ) (s : Stream) (number : ℕ) (answer : Outcome) (m : StreamLog) → IsFirstNode n → IsStream n s → IsKeptAcknowledged (log n s) from number answer m → IsQuiet (on_kept_rack n from s number) answer (with_log n s m)
@@ -153,7 +161,7 @@ pass_own-first n s k f h =
     let size = length-each_write validated (writes_of front) n.copies (length n.copies) refl (IsWithin-take _ k (map as_kept l.pending) old) in
     first-with_slot (with_copies n (each_write validated n.copies (writes_of front))) s record { current = l.current; done = l.done + k; pending = drop k l.pending }
     (first-with_copies n (each_write validated n.copies (writes_of front)) f size) h
-    (rw (size, ← drop-map as_kept k l.pending) (IsWithin-drop _ k (map as_kept l.pending) old))
+    (rw (size, ← drop-map as_kept k l.pending) (IsWithin-drop _ k (map as_kept l.pending) old)) (rw none f.current)
 
 pub advance-none : (n : Node) (s : ℕ) (out : Effect) → passing n (map as_kept (slot n s).pending) ≡ 0 → length out.sent ≤ 64 → IsActed (advance_own n s) n out out
 unfolding advance_own advance_own_by

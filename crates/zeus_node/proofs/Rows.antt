@@ -35,22 +35,22 @@ pub untaken-other_epoch :
 unfolding untaken or_else where_true
 untaken-other_epoch n l s m e = rw (s, m, ne_eqb l.epoch n.epoch e) refl
 
-needs_open-first : (n : Node) (b : Body) → IsFirstBody n b → needs_open b ≡ false
+needs_open-first : (nodes objects : ℕ) (b : Body) → IsFirstBody nodes objects b → needs_open b ≡ false
 unfolding IsFirstBody needs_open
-needs_open-first n (RInv r) h = refl
-needs_open-first n (RAck s number) h = refl
-needs_open-first n (RVal s done) h = refl
-needs_open-first n (OReq x want) h = absurd h
-needs_open-first n (OInv x p) h = absurd h
-needs_open-first n (OAck x p content) h = absurd h
-needs_open-first n (ONack x stamp cause) h = absurd h
-needs_open-first n (OVal x stamp place) h = absurd h
-needs_open-first n Recovered h = absurd h
+needs_open-first nodes objects (RInv r) h = refl
+needs_open-first nodes objects (RAck s number) h = refl
+needs_open-first nodes objects (RVal s done) h = refl
+needs_open-first nodes objects (OReq x want) h = absurd h
+needs_open-first nodes objects (OInv x p) h = absurd h
+needs_open-first nodes objects (OAck x p content) h = absurd h
+needs_open-first nodes objects (ONack x stamp cause) h = absurd h
+needs_open-first nodes objects (OVal x stamp place) h = absurd h
+needs_open-first nodes objects Recovered h = absurd h
 
 pub untaken-none :
-    (n : Node) (l : Letter) → n.stopped ≡ false → not (l.to == n.me) ≡ false → l.epoch ≡ n.epoch → IsFirstBody n l.body → None ≡ untaken n l
+    (n : Node) (l : Letter) → n.stopped ≡ false → not (l.to == n.me) ≡ false → l.epoch ≡ n.epoch → IsFirstBody (length n.logs) (length n.copies) l.body → None ≡ untaken n l
 unfolding untaken or_else where_true
-untaken-none n l s m e h = rw (s, m, eq-eqb l.epoch n.epoch e, needs_open-first n l.body h) refl
+untaken-none n l s m e h = rw (s, m, eq-eqb l.epoch n.epoch e, needs_open-first (length n.logs) (length n.copies) l.body h) refl
 
 -- R-INV
 pub on_rinv-own : (n : Node) (from : ℕ) (r : Invalidation) → (r.stream.node == n.me) ≡ true → IsQuiet (on_rinv n from r) (Refused OwnStream) n

@@ -5,3 +5,4 @@ pub mod Slots
 pub mod Done
 pub mod FirstNode
 pub mod Shown
+pub mod Tries

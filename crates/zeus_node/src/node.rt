@@ -9,6 +9,9 @@ ghost use Rattle.zeus_node.specs.Copies.{IsWithin};
 ghost use Rattle.zeus_node.specs.Done.{Adds, IsActed, IsDone, IsQuiet};
 ghost use Rattle.zeus_node.specs.Effect.{IsCleared};
 
+mod local;
+mod start;
+
 use crate::copies::{Change, Copies};
 use crate::effect::Effect;
 use crate::pipeline::Pipeline;
@@ -146,7 +149,7 @@ impl Node {
 
     /// Why a letter meets no rule: the first test that it fails.
     fn untaken(&self, letter: &Letter) -> Option<Outcome>
-        requires { IsFirstBody self.now letter.now.body }
+        requires { IsFirstBody (length self.now.logs) (length self.now.copies) letter.now.body }
         ensures { result ≡ untaken self.now letter.now }
     {
         if self.stopped {
@@ -244,7 +247,7 @@ impl Node {
 
     /// The rule of the letter's body.
     fn row(&mut self, letter: &Letter, out: &mut Effect) -> Outcome
-        requires known { IsFirstBody self.old letter.now.body }
+        requires known { IsFirstBody (length self.old.logs) (length self.old.copies) letter.now.body }
         requires room { length out.old.sent ≤ 64 }
         ensures { IsDone (row self.old letter.now.from letter.now.body) result self.new out.old out.new }
     {
@@ -335,7 +338,7 @@ impl Node {
 
     /// Takes a letter: the tests before every letter, the rule of its body, and the finish.
     pub fn receive(&mut self, letter: &Letter, out: &mut Effect) -> Outcome
-        requires known { IsFirstBody self.old letter.now.body }
+        requires known { IsFirstBody (length self.old.logs) (length self.old.copies) letter.now.body }
         requires cleared { IsCleared out.old }
         ensures answer { result ≡ (receive self.old letter.now).answer }
         ensures after { self.new ≡ (receive self.old letter.now).node }

@@ -1,0 +1,148 @@
+//! How a node begins.
+ghost use Rattle.std.specs.Prelude.{◌≡◌, ◌<◌, ◌≤◌, IfOk, map, replicate};
+ghost use Rattle.zeus_model.specs.State.{no_log};
+ghost use Rattle.zeus_model.specs.Tables.{below};
+ghost use Rattle.zeus_model.specs.World.{start_copy, start_entry, start_gather, start_node};
+ghost use Rattle.zeus_node.specs.FirstNode.{IsFirstConfig};
+
+use super::Node;
+use crate::copies::Copies;
+use crate::pipeline::Pipeline;
+use crate::stored::{NodeLogs, StoredLog};
+use std::alloc::{AllocError, Global};
+use zeus_base::{Config, NoMemory, NodeId, NodeSet, ObjectDecl, Stamp};
+use zeus_model::{Copy, Entry, Gather};
+use zeus_packet::{Place, State};
+
+impl Node {
+    /// The node of this number at the start of a run: in epoch 1 with all nodes as members, all of them reported, and
+    /// with a valid copy of each object that it is declared to replicate. All memory of the node is taken here.
+    ///
+    /// # Errors
+    /// `NoMemory` where that memory is not there.
+    pub fn new(alloc: Global, config: &Config, me: NodeId) -> Result<Node, NoMemory>
+        requires first { IsFirstConfig config.now }
+        requires here { me < config.now.nodes }
+        ensures { IfOk result (λ node. node ≡ start_node config.now me) }
+    {
+        let all = all_nodes(config.nodes);
+        let entries = start_entries(alloc, config.objects.as_slice()).map_err(|_| NoMemory)?;
+        let copies = start_copies(alloc, me, config.objects.as_slice()).map_err(|_| NoMemory)?;
+        let gathers = start_gathers(alloc, config.objects.as_slice()).map_err(|_| NoMemory)?;
+        let mut slots = Vec::with_capacity(alloc, 1).map_err(|_| NoMemory)?;
+        slots.push_reserved(Pipeline::new(alloc)?);
+        let logs = start_logs(alloc, config.nodes)?;
+        Ok(Node {
+            me,
+            epoch: 1,
+            members: all,
+            directory: config.directory,
+            degree: config.degree,
+            reported: all,
+            stopped: false,
+            entries,
+            copies: Copies::from_vec(copies),
+            gathers,
+            slots,
+            logs,
+        })
+    }
+}
+
+fn start_entries(alloc: Global, objects: &[ObjectDecl]) -> Result<Vec<Entry>, AllocError>
+    ensures { IfOk result (λ v. v.items ≡ map start_entry objects.now) }
+{
+    objects
+        .iter()
+        .map(|object| start_entry(object))
+        .collect(alloc)
+}
+
+fn start_copies(alloc: Global, me: NodeId, objects: &[ObjectDecl]) -> Result<Vec<Option<Copy>>, AllocError>
+    ensures { IfOk result (λ v. v.items ≡ map (start_copy me) objects.now) }
+{
+    objects
+        .iter()
+        .map(|object| start_copy(me, object))
+        .collect(alloc)
+}
+
+fn start_gathers(alloc: Global, objects: &[ObjectDecl]) -> Result<Vec<Option<Gather>>, AllocError>
+    ensures { IfOk result (λ v. v.items ≡ map start_gather objects.now) }
+{
+    objects
+        .iter()
+        .map(|object| start_gather(object))
+        .collect(alloc)
+}
+
+/// Nothing is gathered of an object.
+#[tactic(auto, unfolding(zeus_model::specs::World::start_gather))]
+fn start_gather(_object: &ObjectDecl) -> Option<Gather>
+    ensures { result ≡ start_gather _object.now }
+{
+    None
+}
+
+/// The foreign streams of each node, nothing known of them.
+fn start_logs(alloc: Global, nodes: u8) -> Result<Vec<NodeLogs>, NoMemory>
+    ensures { IfOk result (λ v. v.items ≡ replicate nodes (replicate 1 no_log)) }
+{
+    let mut logs = Vec::with_capacity(alloc, nodes as usize).map_err(|_| NoMemory)?;
+    for _node in 0..nodes {
+        logs.push_reserved(node_logs(alloc)?);
+    }
+    Ok(logs)
+}
+
+fn node_logs(alloc: Global) -> Result<NodeLogs, NoMemory>
+    ensures { IfOk result (λ v. v ≡ replicate 1 no_log) }
+{
+    let mut slots = Vec::with_capacity(alloc, 1).map_err(|_| NoMemory)?;
+    slots.push_reserved(StoredLog::new(alloc)?);
+    Ok(NodeLogs { slots })
+}
+
+#[tactic(auto, unfolding(zeus_model::specs::World::start_entry))]
+fn start_entry(object: &ObjectDecl) -> Entry
+    ensures { result ≡ start_entry object.now }
+{
+    Entry {
+        stamp: Stamp {
+            ver: 0,
+            driver: NodeId(0),
+        },
+        place: Place {
+            owner: object.owner,
+            replicas: object.replicas,
+        },
+        proposal: None,
+    }
+}
+
+#[tactic(auto, unfolding(zeus_model::specs::World::start_copy, zeus_model::specs::Tables::where_true))]
+fn start_copy(me: NodeId, object: &ObjectDecl) -> Option<Copy>
+    ensures { result ≡ start_copy me object.now }
+{
+    if object.replicas.has(me) {
+        Some(Copy {
+            value: object.value,
+            ver: 0,
+            state: State::Valid,
+        })
+    } else {
+        None
+    }
+}
+
+/// The set of the nodes below this number.
+fn all_nodes(nodes: u8) -> NodeSet
+    requires { nodes ≤ 8 }
+    ensures { result ≡ below nodes }
+{
+    let mut all = NodeSet::empty();
+    for node in 0..nodes {
+        all = all.insert(NodeId(node));
+    }
+    all
+}
