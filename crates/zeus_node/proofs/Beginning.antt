@@ -1,5 +1,5 @@
 -- How nodes and slots begin.
-use Rattle.std.proofs.Common.{ℕ, zero, suc, ◌≡◌, ◌<◌, ◌≤◌, ◌+◌, ◌-◌, Bool, true, false, List, [], ◌∷◌, ◌++◌, Option, Some, None, length, map, refl, sym, ap, ◌∙◌, add-one, arith}
+use Rattle.std.proofs.Common.{ℕ, zero, suc, ◌≡◌, ◌<◌, ◌≤◌, ◌+◌, ◌-◌, Bool, true, false, List, [], ◌∷◌, ◌++◌, Option, Some, None, length, map, refl, sym, ap, ◌∙◌, subst, add-one, arith}
 use Rattle.std.specs.Prelude.{nat_lt, ◌==◌, replicate, if◌then◌else◌}
 use Rattle.std.proofs.lemmas.Bool.{lt-ltb, le-ltb, ne_eqb}
 use Rattle.std.proofs.lemmas.List.{length-replicate, length-map}
@@ -10,12 +10,15 @@ use Rattle.zeus_txn.specs.declared.ops.Op.{Op}
 use Rattle.zeus_model.specs.declared.answer.Begin.{Begin}
 use Rattle.zeus_model.specs.declared.answer.Begin.TheVariants.{Begun, Stopped, Busy}
 use Rattle.zeus_model.specs.declared.state.Current.{Current}
+use Rattle.zeus_model.specs.declared.state.Copy.{Copy}
+use Rattle.zeus_model.specs.declared.state.Entry.{Entry}
+use Rattle.zeus_model.specs.declared.state.Gather.{Gather}
 use Rattle.zeus_model.specs.Act.{Did, just}
 use Rattle.zeus_model.specs.Commit.{as_kept, writes_of}
 use Rattle.zeus_model.specs.Local.{begin, begin_free, with_current}
 use Rattle.zeus_model.specs.State.{Node, Slot, StreamLog, no_log, no_slot, slot}
 use Rattle.zeus_model.specs.Tables.{nth, below, numbers_from}
-use Rattle.zeus_model.specs.World.{start_node, start_entry, start_copy}
+use Rattle.zeus_model.specs.World.{start_node, start_entry, start_copy, start_gather}
 use Rattle.zeus_node.specs.Copies.{IsWithin}
 use Rattle.zeus_node.specs.FirstNode.{IsFirstConfig, IsFirstCurrent, IsFirstNode, IsFirstTx}
 use Rattle.zeus_node.specs.Tries.{current_id}
@@ -140,3 +143,16 @@ with_current-first n s c f h q =
     let none : s ≡ 0 = omega arith in
     let old : IsWithin (length n.copies) (writes_of (map as_kept (slot n s).pending)) = rw none f.pending in
     first-with_slot n s record { current = c; done = (slot n s).done; pending = (slot n s).pending } f h old q
+
+pub current_of_none : (n : Node) (s : ℕ) (l : Slot) → IsFirstNode n → s < 1 → slot n s ≡ l → None ≡ l.current → IsFirstCurrent n.me n.entries None
+current_of_none n s l f h e o = current_nothing _ _
+
+pub current_of_some : (n : Node) (s : ℕ) (l : Slot) (c : Current) → IsFirstNode n → s < 1 → slot n s ≡ l → Some c ≡ l.current → IsFirstCurrent n.me n.entries (Some c)
+current_of_some n s l c f h e o =
+    let P : Option Current → Type 0 = λ d. IsFirstCurrent n.me n.entries d in
+    subst P (ap (λ (k : Slot). k.current) e ∙ sym o) (slot_current n s f h)
+
+-- a node is put together as the rules begin it
+pub start_by : (c : Config) (me : ℕ) (all : List ℕ) (entries : List Entry) (copies : List (Option Copy)) (gathers : List (Option Gather)) (slots : List Slot) (logs : List (List StreamLog)) → c.slots ≡ 1 → all ≡ below c.nodes → entries ≡ map start_entry c.objects → copies ≡ map (start_copy me) c.objects → gathers ≡ map start_gather c.objects → slots ≡ replicate 1 no_slot → logs ≡ replicate c.nodes (replicate 1 no_log) → (let n : Node = record { me = me; epoch = 1; members = all; directory = c.directory; degree = c.degree; reported = all; stopped = false; entries = entries; copies = copies; gathers = gathers; slots = slots; logs = logs } in n) ≡ start_node c me
+unfolding start_node
+start_by c me all entries copies gathers slots logs one a e cs g s l = rw (a, e, cs, g, s, l, one) refl

@@ -1,5 +1,5 @@
 -- What a commit writes, and what hinders it.
-use Rattle.std.proofs.Common.{ℕ, zero, suc, ◌≡◌, ◌<◌, ◌≤◌, ◌+◌, ◌-◌, ◌^◌, Bool, true, false, List, [], ◌∷◌, ◌++◌, Option, Some, None, length, map, take, drop, refl, sym, ap, ◌∙◌, add-one, drop-cons, length-append, arith}
+use Rattle.std.proofs.Common.{ℕ, zero, suc, ◌≡◌, ◌<◌, ◌≤◌, ◌+◌, ◌-◌, ◌^◌, Bool, true, false, List, [], ◌∷◌, ◌++◌, Option, Some, None, length, map, take, drop, refl, sym, ap, ◌∙◌, subst, add-one, drop-cons, length-append, arith}
 use Rattle.std.specs.Prelude.{not, ◌&&◌, ◌||◌, ◌==◌, is_none, if◌then◌else◌}
 use Rattle.std.specs.List.{list_any}
 use Rattle.std.proofs.Math.ListN.{get_or, set}
@@ -166,7 +166,7 @@ unfolding tested stored
 new_tested n found ops rest x place vs ws k true = rest _ _ _ k
 new_tested n found ops rest x place vs ws k false = new_none n
 
-or_false : (a b : Bool) → (a || b) ≡ false → (a ≡ false) × (b ≡ false)
+pub or_false : (a b : Bool) → (a || b) ≡ false → (a ≡ false) × (b ≡ false)
 or_false true b e = cc
 or_false false b e = (refl, e)
 
@@ -198,6 +198,11 @@ unfolding AreNew
 new_at n [] i d h k = absurd (omega arith)
 new_at n (w ∷ ws) zero d h k = h.0
 new_at n (w ∷ ws) (suc i) d h k = new_at n ws i d h.1 (omega arith)
+
+pub new_read : (n : Node) (ws : List (ℕ × Value)) (i : ℕ) (w : ℕ × Value) → AreNew n ws → i < length ws → w ≡ get_or ws i w → IsNew n w.0
+new_read n ws i w h k e =
+    let P : ℕ × Value → Type 0 = λ v. IsNew n v.0 in
+    subst P (sym e) (new_at n ws i w h k)
 
 new_writes-append : (n : Node) (vs ws : List (ℕ × Value)) → new_writes n (vs ++ ws) ≡ new_writes n vs ++ new_writes n ws
 unfolding new_writes
@@ -324,10 +329,36 @@ pub try-nothing : (n : Node) (s : ℕ) → n.stopped ≡ false → None ≡ (slo
 unfolding try_current
 try-nothing n s e o = try_current-is n s e ∙ ap (try_current n s) (sym o)
 
-pub try-write : (n : Node) (s : ℕ) (c : Current) → n.stopped ≡ false → Some c ≡ (slot n s).current → is_write c.tx ≡ true → try_slot n s ≡ write_row n s c (write_cause n s c.tx)
-unfolding try_current
-try-write n s c e o w = try_current-is n s e ∙ ap (try_current n s) (sym o) ∙ cond_true (is_write c.tx) _ _ w
+pub try-some : (n : Node) (s : ℕ) (c : Current) → n.stopped ≡ false → Some c ≡ (slot n s).current → try_slot n s ≡ try_current n s (Some c)
+try-some n s c e o = try_current-is n s e ∙ ap (try_current n s) (sym o)
 
-pub try-read : (n : Node) (s : ℕ) (c : Current) → n.stopped ≡ false → Some c ≡ (slot n s).current → is_write c.tx ≡ false → try_slot n s ≡ read_row n s c (hindrance n c.tx)
+pub try-write : (n : Node) (s : ℕ) (c : Current) → is_write c.tx ≡ true → try_current n s (Some c) ≡ write_row n s c (write_cause n s c.tx)
 unfolding try_current
-try-read n s c e o w = try_current-is n s e ∙ ap (try_current n s) (sym o) ∙ cond_false (is_write c.tx) _ _ w
+try-write n s c w = cond_true (is_write c.tx) _ _ w
+
+pub try-read : (n : Node) (s : ℕ) (c : Current) → is_write c.tx ≡ false → try_current n s (Some c) ≡ read_row n s c (hindrance n c.tx)
+unfolding try_current
+try-read n s c w = cond_false (is_write c.tx) _ _ w
+
+pub or_here : (a b : Bool) → a ≡ true → true ≡ (a || b)
+or_here a b e = rw e refl
+
+pub or_there : (a b : Bool) → b ≡ true → true ≡ (a || b)
+or_there a b e = sym (or_right a b e)
+
+pub or_neither : (a b : Bool) → a ≡ false → b ≡ false → false ≡ (a || b)
+or_neither a b e f = rw (e, f) refl
+
+pub number_at : (n : Node) (s a b : ℕ) → a ≡ (slot n s).done → b ≡ length (slot n s).pending → a + b ≡ 2 ^ 32 - 1 → (next_number (slot n s) == 2 ^ 32 - 1) ≡ true
+number_at n s a b e f h = eq-eqb _ _ (rw (← e, ← f) h)
+
+pub number_below : (n : Node) (s a b : ℕ) → a ≡ (slot n s).done → b ≡ length (slot n s).pending → (a + b ≡ 2 ^ 32 - 1 → ⊥) → (next_number (slot n s) == 2 ^ 32 - 1) ≡ false
+number_below n s a b e f h = ne_eqb _ _ (rw (← e, ← f) h)
+
+map_end : (f : ℕ → Value) (xs : List ℕ) (x : ℕ) → map f (xs ++ x ∷ []) ≡ map f xs ++ f x ∷ []
+map_end f [] x = refl
+map_end f (y ∷ ys) x = ap (λ l. f y ∷ l) (map_end f ys x)
+
+-- one value more
+pub map_more : (f : ℕ → Value) (xs : List ℕ) (i x : ℕ) → i < length xs → x ≡ get_or xs i x → map f (take (i + 1) xs) ≡ map f (take i xs) ++ f x ∷ []
+map_more f xs i x h e = rw (take_more xs i x h, ← e) (map_end f (take i xs) x)

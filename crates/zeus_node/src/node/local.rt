@@ -1,6 +1,6 @@
 //! Transactions at a node: begun, read from the copies, or committed at their owner.
 ghost use Rattle.std.specs.Prelude.{◌≡◌, ◌==◌, ◌<◌, ◌≤◌, ◌+◌, ◌^◌, ◌-◌, ◌||◌, true, [], None, Some, List, length, map, take};
-ghost use Rattle.zeus_model.specs.Local.{begin, commit, hindrance, new_writes, read_row, replicas_of, run_here, try_slot, with_current, write_cause, write_row};
+ghost use Rattle.zeus_model.specs.Local.{begin, commit, hindrance, new_writes, read_row, replicas_of, run_here, try_current, try_slot, with_current, write_cause, write_row};
 ghost use Rattle.zeus_model.specs.State.{copy, entry, next_number, slot as slot_of, value_of, version_of};
 ghost use Rattle.std.specs.List.{list_any};
 ghost use Rattle.zeus_txn.specs.Ops.{is_write, named};
@@ -142,7 +142,8 @@ impl Node {
     fn run(&self, tx: &Tx) -> Ran
         ensures { result ≡ run_here self.now tx.now }
     {
-        run_ops(tx, self.values(tx).as_slice())
+        let found = self.values(tx);
+        run_ops(tx, found.as_slice())
     }
 
     /// What hinders a read at this object.
@@ -235,6 +236,7 @@ impl Node {
         requires writes { is_write tx.now ≡ true }
         ensures { IsDone (write_row self.old slot (record { id = id; tx = tx.now }) (write_cause self.old slot tx.now)) result self.new out.old out.new }
     {
+        let _ = &self.degree;
         let (_, pending) = self.numbers(slot);
         if pending == 16 {
             return Tried::PipeFull;
@@ -254,9 +256,13 @@ impl Node {
     {
         let mut writes = Writes::new(*self.entries.allocator());
         for place in 0..values.len() {
-            let (obj, value) = values.as_slice()[place];
-            let ver = self.version(obj) + 1;
-            writes.push(Write { obj, ver, value });
+            let written = &values.as_slice()[place];
+            let ver = self.version(written.0) + 1;
+            writes.push(Write {
+                obj: written.0,
+                ver,
+                value: written.1,
+            });
         }
         writes
     }
@@ -339,13 +345,20 @@ impl Node {
         }
         match self.duplicate_current(slot) {
             None => Tried::Nothing,
-            Some(Current { id, tx }) => {
-                if tx.is_write() {
-                    self.try_write(slot, id, &tx, out)
-                } else {
-                    self.try_read(slot, id, &tx)
-                }
-            }
+            Some(current) => self.try_current(slot, &current, out),
+        }
+    }
+
+    fn try_current(&mut self, slot: SlotId, current: &Current, out: &mut Effect) -> Tried
+        requires one { slot < 1 }
+        requires cleared { IsCleared out.old }
+        requires first { IsFirstTx self.old.me self.old.entries current.now.tx }
+        ensures { IsDone (try_current self.old slot (Some current.now)) result self.new out.old out.new }
+    {
+        if current.tx.is_write() {
+            self.try_write(slot, current.id, &current.tx, out)
+        } else {
+            self.try_read(slot, current.id, &current.tx)
         }
     }
 }

@@ -1,6 +1,6 @@
 //! How a node begins.
 ghost use Rattle.std.specs.Prelude.{◌≡◌, ◌<◌, ◌≤◌, IfOk, map, replicate};
-ghost use Rattle.zeus_model.specs.State.{no_log};
+ghost use Rattle.zeus_model.specs.State.{no_log, no_slot};
 ghost use Rattle.zeus_model.specs.Tables.{below};
 ghost use Rattle.zeus_model.specs.World.{start_copy, start_entry, start_gather, start_node};
 ghost use Rattle.zeus_node.specs.FirstNode.{IsFirstConfig};
@@ -26,11 +26,10 @@ impl Node {
         ensures { IfOk result (λ node. node ≡ start_node config.now me) }
     {
         let all = all_nodes(config.nodes);
-        let entries = start_entries(alloc, config.objects.as_slice()).map_err(|_| NoMemory)?;
-        let copies = start_copies(alloc, me, config.objects.as_slice()).map_err(|_| NoMemory)?;
-        let gathers = start_gathers(alloc, config.objects.as_slice()).map_err(|_| NoMemory)?;
-        let mut slots = Vec::with_capacity(alloc, 1).map_err(|_| NoMemory)?;
-        slots.push_reserved(Pipeline::new(alloc)?);
+        let entries = start_entries(alloc, config.objects.as_slice())?;
+        let copies = start_copies(alloc, me, config.objects.as_slice())?;
+        let gathers = start_gathers(alloc, config.objects.as_slice())?;
+        let slots = start_slots(alloc)?;
         let logs = start_logs(alloc, config.nodes)?;
         Ok(Node {
             me,
@@ -49,7 +48,13 @@ impl Node {
     }
 }
 
-fn start_entries(alloc: Global, objects: &[ObjectDecl]) -> Result<Vec<Entry>, AllocError>
+fn start_entries(alloc: Global, objects: &[ObjectDecl]) -> Result<Vec<Entry>, NoMemory>
+    ensures { IfOk result (λ v. v.items ≡ map start_entry objects.now) }
+{
+    collect_entries(alloc, objects).map_err(|_| NoMemory)
+}
+
+fn collect_entries(alloc: Global, objects: &[ObjectDecl]) -> Result<Vec<Entry>, AllocError>
     ensures { IfOk result (λ v. v.items ≡ map start_entry objects.now) }
 {
     objects
@@ -58,7 +63,13 @@ fn start_entries(alloc: Global, objects: &[ObjectDecl]) -> Result<Vec<Entry>, Al
         .collect(alloc)
 }
 
-fn start_copies(alloc: Global, me: NodeId, objects: &[ObjectDecl]) -> Result<Vec<Option<Copy>>, AllocError>
+fn start_copies(alloc: Global, me: NodeId, objects: &[ObjectDecl]) -> Result<Vec<Option<Copy>>, NoMemory>
+    ensures { IfOk result (λ v. v.items ≡ map (start_copy me) objects.now) }
+{
+    collect_copies(alloc, me, objects).map_err(|_| NoMemory)
+}
+
+fn collect_copies(alloc: Global, me: NodeId, objects: &[ObjectDecl]) -> Result<Vec<Option<Copy>>, AllocError>
     ensures { IfOk result (λ v. v.items ≡ map (start_copy me) objects.now) }
 {
     objects
@@ -67,7 +78,13 @@ fn start_copies(alloc: Global, me: NodeId, objects: &[ObjectDecl]) -> Result<Vec
         .collect(alloc)
 }
 
-fn start_gathers(alloc: Global, objects: &[ObjectDecl]) -> Result<Vec<Option<Gather>>, AllocError>
+fn start_gathers(alloc: Global, objects: &[ObjectDecl]) -> Result<Vec<Option<Gather>>, NoMemory>
+    ensures { IfOk result (λ v. v.items ≡ map start_gather objects.now) }
+{
+    collect_gathers(alloc, objects).map_err(|_| NoMemory)
+}
+
+fn collect_gathers(alloc: Global, objects: &[ObjectDecl]) -> Result<Vec<Option<Gather>>, AllocError>
     ensures { IfOk result (λ v. v.items ≡ map start_gather objects.now) }
 {
     objects
@@ -82,6 +99,15 @@ fn start_gather(_object: &ObjectDecl) -> Option<Gather>
     ensures { result ≡ start_gather _object.now }
 {
     None
+}
+
+/// One free slot.
+fn start_slots(alloc: Global) -> Result<Vec<Pipeline>, NoMemory>
+    ensures { IfOk result (λ v. v.items ≡ replicate 1 no_slot) }
+{
+    let mut slots = Vec::with_capacity(alloc, 1).map_err(|_| NoMemory)?;
+    slots.push_reserved(Pipeline::new(alloc)?);
+    Ok(slots)
 }
 
 /// The foreign streams of each node, nothing known of them.

@@ -1,0 +1,13 @@
+use Rattle.std.proofs.Common.{◌≤◌, length, sym, ◌∙◌, arith}
+use Rattle.zeus_node.proofs.Adding.{quiet_done}
+use Rattle.zeus_node.proofs.Writing.{try-write, try-read}
+use Rattle.zeus_node.proofs.node.Node.try_current.Goals as goal
+
+pub returns-then-is_write : goal.returns-then-is_write
+returns-then-is_write c =
+    rw (try-write c.args.self.now c.args.slot c.args.current.now (sym c.is_write.ensures ∙ c.if-is_write.true)) c.try_write.ensures
+
+pub returns-else-is_write : goal.returns-else-is_write
+returns-else-is_write c =
+    rw (try-read c.args.self.now c.args.slot c.args.current.now (sym c.is_write.ensures ∙ c.if-is_write.false))
+    (quiet_done _ _ _ c.args.out.now c.try_read.ensures (rw c.requires.cleared.unsent (omega arith)))

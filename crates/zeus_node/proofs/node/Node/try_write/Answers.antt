@@ -1,0 +1,49 @@
+use Rattle.std.proofs.Common.{◌≡◌, ◌<◌, ◌≤◌, ◌+◌, ◌-◌, ◌^◌, Bool, true, false, length, refl, sym, ap, ◌∙◌, arith}
+use Rattle.std.specs.Prelude.{◌==◌, ◌||◌}
+use Rattle.std.specs.List.{list_any}
+use Rattle.std.proofs.lemmas.Bool.{eq-eqb, ne_eqb, eqb-false}
+use Rattle.zeus_model.specs.State.{Node, next_number, slot}
+use Rattle.zeus_model.specs.Tables.{where_true}
+use Rattle.zeus_model.specs.declared.answer.Tried.TheVariants.{WornOut}
+use Rattle.zeus_node.specs.FirstNode.{IsFirstNode}
+use Rattle.zeus_node.specs.Tries.{worn_at}
+use Rattle.zeus_node.proofs.Adding.{quiet_done}
+use Rattle.zeus_node.proofs.Writing.{first_cause, worn_is, or_false, write-full, write-worn, write-commit, run_new}
+use Rattle.zeus_node.proofs.node.Node.try_write.Goals as goal
+
+pub returns-then-pending-eq16 : goal.returns-then-pending-eq16
+returns-then-pending-eq16 c =
+    let first : IsFirstNode c.args.self.now = rw c.self.view_is at c.self.invariant in
+    let cause = first_cause c.args.self.now c.args.slot c.args.tx.now first c.requires.one (c.requires.first.owned c.requires.writes) in
+    let full = eq-eqb _ _ (sym c.numbers-pending.ensures.pending ∙ c.if-pending-eq16.true) in
+    quiet_done _ _ _ c.args.out.now
+    (write-full c.args.self.now c.args.slot record { id = c.args.id; tx = c.args.tx.now } _ full cause) (rw c.requires.cleared.unsent (omega arith))
+
+pub returns-then-is_worn : goal.returns-then-is_worn
+returns-then-is_worn c =
+    let first : IsFirstNode c.args.self.now = rw c.self.view_is at c.self.invariant in
+    let cause = first_cause c.args.self.now c.args.slot c.args.tx.now first c.requires.one (c.requires.first.owned c.requires.writes) in
+    let room = ne_eqb _ _ (λ e. c.if-pending-eq16.false (c.numbers-pending.ensures.pending ∙ e)) in
+    let worn =
+        worn_is c.args.self.now c.args.slot c.args.tx.now _ refl ∙ ap (λ b. where_true b WornOut) (sym c.is_worn.ensures ∙ c.if-is_worn.true)
+    in
+    quiet_done _ _ _ c.args.out.now
+    (write-worn c.args.self.now c.args.slot record { id = c.args.id; tx = c.args.tx.now } _ room worn cause)
+    (rw c.requires.cleared.unsent (omega arith))
+
+pub commit-requires-clause-fresh : goal.commit-requires-clause-fresh
+commit-requires-clause-fresh c =
+    let first : IsFirstNode c.args.self.now = rw c.self.view_is at c.self.invariant in
+    let parts = or_false _ _ (sym c.is_worn.ensures ∙ c.if-is_worn.false) in
+    rw c.run-ran.ensures (run_new c.args.self.now c.args.tx.now first.objects c.requires.first.within parts.1)
+
+pub returns : goal.returns
+returns c =
+    let first : IsFirstNode c.args.self.now = rw c.self.view_is at c.self.invariant in
+    let cause = first_cause c.args.self.now c.args.slot c.args.tx.now first c.requires.one (c.requires.first.owned c.requires.writes) in
+    let room = ne_eqb _ _ (λ e. c.if-pending-eq16.false (c.numbers-pending.ensures.pending ∙ e)) in
+    let fresh =
+        worn_is c.args.self.now c.args.slot c.args.tx.now _ refl ∙ ap (λ b. where_true b WornOut) (sym c.is_worn.ensures ∙ c.if-is_worn.false)
+    in
+    rw (write-commit c.args.self.now c.args.slot record { id = c.args.id; tx = c.args.tx.now } _ room fresh cause, ← c.run-ran.ensures)
+    c.commit.ensures
