@@ -55,6 +55,7 @@ start_node-first c me f h =
     record {
       one_slot = rw f.one_slot refl;
       plain = f.plain;
+      here = rw size h;
       rows =
           λ m k.
           rw (nth-replicate [] (replicate c.slots no_log) c.nodes m (rw size at k)) (length-replicate c.slots no_log ∙ f.one_slot);

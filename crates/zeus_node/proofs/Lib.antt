@@ -14,3 +14,4 @@ pub mod Sent
 pub mod Beginning
 pub mod Reading
 pub mod Writing
+pub mod Fine

@@ -85,6 +85,7 @@ first-with_log n s l f h w =
     record {
       one_slot = f.one_slot;
       plain = f.plain;
+      here = rw all f.here;
       objects = f.objects;
       current = f.current;
       rows = λ m k. put_within [] (λ r. length r ≡ 1) n.logs s.node (put no_log row s.slot l) f.rows size m (rw (← all) k);
@@ -101,6 +102,7 @@ first-with_copies n copies f e =
     record {
       one_slot = f.one_slot;
       plain = f.plain;
+      here = f.here;
       objects = e ∙ f.objects;
       current = f.current;
       rows = f.rows;
@@ -138,11 +140,11 @@ raise_by n s d row l m copies f h e g is cs =
     rw (log_written n s row m f h e, is, cs, ← there)
     (elim (nat_lt (log n s).done d) as (λ b.
     (let r : Node =
-      record n {
-        copies = if b then each_write validated n.copies (writes_of (take (d - (log n s).done) (log n s).kept)) else n.copies;
-        logs =
-            (with_log n s (if b then record { done = d; kept = drop (d - (log n s).done) (log n s).kept } else log n s)).logs;
-      }
+    record n {
+      copies = if b then each_write validated n.copies (writes_of (take (d - (log n s).done) (log n s).kept)) else n.copies;
+      logs =
+          (with_log n s (if b then record { done = d; kept = drop (d - (log n s).done) (log n s).kept } else log n s)).logs;
+    }
     in
     r)
     ≡ (if b

@@ -47,6 +47,7 @@ first-with_slot n s l f h w q =
     record {
       one_slot = length-put no_slot n.slots s l (rw f.one_slot h) ∙ f.one_slot;
       plain = f.plain;
+      here = f.here;
       objects = f.objects;
       current = rw (none, nth-put_same no_slot n.slots 0 l) q;
       rows = f.rows;

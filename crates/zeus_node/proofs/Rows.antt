@@ -112,7 +112,7 @@ raise-stream n s d h =
     elim (nat_lt (log n s).done d) as (λ b.
     IsStream
     (if b then with_log (after_passing n (take (d - (log n s).done) (log n s).kept)) s
-      record { done = d; kept = drop (d - (log n s).done) (log n s).kept }
+    record { done = d; kept = drop (d - (log n s).done) (log n s).kept }
     else n) s) [
       | true ↦ record { node = rw (length-put [] n.logs s.node _ h.node) h.node; slot = h.slot }
       | false ↦ h
@@ -124,7 +124,7 @@ length-raise n s d f =
     elim (nat_lt (log n s).done d) as (λ b.
     length
     (if b then with_log (after_passing n (take (d - (log n s).done) (log n s).kept)) s
-      record { done = d; kept = drop (d - (log n s).done) (log n s).kept }
+    record { done = d; kept = drop (d - (log n s).done) (log n s).kept }
     else n).copies ≡ length n.copies) [
       | true ↦ length-each_write validated _ n.copies _ refl (IsWithin-take _ (d - (log n s).done) (log n s).kept (f.kept s.node s.slot))
       | false ↦ refl

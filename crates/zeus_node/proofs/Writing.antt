@@ -267,7 +267,7 @@ commit_done n m s c ran followers writes a b d e f g h =
     let there = committed n s c ran followers writes in
     let same = to_each-same n there (meet followers n.members) (RInv (invalidation n s followers writes)) refl refl in
     let first : IsDone (sends there (Committed c.id (next_number (slot n s)) ran.reply) (to_each n (meet followers n.members) (RInv (invalidation n s followers writes)))) (Committed c.id (next_number (slot n s)) ran.reply) there a b =
-        record { says = refl; becomes = refl; adds = rw same at g }
+    record { says = refl; becomes = refl; adds = rw same at g }
     in
     rw (← e, ← f) (done_then (sends there (Committed c.id (next_number (slot n s)) ran.reply) (to_each n (meet followers n.members) (RInv (invalidation n s followers writes)))) (λ k. advance_own k s) _ there m a b d first h)
 

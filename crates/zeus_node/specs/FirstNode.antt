@@ -1,8 +1,9 @@
 -- The nodes, transactions and letters of the first range of scripts: one slot a node, all nodes members, no ownership letters.
-use Rattle.std.specs.Prelude.{ℕ, ◌≡◌, ◌<◌, ◌≤◌, Bool, true, ◌&&◌, ◌==◌, List, [], ◌∷◌, Option, Some, None, is_none, length, map}
+use Rattle.std.specs.Prelude.{ℕ, ◌≡◌, ◌+◌, ◌<◌, ◌≤◌, Bool, true, ◌&&◌, ◌==◌, List, [], ◌∷◌, Option, Some, None, is_none, length, map}
 use Rattle.zeus_base.specs.Nodes.{has}
 use Rattle.zeus_base.specs.declared.config.Config.{Config}
 use Rattle.zeus_base.specs.declared.order.Stream.{Stream}
+use Rattle.zeus_base.specs.declared.step.Passed.{Passed}
 use Rattle.zeus_packet.specs.declared.letter.Body.{Body}
 use Rattle.zeus_packet.specs.declared.letter.Body.TheVariants.{RInv, RAck, RVal}
 use Rattle.zeus_packet.specs.declared.letter.Letter.{Letter}
@@ -42,6 +43,7 @@ IsFirstCurrent me entries (Some c) = IsFirstTx me entries c.tx
 pub record IsFirstNode (n : Node) : Type 0 where
   pub one_slot : length n.slots ≡ 1
   pub plain : n.degree ≡ None
+  pub here : n.me < length n.logs
   pub rows : (m : ℕ) → m < length n.logs → length (nth [] n.logs m) ≡ 1
   pub objects : length n.copies ≡ length n.entries
   pub members : n.members ≡ below (length n.logs)
@@ -81,9 +83,29 @@ pub record IsFirstConfig (c : Config) : Type 0 where
   pub one_slot : c.slots ≡ 1
   pub plain : c.degree ≡ None
 
--- what a node keeps of itself in the first range
+-- the number of a current transaction, where there is one, is below this one
+unfoldable pub IsIdBelow : ℕ → Option Current → Type 0
+IsIdBelow bound None = Unit {0}
+IsIdBelow bound (Some c) = c.id < bound
+
+-- what a node keeps of itself in the first range; what it has a current transaction of may go
 pub record KeepsFrame (before after : Node) : Type 0 where
+  pub current : (bound : ℕ) → IsIdBelow bound (slot before 0).current → IsIdBelow bound (slot after 0).current
   pub me : after.me ≡ before.me
   pub entries : after.entries ≡ before.entries
   pub copies : length after.copies ≡ length before.copies
   pub logs : length after.logs ≡ length before.logs
+
+-- likewise where the transaction of this number is begun
+pub record BeginsFrame (id : ℕ) (before after : Node) : Type 0 where
+  pub current : (bound : ℕ) → id < bound → IsIdBelow bound (slot before 0).current → IsIdBelow bound (slot after 0).current
+  pub me : after.me ≡ before.me
+  pub entries : after.entries ≡ before.entries
+  pub copies : length after.copies ≡ length before.copies
+  pub logs : length after.logs ≡ length before.logs
+
+-- one pass at most, of 16 entries at most
+unfoldable pub AreFew : List Passed → Type 0
+AreFew [] = Unit {0}
+AreFew (p ∷ []) = p.after ≤ p.first + 16
+AreFew (p ∷ (q ∷ ps)) = ⊥

@@ -4,7 +4,7 @@ ghost use Rattle.zeus_model.specs.Act.{letter, to_each};
 ghost use Rattle.zeus_model.specs.Commit.{advance_own, as_kept, followers_of, next_kept, on_kept_rack, on_own_rack, on_rack, on_rinv, on_rval, pass_own, passing, raise, store, stored_rinv};
 ghost use Rattle.zeus_model.specs.State.{is_open, log, own_stream, slot as slot_of};
 ghost use Rattle.zeus_model.specs.Receive.{receive, row, untaken};
-ghost use Rattle.zeus_node.specs.FirstNode.{IsFirstBody, IsFirstNode, IsStream};
+ghost use Rattle.zeus_node.specs.FirstNode.{AreFew, AreFirstLetters, IsFirstBody, IsFirstLetter, IsFirstNode, IsStream, KeepsFrame};
 ghost use Rattle.zeus_node.specs.Copies.{IsWithin};
 ghost use Rattle.zeus_node.specs.Done.{Adds, IsActed, IsDone, IsQuiet};
 ghost use Rattle.zeus_node.specs.Effect.{IsCleared};
@@ -150,7 +150,8 @@ impl Node {
     /// Why a letter meets no rule: the first test that it fails.
     fn untaken(&self, letter: &Letter) -> Option<Outcome>
         requires { IsFirstBody (length self.now.logs) (length self.now.copies) letter.now.body }
-        ensures { result ≡ untaken self.now letter.now }
+        ensures value { result ≡ untaken self.now letter.now }
+        ensures first { IsFirstNode self.now }
     {
         if self.stopped {
             Some(Outcome::Stopped)
@@ -317,6 +318,7 @@ impl Node {
         requires passes { length out.old.passed < 64 }
         ensures acted { IsActed (advance_own self.old slot) self.new out.old out.new }
         ensures first { IsFirstNode self.old }
+        ensures few { out.old.passed ≡ [] → AreFew out.new.passed }
     {
         let count = self.passing(slot);
         if count == 0 {
@@ -338,12 +340,15 @@ impl Node {
 
     /// Takes a letter: the tests before every letter, the rule of its body, and the finish.
     pub fn receive(&mut self, letter: &Letter, out: &mut Effect) -> Outcome
-        requires known { IsFirstBody (length self.old.logs) (length self.old.copies) letter.now.body }
+        requires known { IsFirstLetter (length self.old.logs) (length self.old.copies) letter.now }
         requires cleared { IsCleared out.old }
         ensures answer { result ≡ (receive self.old letter.now).answer }
         ensures after { self.new ≡ (receive self.old letter.now).node }
         ensures sent { out.new.sent ≡ take 64 (receive self.old letter.now).sent }
         ensures passed { out.new.passed ≡ (receive self.old letter.now).passed }
+        ensures frame { KeepsFrame self.old self.new }
+        ensures few { AreFew out.new.passed }
+        ensures letters { AreFirstLetters (length self.old.logs) (length self.old.copies) out.new.sent }
     {
         if let Some(outcome) = self.untaken(letter) {
             return outcome;

@@ -8,7 +8,7 @@ ghost use Rattle.zeus_txn.specs.declared.ops.Op.{Op};
 ghost use Rattle.zeus_node.specs.Copies.{IsWithin};
 ghost use Rattle.zeus_node.specs.Done.{IsDone, IsQuiet};
 ghost use Rattle.zeus_node.specs.Effect.{IsCleared};
-ghost use Rattle.zeus_node.specs.FirstNode.{IsFirstCurrent, IsFirstTx};
+ghost use Rattle.zeus_node.specs.FirstNode.{AreFew, AreFirstLetters, BeginsFrame, IsFirstCurrent, IsFirstTx, KeepsFrame};
 ghost use Rattle.zeus_node.specs.Tries.{AreNew, current_id, pushed, told_hindrance, worn_at};
 
 use super::Node;
@@ -63,6 +63,7 @@ impl Node {
         requires first { IsFirstTx self.old.me self.old.entries tx.now }
         ensures answer { result ≡ (begin self.old slot id tx.now).answer }
         ensures after { self.new ≡ (begin self.old slot id tx.now).node }
+        ensures frame { BeginsFrame id self.old self.new }
     {
         if self.stopped {
             return Begin::Stopped;
@@ -234,7 +235,8 @@ impl Node {
         requires cleared { IsCleared out.old }
         requires first { IsFirstTx self.old.me self.old.entries tx.now }
         requires writes { is_write tx.now ≡ true }
-        ensures { IsDone (write_row self.old slot (record { id = id; tx = tx.now }) (write_cause self.old slot tx.now)) result self.new out.old out.new }
+        ensures few { AreFew out.new.passed }
+        ensures done { IsDone (write_row self.old slot (record { id = id; tx = tx.now }) (write_cause self.old slot tx.now)) result self.new out.old out.new }
     {
         let _ = &self.degree;
         let (_, pending) = self.numbers(slot);
@@ -303,7 +305,8 @@ impl Node {
         requires fresh { AreNew self.old ran.writes }
         requires room { length (slot_of self.old slot).pending < 16 }
         requires numbered { next_number (slot_of self.old slot) + 1 < 2 ^ 32 }
-        ensures { IsDone (commit self.old slot (record { id = id; tx = tx.now }) ran) result self.new out.old out.new }
+        ensures few { AreFew out.new.passed }
+        ensures done { IsDone (commit self.old slot (record { id = id; tx = tx.now }) ran) result self.new out.old out.new }
     {
         let writes = self.new_writes(&ran.writes);
         let reply = ran.into_reply();
@@ -339,6 +342,9 @@ impl Node {
         ensures after { self.new ≡ (try_slot self.old slot).node }
         ensures sent { out.new.sent ≡ take 64 (try_slot self.old slot).sent }
         ensures passed { out.new.passed ≡ (try_slot self.old slot).passed }
+        ensures frame { KeepsFrame self.old self.new }
+        ensures few { AreFew out.new.passed }
+        ensures letters { AreFirstLetters (length self.old.logs) (length self.old.copies) out.new.sent }
     {
         if self.stopped {
             return Tried::Stopped;
@@ -353,7 +359,8 @@ impl Node {
         requires one { slot < 1 }
         requires cleared { IsCleared out.old }
         requires first { IsFirstTx self.old.me self.old.entries current.now.tx }
-        ensures { IsDone (try_current self.old slot (Some current.now)) result self.new out.old out.new }
+        ensures few { AreFew out.new.passed }
+        ensures done { IsDone (try_current self.old slot (Some current.now)) result self.new out.old out.new }
     {
         if current.tx.is_write() {
             self.try_write(slot, current.id, &current.tx, out)

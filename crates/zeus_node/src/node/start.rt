@@ -63,13 +63,21 @@ fn collect_entries(alloc: Global, objects: &[ObjectDecl]) -> Result<Vec<Entry>, 
         .collect(alloc)
 }
 
-fn start_copies(alloc: Global, me: NodeId, objects: &[ObjectDecl]) -> Result<Vec<Option<Copy>>, NoMemory>
+fn start_copies(
+    alloc: Global,
+    me: NodeId,
+    objects: &[ObjectDecl],
+) -> Result<Vec<Option<Copy>>, NoMemory>
     ensures { IfOk result (λ v. v.items ≡ map (start_copy me) objects.now) }
 {
     collect_copies(alloc, me, objects).map_err(|_| NoMemory)
 }
 
-fn collect_copies(alloc: Global, me: NodeId, objects: &[ObjectDecl]) -> Result<Vec<Option<Copy>>, AllocError>
+fn collect_copies(
+    alloc: Global,
+    me: NodeId,
+    objects: &[ObjectDecl],
+) -> Result<Vec<Option<Copy>>, AllocError>
     ensures { IfOk result (λ v. v.items ≡ map (start_copy me) objects.now) }
 {
     objects

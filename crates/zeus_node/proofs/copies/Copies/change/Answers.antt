@@ -30,6 +30,6 @@ index_mut-copy-requires c =
     let size = ap length c.self.view_is in
     let known = IsWithin-at _ _ c.loop-write.write-index c.write-item.result c.requires c.loop-write-test.true in
     let here : c.object_place.result < length c.loop-write.self-inside.items.items =
-        rw (c.object_place.ensures, c.loop-write.invariant.size, size, c.write-item.is) known
+    rw (c.object_place.ensures, c.loop-write.invariant.size, size, c.write-item.is) known
     in
     omega arith

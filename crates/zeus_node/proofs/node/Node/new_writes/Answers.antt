@@ -19,7 +19,7 @@ overflow_add-ver c =
     let is = rw c.as_slice.ensures at c.index-as_slice-place.is in
     let new = new_read c.args.self.now c.args.values.now c.loop-place.place c.index-as_slice-place.result c.requires here is in
     let other : c.version-ver.result ≡ 18446744073709551615 → ⊥ =
-        λ e. eqb-false _ _ new.rises (sym c.version-ver.ensures ∙ e)
+    λ e. eqb-false _ _ new.rises (sym c.version-ver.ensures ∙ e)
     in
     omega arith
 
