@@ -1,16 +1,15 @@
 -- Which acknowledgements count.
-use Rattle.std.proofs.Common.{ℕ, ◌≡◌, ◌<◌, ◌≤◌, ◌+◌, ◌-◌, Bool, true, false, cond, List, length, refl, sym, ap, ◌∙◌, arith}
+use Rattle.std.proofs.Common.{ℕ, ◌≡◌, ◌<◌, ◌≤◌, ◌+◌, ◌-◌, true, false, List, length, refl, sym, ap, ◌∙◌, arith}
 use Rattle.std.proofs.Math.ListN.{get_or, set}
 use Rattle.std.proofs.lemmas.Bool.{lt-ltb, le-ltb}
 use Rattle.std.proofs.lemmas.List.{get_or_default}
-use Rattle.zeus_base.specs.Nodes.{has, with_node}
-use Rattle.zeus_model.specs.declared.answer.Outcome.{Outcome}
+use Rattle.zeus_base.specs.Nodes.{has}
 use Rattle.zeus_model.specs.declared.answer.Outcome.TheVariants.{Taken, Again}
 use Rattle.zeus_model.specs.declared.state.Kept.{Kept}
 use Rattle.zeus_model.specs.declared.state.Pending.{Pending}
 use Rattle.zeus_model.specs.Commit.{is_within, no_pending, no_kept, acked_pending, acked_kept}
 use Rattle.zeus_model.specs.State.{Slot, StreamLog}
-use Rattle.zeus_model.specs.Tables.{nth, put}
+use Rattle.zeus_model.specs.Tables.{nth}
 use Rattle.zeus_node.specs.Slots.{counts, counts_at, IsAcknowledged}
 use Rattle.zeus_node.specs.Stored.{counts_kept, IsKeptAcknowledged}
 use Rattle.zeus_node.proofs.ByIndex.{nth-get_or, put-set}

@@ -1,5 +1,5 @@
 -- What is added to an effect, one after another.
-use Rattle.std.proofs.Common.{ℕ, ◌≡◌, ◌≤◌, List, [], ◌∷◌, ◌++◌, length, take, refl, sym, ap, ◌∙◌, append-nil, append_assoc, arith}
+use Rattle.std.proofs.Common.{ℕ, ◌≡◌, ◌≤◌, List, [], ◌∷◌, ◌++◌, length, take, sym, ap, ◌∙◌, append-nil, append_assoc, arith}
 use Rattle.std.proofs.lemmas.List.{take_all, length-take}
 use Rattle.zeus_base.specs.declared.step.Passed.{Passed}
 use Rattle.zeus_packet.specs.declared.letter.Letter.{Letter}

@@ -1,19 +1,17 @@
 -- How nodes and slots begin.
-use Rattle.std.proofs.Common.{ℕ, zero, suc, ◌≡◌, ◌<◌, ◌≤◌, ◌+◌, ◌-◌, Bool, true, false, List, [], ◌∷◌, ◌++◌, Option, Some, None, length, map, refl, sym, ap, ◌∙◌, subst, add-one, arith}
-use Rattle.std.specs.Prelude.{nat_lt, ◌==◌, replicate, if◌then◌else◌}
-use Rattle.std.proofs.lemmas.Bool.{lt-ltb, le-ltb, ne_eqb}
+use Rattle.std.proofs.Common.{ℕ, zero, suc, ◌≡◌, ◌<◌, ◌+◌, Bool, true, false, List, [], ◌∷◌, Option, Some, None, length, map, refl, sym, ap, ◌∙◌, subst, add-one, arith}
+use Rattle.std.specs.Prelude.{replicate, if◌then◌else◌}
+use Rattle.std.proofs.lemmas.Bool.{le-ltb, ne_eqb}
 use Rattle.std.proofs.lemmas.List.{length-replicate, length-map}
-use Rattle.zeus_base.specs.Nodes.{has, with_node}
+use Rattle.zeus_base.specs.Nodes.{with_node}
 use Rattle.zeus_base.specs.declared.config.Config.{Config}
-use Rattle.zeus_packet.specs.declared.write.Write.{Write}
 use Rattle.zeus_txn.specs.declared.ops.Op.{Op}
-use Rattle.zeus_model.specs.declared.answer.Begin.{Begin}
 use Rattle.zeus_model.specs.declared.answer.Begin.TheVariants.{Begun, Stopped, Busy}
 use Rattle.zeus_model.specs.declared.state.Current.{Current}
 use Rattle.zeus_model.specs.declared.state.Copy.{Copy}
 use Rattle.zeus_model.specs.declared.state.Entry.{Entry}
 use Rattle.zeus_model.specs.declared.state.Gather.{Gather}
-use Rattle.zeus_model.specs.Act.{Did, just}
+use Rattle.zeus_model.specs.Act.{just}
 use Rattle.zeus_model.specs.Commit.{as_kept, writes_of}
 use Rattle.zeus_model.specs.Local.{begin, begin_free, with_current}
 use Rattle.zeus_model.specs.State.{Node, Slot, StreamLog, no_log, no_slot, slot}

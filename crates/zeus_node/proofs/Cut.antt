@@ -1,5 +1,5 @@
 -- A list of which the first 64 elements are kept.
-use Rattle.std.proofs.Common.{ℕ, zero, suc, ◌≡◌, ◌<◌, ◌≤◌, ◌+◌, List, [], ◌∷◌, ◌++◌, length, take, refl, sym, ap, ◌∙◌, arith, append_assoc, length-append}
+use Rattle.std.proofs.Common.{ℕ, zero, suc, ◌≡◌, ◌<◌, ◌≤◌, List, [], ◌∷◌, ◌++◌, length, take, refl, sym, ap, ◌∙◌, arith, append_assoc, length-append}
 use Rattle.std.proofs.lemmas.List.{take_all, take-append-le}
 
 pub cut_room : {A : Type 0} (xs : List A) (x : A) → length xs < 64 → xs ++ x ∷ [] ≡ take 64 (xs ++ x ∷ [])

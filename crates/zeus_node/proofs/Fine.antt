@@ -1,5 +1,5 @@
 -- What a node of the first range keeps of itself, and that it sends only commit letters.
-use Rattle.std.proofs.Common.{ℕ, zero, suc, ◌≡◌, ◌<◌, ◌≤◌, ◌+◌, ◌-◌, Bool, true, false, List, [], ◌∷◌, ◌++◌, Option, Some, None, length, take, drop, map, refl, sym, ap, ◌∙◌, arith}
+use Rattle.std.proofs.Common.{ℕ, zero, suc, ◌≡◌, ◌<◌, ◌≤◌, ◌+◌, ◌-◌, Bool, true, false, List, [], ◌∷◌, ◌++◌, Option, Some, None, length, take, map, refl, ap, ◌∙◌, arith}
 use Rattle.std.specs.Prelude.{nat_lt, ◌||◌, ◌==◌, ◌^◌, if◌then◌else◌}
 use Rattle.std.specs.List.{list_any}
 use Rattle.zeus_base.specs.Nodes.{without, meet}
@@ -23,22 +23,22 @@ use Rattle.zeus_model.specs.declared.state.Current.{Current}
 use Rattle.zeus_model.specs.declared.state.Kept.{Kept}
 use Rattle.zeus_model.specs.declared.state.Pending.{Pending}
 use Rattle.zeus_model.specs.Tables.{or_else, where_true}
-use Rattle.zeus_model.specs.Act.{Act, Did, just, sends, did_then, letter, to_each}
+use Rattle.zeus_model.specs.Act.{Did, letter, to_each}
 use Rattle.zeus_model.specs.State.{Node, Slot, StreamLog, log, next_number, no_slot, slot, with_copies, with_log, with_slot, own_stream}
-use Rattle.zeus_model.specs.Commit.{as_kept, advance_own, advance_own_by, after_passing, each_write, followers_of, next_kept, on_kept_rack, on_own_rack, on_rack, on_rinv, on_rval, pass_own, passing, raise, store, stored_rinv, told, validated, applied, writes_of, finish}
+use Rattle.zeus_model.specs.Commit.{as_kept, advance_own, advance_own_by, each_write, followers_of, next_kept, on_kept_rack, on_own_rack, on_rack, on_rinv, on_rval, pass_own, raise, store, stored_rinv, told, validated, applied, writes_of}
 use Rattle.zeus_model.specs.Local.{begin, begin_free, commit, commit_entry, committed, full_cause, Hindrance, hindrance, invalidation, new_writes, read_missing, read_row, replicas_of, rewritten_copy, run_here, try_current, try_slot, worn_cause, write_cause, write_row}
 use Rattle.zeus_model.specs.Local as rules
-use Rattle.zeus_model.specs.Receive.{receive, receive_or_not, row, untaken}
+use Rattle.zeus_model.specs.Receive.{row}
 use Rattle.zeus_node.specs.declared.effect.Effect.{Effect}
 use Rattle.zeus_node.specs.Copies.{IsWithin}
 use Rattle.zeus_node.specs.Done.{Adds}
-use Rattle.zeus_node.specs.FirstNode.{AreFew, AreFirstLetters, IsFirstBody, IsFirstCurrent, IsFirstLetter, IsFirstNode, IsFirstTx, IsIdBelow, IsStream, BeginsFrame, KeepsFrame}
+use Rattle.zeus_node.specs.FirstNode.{AreFew, AreFirstLetters, IsFirstBody, IsFirstCurrent, IsFirstNode, IsFirstTx, IsIdBelow, IsStream, BeginsFrame, KeepsFrame}
 use Rattle.zeus_node.specs.Tries.{AreNew, worn_at}
-use Rattle.zeus_node.proofs.Sent.{letters-append, letters-take, letters-none, letters-one, letters-each, AreBelow, below-without, below-meet, below-members}
+use Rattle.zeus_node.proofs.Sent.{letters-append, letters-take, letters-none, letters-one, letters-each, below-without, below-meet, below-members}
 use Rattle.zeus_node.proofs.Beginning.{slot_current}
 use Rattle.zeus_node.proofs.Rows.{raise-stream, length-raise}
 use Rattle.zeus_node.proofs.Writing.{first_cause, or_false, pushed-first, run_new, worn_is}
-use Rattle.zeus_node.proofs.Logs.{raise-first, store-first}
+use Rattle.zeus_node.proofs.Logs.{raise-first}
 use Rattle.zeus_node.proofs.OwnSlots.{pass_own-first}
 use Rattle.zeus_node.proofs.Within.{IsWithin-take, length-each_write}
 

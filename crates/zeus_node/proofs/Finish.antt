@@ -1,7 +1,6 @@
 -- A letter that passes the tests meets its rule, and then the node finishes.
-use Rattle.std.proofs.Common.{ℕ, zero, suc, ◌≡◌, ◌<◌, ◌≤◌, ◌+◌, Bool, true, false, List, [], ◌∷◌, ◌++◌, Option, Some, None, length, take, map, refl, sym, ap, ◌∙◌, append-nil, arith}
-use Rattle.std.specs.Prelude.{not, ◌&&◌, ◌||◌, ◌==◌, if◌then◌else◌}
-use Rattle.std.proofs.lemmas.Bool.{eq-eqb, ne_eqb}
+use Rattle.std.proofs.Common.{ℕ, zero, suc, ◌≡◌, ◌<◌, ◌≤◌, ◌+◌, true, false, List, [], ◌++◌, Some, None, length, map, refl, append-nil, arith}
+use Rattle.std.specs.Prelude.{◌||◌, ◌==◌}
 use Rattle.std.proofs.lemmas.Bool.Decides.{nat_tests}
 use Rattle.zeus_base.specs.Nodes.{has}
 use Rattle.zeus_base.specs.declared.order.Stream.{Stream}
@@ -11,13 +10,13 @@ use Rattle.zeus_packet.specs.declared.letter.Letter.{Letter}
 use Rattle.zeus_packet.specs.declared.letter.RInv.{RInv as Invalidation}
 use Rattle.zeus_model.specs.declared.answer.Outcome.{Outcome}
 use Rattle.zeus_model.specs.Tables.{numbers_from, below}
-use Rattle.zeus_model.specs.Act.{Act, Did, just, still, and_then, in_turn, did_then}
+use Rattle.zeus_model.specs.Act.{just, still, in_turn, did_then}
 use Rattle.zeus_model.specs.State.{Node, slot}
-use Rattle.zeus_model.specs.Commit.{as_kept, advance_own, advance_own_by, passing, pass_own, advance_kept, finish, outside, streams_outside, report, on_rinv, on_rack, on_rval, stored_rinv, on_own_rack, on_kept_rack}
+use Rattle.zeus_model.specs.Commit.{as_kept, advance_own, advance_own_by, passing, finish, outside, streams_outside, report, on_rinv, on_rack, on_rval, stored_rinv, on_own_rack, on_kept_rack}
 use Rattle.zeus_model.specs.Receive.{receive, receive_or_not, row, untaken}
 use Rattle.zeus_node.specs.declared.effect.Effect.{Effect}
 use Rattle.zeus_node.specs.Copies.{IsWithin}
-use Rattle.zeus_node.specs.Done.{Adds, IsActed, IsDone}
+use Rattle.zeus_node.specs.Done.{IsActed, IsDone}
 use Rattle.zeus_node.specs.FirstNode.{IsFirstNode, IsFirstBody, IsStream}
 use Rattle.zeus_node.proofs.Adding.{done_then}
 use Rattle.zeus_node.proofs.OwnSlots.{pass_own-first}

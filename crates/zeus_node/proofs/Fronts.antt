@@ -1,5 +1,5 @@
 -- Fronts of the pending entries.
-use Rattle.std.proofs.Common.{ℕ, zero, suc, ◌≡◌, ◌<◌, ◌≤◌, ◌+◌, Bool, true, false, List, [], ◌∷◌, length, take, drop, map, refl, sym, ap, ◌∙◌, arith}
+use Rattle.std.proofs.Common.{ℕ, zero, suc, ◌≡◌, ◌<◌, ◌≤◌, Bool, true, false, List, [], ◌∷◌, length, take, drop, map, refl, ap, arith}
 use Rattle.std.specs.List.{remove}
 use Rattle.std.proofs.Math.ListN.{get_or}
 use Rattle.zeus_base.specs.Nodes.{join}

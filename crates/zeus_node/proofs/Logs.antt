@@ -1,22 +1,21 @@
 -- The foreign streams of a node, read and set by index.
-use Rattle.std.proofs.Common.{ℕ, zero, suc, ◌≡◌, ◌<◌, ◌≤◌, ◌+◌, ◌-◌, Bool, true, false, cond, List, [], ◌∷◌, ◌++◌, Option, None, length, take, drop, map, refl, sym, ap, ◌∙◌, subst, arith}
+use Rattle.std.proofs.Common.{ℕ, zero, suc, ◌≡◌, ◌<◌, ◌-◌, true, false, List, [], ◌∷◌, ◌++◌, Option, length, take, drop, refl, sym, ap, ◌∙◌, arith}
 use Rattle.std.specs.Prelude.{nat_lt, if◌then◌else◌}
 use Rattle.std.proofs.Math.ListN.{get_or, set}
 use Rattle.zeus_base.specs.declared.order.Stream.{Stream}
 use Rattle.zeus_base.specs.TableLaws.{length-put}
 use Rattle.zeus_packet.specs.declared.letter.RInv.{RInv}
-use Rattle.zeus_packet.specs.declared.write.Write.{Write}
 use Rattle.zeus_model.specs.declared.state.Copy.{Copy}
 use Rattle.zeus_model.specs.declared.state.Kept.{Kept}
 use Rattle.zeus_model.specs.Tables.{nth, put}
-use Rattle.zeus_model.specs.State.{Node, StreamLog, no_log, log, slot, with_log, with_copies}
-use Rattle.zeus_model.specs.Commit.{as_kept, each_write, validated, applied, writes_of, raise, store, after_passing}
+use Rattle.zeus_model.specs.State.{Node, StreamLog, no_log, log, with_log, with_copies}
+use Rattle.zeus_model.specs.Commit.{each_write, validated, applied, writes_of, raise, store, after_passing}
 use Rattle.zeus_node.specs.Copies.{IsWithin}
 use Rattle.zeus_node.specs.FirstNode.{IsFirstNode, IsStream}
 use Rattle.zeus_node.specs.Stored.{raised, stored}
 use Rattle.zeus_node.proofs.Acks.{nth_read}
 use Rattle.zeus_node.proofs.ByIndex.{put-set}
-use Rattle.zeus_node.proofs.Within.{IsWithin-take, IsWithin-drop, IsWithin-append, IsWithin-none, length-each_write, writes_of-append, within-one}
+use Rattle.zeus_node.proofs.Within.{IsWithin-take, IsWithin-drop, IsWithin-append, length-each_write, writes_of-append, within-one}
 
 -- what holds of each element holds of each after a put of another of which it holds
 pub put_each :

@@ -1,24 +1,22 @@
 -- The own slot of a node, read and set by index.
-use Rattle.std.proofs.Common.{ℕ, zero, suc, ◌≡◌, ◌<◌, ◌≤◌, ◌+◌, ◌-◌, Bool, true, false, List, [], ◌∷◌, ◌++◌, Option, Some, None, length, take, drop, map, refl, sym, ap, ◌∙◌, arith}
+use Rattle.std.proofs.Common.{ℕ, zero, suc, ◌≡◌, ◌<◌, ◌≤◌, ◌+◌, ◌-◌, Bool, true, false, List, [], ◌∷◌, ◌++◌, Option, length, take, drop, map, refl, sym, ap, ◌∙◌, arith}
 use Rattle.std.specs.Prelude.{not, ◌&&◌, ◌==◌, if◌then◌else◌}
 use Rattle.std.proofs.Math.ListN.{get_or, set}
-use Rattle.std.proofs.lemmas.List.{take-map, drop-map, length-take-le}
-use Rattle.zeus_base.specs.Nodes.{has, without, meet, is_subset}
+use Rattle.std.proofs.lemmas.List.{drop-map, length-take-le}
+use Rattle.zeus_base.specs.Nodes.{has, without, meet}
 use Rattle.zeus_base.specs.declared.order.Stream.{Stream}
 use Rattle.zeus_base.specs.declared.step.Passed.{Passed}
 use Rattle.zeus_base.specs.TableLaws.{nth-put_same, length-put}
 use Rattle.zeus_packet.specs.declared.letter.Body.TheVariants.{RVal}
-use Rattle.zeus_packet.specs.declared.write.Write.{Write}
 use Rattle.zeus_model.specs.declared.answer.Outcome.{Outcome}
 use Rattle.zeus_model.specs.declared.answer.Outcome.TheVariants.{Taken, Again}
 use Rattle.zeus_model.specs.declared.state.Copy.{Copy}
-use Rattle.zeus_model.specs.declared.state.Current.{Current}
 use Rattle.zeus_model.specs.declared.state.Kept.{Kept}
 use Rattle.zeus_model.specs.declared.state.Pending.{Pending}
-use Rattle.zeus_model.specs.Tables.{nth, put, front, numbers_from}
-use Rattle.zeus_model.specs.Act.{Act, Did, just, still, and_then, in_turn, to_each}
-use Rattle.zeus_model.specs.State.{Node, Slot, StreamLog, no_slot, no_log, slot, log, with_slot, with_log, with_copies, own_stream}
-use Rattle.zeus_model.specs.Commit.{as_kept, each_write, validated, writes_of, passes, passing, pass_own, advance_own, advance_own_by, told, followers_of, is_within, on_own_rack, on_kept_rack, on_rack, no_pending, no_kept, acked_pending, acked_kept, finish, outside, streams_outside, report, advance_kept, after_passing}
+use Rattle.zeus_model.specs.Tables.{nth, put, front}
+use Rattle.zeus_model.specs.Act.{just, to_each}
+use Rattle.zeus_model.specs.State.{Node, Slot, StreamLog, no_slot, slot, log, with_slot, with_log, with_copies, own_stream}
+use Rattle.zeus_model.specs.Commit.{as_kept, each_write, validated, writes_of, passes, passing, pass_own, advance_own, advance_own_by, told, followers_of, is_within, on_own_rack, on_kept_rack, on_rack, no_pending, no_kept, acked_pending, acked_kept}
 use Rattle.zeus_node.specs.declared.effect.Effect.{Effect}
 use Rattle.zeus_node.specs.Copies.{IsWithin}
 use Rattle.zeus_node.specs.Done.{Adds, IsActed, IsQuiet}

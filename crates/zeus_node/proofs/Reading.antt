@@ -1,5 +1,5 @@
 -- What hinders a read, and what a read is answered.
-use Rattle.std.proofs.Common.{ℕ, zero, suc, ◌≡◌, ◌<◌, ◌≤◌, ◌+◌, Bool, true, false, List, [], ◌∷◌, ◌++◌, Option, Some, None, length, map, take, drop, refl, sym, ap, ◌∙◌, add-one, drop-cons, arith}
+use Rattle.std.proofs.Common.{ℕ, suc, ◌≡◌, ◌<◌, ◌≤◌, ◌+◌, true, false, List, ◌∷◌, Option, Some, None, length, drop, refl, sym, ap, ◌∙◌, add-one, drop-cons}
 use Rattle.std.specs.Prelude.{is_some}
 use Rattle.std.proofs.Math.ListN.{get_or}
 use Rattle.std.proofs.lemmas.List.{drop_all}
@@ -7,13 +7,10 @@ use Rattle.zeus_packet.specs.declared.letter.State.{State}
 use Rattle.zeus_packet.specs.declared.letter.State.TheVariants.{Valid, Invalid, Write}
 use Rattle.zeus_txn.specs.Ops.{named}
 use Rattle.zeus_txn.specs.declared.ops.Op.{Op}
-use Rattle.zeus_model.specs.declared.answer.Tried.{Tried}
 use Rattle.zeus_model.specs.declared.answer.Tried.TheVariants.{NoCopy, NotValid, Read}
 use Rattle.zeus_model.specs.declared.state.Copy.{Copy}
 use Rattle.zeus_model.specs.declared.state.Current.{Current}
-use Rattle.zeus_model.specs.Act.{just}
 use Rattle.zeus_model.specs.Local.{Hindrance, hindrance, hindrance_at, read_row, read_missing, run_here, unready, with_current}
-use Rattle.zeus_model.specs.Local as rules
 use Rattle.zeus_model.specs.Ownership.{not_valid}
 use Rattle.zeus_model.specs.State.{Node, copy}
 use Rattle.zeus_model.specs.Tables.{first_of, or_else}

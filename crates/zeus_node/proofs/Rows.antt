@@ -1,5 +1,5 @@
 -- What each rule answers, by its cases.
-use Rattle.std.proofs.Common.{ℕ, ◌≡◌, ◌<◌, ◌≤◌, ◌+◌, ◌-◌, Bool, true, false, cond, List, [], ◌∷◌, ◌++◌, Option, Some, None, length, take, drop, refl, sym, ap, ◌∙◌, arith}
+use Rattle.std.proofs.Common.{ℕ, ◌≡◌, ◌<◌, ◌≤◌, ◌-◌, true, false, [], ◌∷◌, Some, None, length, take, drop, refl, arith}
 use Rattle.std.specs.Prelude.{nat_lt, not, ◌==◌, if◌then◌else◌}
 use Rattle.std.proofs.lemmas.Bool.{lt-ltb, le-ltb, eq-eqb, ne_eqb}
 use Rattle.zeus_base.specs.declared.order.Stream.{Stream}
@@ -8,12 +8,11 @@ use Rattle.zeus_packet.specs.declared.letter.Body.TheVariants.{RInv, RAck, RVal,
 use Rattle.zeus_packet.specs.declared.letter.Cause.TheVariants.{OwnStream, Window}
 use Rattle.zeus_packet.specs.declared.letter.Letter.{Letter}
 use Rattle.zeus_packet.specs.declared.letter.RInv.{RInv as Invalidation}
-use Rattle.zeus_model.specs.declared.answer.Outcome.{Outcome}
 use Rattle.zeus_model.specs.declared.answer.Outcome.TheVariants.{Stopped, NotMine, OtherEpoch, Taken, Again, Gap, Refused}
 use Rattle.zeus_model.specs.Tables.{or_else, where_true}
-use Rattle.zeus_model.specs.Act.{Did, just, sends, letter}
+use Rattle.zeus_model.specs.Act.{letter}
 use Rattle.zeus_model.specs.State.{Node, log, with_log}
-use Rattle.zeus_model.specs.Commit.{next_kept, on_rinv, on_rval, raise, store, stored_rinv, writes_of, validated, each_write, after_passing}
+use Rattle.zeus_model.specs.Commit.{next_kept, on_rinv, on_rval, raise, store, stored_rinv, validated, after_passing}
 use Rattle.zeus_model.specs.Receive.{untaken, needs_open}
 use Rattle.zeus_base.specs.TableLaws.{length-put}
 use Rattle.zeus_node.specs.declared.effect.Effect.{Effect}

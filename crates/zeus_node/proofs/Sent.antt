@@ -1,18 +1,14 @@
 -- What a node of the first range sends, and what it keeps of itself.
-use Rattle.std.proofs.Common.{ℕ, zero, suc, ◌≡◌, ◌<◌, ◌≤◌, ◌+◌, ◌-◌, Bool, true, false, List, [], ◌∷◌, ◌++◌, length, take, drop, map, refl, sym, ap, ◌∙◌, append-nil, arith}
-use Rattle.std.specs.Prelude.{nat_lt, not, ◌&&◌, ◌||◌, ◌==◌, if◌then◌else◌}
+use Rattle.std.proofs.Common.{ℕ, zero, suc, ◌≡◌, ◌<◌, ◌≤◌, ◌+◌, true, false, List, [], ◌∷◌, ◌++◌, length, take, refl, arith}
+use Rattle.std.specs.Prelude.{◌||◌, ◌==◌, if◌then◌else◌}
 use Rattle.std.proofs.lemmas.Bool.{eqb-true}
 use Rattle.zeus_base.specs.Nodes.{has, without, meet}
-use Rattle.zeus_base.specs.declared.order.Stream.{Stream}
-use Rattle.zeus_base.specs.TableLaws.{length-put}
 use Rattle.zeus_packet.specs.declared.letter.Body.{Body}
-use Rattle.zeus_packet.specs.declared.letter.Body.TheVariants.{RInv, RAck, RVal, OReq, OInv, OAck, ONack, OVal, Recovered}
 use Rattle.zeus_packet.specs.declared.letter.Letter.{Letter}
-use Rattle.zeus_packet.specs.declared.letter.RInv.{RInv as Invalidation}
-use Rattle.zeus_model.specs.Tables.{numbers_from, below}
-use Rattle.zeus_model.specs.Act.{to_each, letter}
-use Rattle.zeus_model.specs.State.{Node, slot}
-use Rattle.zeus_node.specs.FirstNode.{IsFirstNode, IsFirstBody, IsFirstLetter, AreFirstLetters, IsStreamOf, KeepsFrame}
+use Rattle.zeus_model.specs.Tables.{numbers_from}
+use Rattle.zeus_model.specs.Act.{to_each}
+use Rattle.zeus_model.specs.State.{Node}
+use Rattle.zeus_node.specs.FirstNode.{IsFirstNode, IsFirstBody, IsFirstLetter, AreFirstLetters}
 
 -- lists of such letters
 pub letters-append : (nodes objects : ℕ) (xs ys : List Letter) → AreFirstLetters nodes objects xs → AreFirstLetters nodes objects ys → AreFirstLetters nodes objects (xs ++ ys)

@@ -1,6 +1,6 @@
 -- What a commit writes, and what hinders it.
-use Rattle.std.proofs.Common.{ℕ, zero, suc, ◌≡◌, ◌<◌, ◌≤◌, ◌+◌, ◌-◌, ◌^◌, Bool, true, false, List, [], ◌∷◌, ◌++◌, Option, Some, None, length, map, take, drop, refl, sym, ap, ◌∙◌, subst, add-one, drop-cons, length-append, arith}
-use Rattle.std.specs.Prelude.{not, ◌&&◌, ◌||◌, ◌==◌, is_none, if◌then◌else◌}
+use Rattle.std.proofs.Common.{ℕ, zero, suc, ◌≡◌, ◌<◌, ◌≤◌, ◌+◌, ◌-◌, ◌^◌, Bool, true, false, List, [], ◌∷◌, ◌++◌, Option, Some, None, length, map, take, drop, refl, sym, ap, ◌∙◌, subst, add-one, drop-cons, arith}
+use Rattle.std.specs.Prelude.{not, ◌&&◌, ◌||◌, ◌==◌, if◌then◌else◌}
 use Rattle.std.specs.List.{list_any}
 use Rattle.std.proofs.Math.ListN.{get_or, set}
 use Rattle.std.proofs.lemmas.Bool.{eq-eqb, ne_eqb, eqb-true}
@@ -11,39 +11,33 @@ use Rattle.zeus_base.specs.declared.value.Value.TheVariants.{Num, Text}
 use Rattle.zeus_packet.specs.declared.letter.Body.TheVariants.{RInv}
 use Rattle.zeus_packet.specs.declared.write.Write.{Write}
 use Rattle.zeus_txn.specs.Ops.{is_write, mentions, mentioned, named, object_of, stores, written, written_after}
-use Rattle.zeus_txn.specs.OpLaws.{mentioned-new, mentioned-old}
 use Rattle.zeus_base.specs.Values.{same_value}
-use Rattle.zeus_txn.specs.Run.{effect, added, tested, reaches, given, latest, present, rewritten, stored, fails_at, run_from, run}
-use Rattle.zeus_txn.specs.RunLaws.{run_from-none, run_from-some}
+use Rattle.zeus_txn.specs.Run.{effect, added, tested, reaches, given, latest, rewritten, stored, fails_at, run_from, run}
 use Rattle.zeus_txn.specs.declared.ops.Op.{Op}
 use Rattle.zeus_txn.specs.declared.ops.Op.TheVariants.{Get, Put, Add, Need, Same}
 use Rattle.zeus_txn.specs.declared.reply.Ran.{Ran}
 use Rattle.zeus_model.specs.declared.answer.Tried.{Tried}
-use Rattle.zeus_model.specs.declared.answer.Tried.TheVariants.{PipeFull, NotOwner, Held, WornOut, Committed}
+use Rattle.zeus_model.specs.declared.answer.Tried.TheVariants.{PipeFull, NotOwner, WornOut, Committed}
 use Rattle.zeus_model.specs.declared.state.Copy.{Copy}
 use Rattle.zeus_model.specs.declared.state.Current.{Current}
-use Rattle.zeus_model.specs.declared.state.Entry.{Entry}
 use Rattle.zeus_model.specs.declared.state.Pending.{Pending}
 use Rattle.zeus_packet.specs.declared.letter.Body.{Body}
-use Rattle.zeus_packet.specs.declared.letter.Letter.{Letter}
 use Rattle.zeus_model.specs.declared.answer.Tried.TheVariants.{Stopped, Nothing}
-use Rattle.zeus_model.specs.Act.{Act, Did, just, sends, did_then, letter, to_each}
-use Rattle.zeus_model.specs.Tables.{nth, first_of, or_else, where_true, below, numbers_from}
-use Rattle.zeus_model.specs.State.{Node, Slot, copy, entry, slot, holder, owns, pending_names, version_of, next_number, with_copies, with_slot}
+use Rattle.zeus_model.specs.Act.{just, sends, to_each}
+use Rattle.zeus_model.specs.Tables.{first_of, or_else, where_true, numbers_from}
+use Rattle.zeus_model.specs.State.{Node, Slot, copy, entry, slot, holder, owns, pending_names, version_of, next_number, with_copies}
 use Rattle.zeus_model.specs.Commit.{advance_own, as_kept, each_write, writes_of}
 use Rattle.zeus_model.specs.Local.{full_cause, held_elsewhere, holder_cause, new_writes, owner_cause, replicas_of, rewritten_copy, run_here, worn_cause, write_cause, write_row, read_row, hindrance, commit, commit_entry, committed, invalidation, try_slot, try_current}
 use Rattle.zeus_node.specs.declared.effect.Effect.{Effect}
 use Rattle.zeus_node.specs.Copies.{IsWithin}
 use Rattle.zeus_node.specs.Done.{Adds, IsActed, IsDone, IsQuiet}
-use Rattle.zeus_node.specs.FirstNode.{AreOf, IsFirstNode, IsFirstCurrent, OwnsAll, owns_at}
+use Rattle.zeus_node.specs.FirstNode.{AreOf, IsFirstNode, OwnsAll, owns_at}
 use Rattle.zeus_node.specs.Tries.{AreNew, IsNew, pushed, worn_at}
 use Rattle.zeus_node.proofs.Beginning.{cond_false, cond_true, first_none}
-use Rattle.zeus_node.proofs.Fronts.{length-as_kept}
-use Rattle.zeus_node.proofs.Acks.{nth_read}
 use Rattle.zeus_node.proofs.Adding.{done_then}
 use Rattle.zeus_node.proofs.OwnSlots.{first-with_slot, slot_read, slot_written}
 use Rattle.zeus_node.proofs.Logs.{first-with_copies}
-use Rattle.zeus_node.proofs.Within.{IsWithin-append, IsWithin-none, length-each_write, writes_of-append, within-one}
+use Rattle.zeus_node.proofs.Within.{IsWithin-append, length-each_write, writes_of-append, within-one}
 
 -- ---- what is worn
 

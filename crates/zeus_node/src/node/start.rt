@@ -180,3 +180,45 @@ fn all_nodes(nodes: u8) -> NodeSet
     }
     all
 }
+
+#[cfg(test)]
+mod tests {
+    use super::*;
+    use crate::effect::Effect;
+    use std::test::Fail;
+    use zeus_base::{ObjId, ObjectList, SlotId, Value};
+
+    #[test]
+    fn a_node_begins_with_its_copy(rt: HostRuntime) -> Result<(), Fail> {
+        let alloc = rt.alloc();
+        let both = NodeSet::empty().insert(NodeId(0)).insert(NodeId(1));
+        let mut objects = Vec::new(alloc);
+        objects.push(ObjectDecl {
+            value: Value::Num(5),
+            owner: NodeId(0),
+            replicas: both,
+        })?;
+        let config = Config {
+            version: 1,
+            nodes: 2,
+            slots: 1,
+            directory: NodeSet::empty().insert(NodeId(0)),
+            degree: None,
+            objects: ObjectList::from_vec(objects),
+        };
+        let mut node = Node::new(alloc, &config, NodeId(1))?;
+        assert_eq!(rt; node.epoch(), 1);
+        assert!(rt; node.is_open());
+        assert!(rt; !node.is_stopped());
+        assert_eq!(rt; node.current(SlotId(0)), None);
+        let copy = node.copy(ObjId(0)).ok_or("no copy")?;
+        assert_eq!(rt; copy.value, Value::Num(5));
+        assert_eq!(rt; copy.ver, 0);
+        assert_eq!(rt; node.copy(ObjId(1)), None);
+        let mut out = Effect::new(alloc)?;
+        let tried = node.try_slot(SlotId(0), &mut out);
+        assert!(rt; matches!(tried, zeus_model::Tried::Nothing));
+        assert_eq!(rt; out.sent.len(), 0);
+        Ok(())
+    }
+}

@@ -1,4 +1,4 @@
-use Rattle.std.proofs.Common.{◌≡◌, ◌<◌, ◌≤◌, ◌+◌, ◌-◌, suc, length, map, refl, sym, ◌∙◌, arith}
+use Rattle.std.proofs.Common.{◌≡◌, ◌≤◌, ◌+◌, ◌-◌, suc, length, map, refl, ◌∙◌, arith}
 use Rattle.zeus_model.specs.Commit.{as_kept, validated}
 use Rattle.zeus_node.proofs.Fronts.{length-as_kept, as_kept-first, as_kept-rest}
 use Rattle.zeus_node.proofs.Streams.{within_first, within_rest, pass_step, drop_step, none_passed}

@@ -1,4 +1,4 @@
-use Rattle.std.proofs.Common.{◌≡◌, ◌≤◌, ◌+◌, ◌-◌, length, take, drop, map, vec_capacity}
+use Rattle.std.proofs.Common.{◌≡◌, ◌≤◌, ◌-◌, length, take, drop, map, vec_capacity}
 use Rattle.zeus_model.specs.Commit.{as_kept, each_write, validated, writes_of}
 use Rattle.zeus_node.specs.Copies.{IsWithin}
 use Rattle.zeus_node.proofs.pipeline.pass.Given as goal

@@ -1,4 +1,4 @@
-use Rattle.std.proofs.Common.{◌≡◌, ◌+◌, ◌-◌, suc, length, refl, sym, ◌∙◌, arith}
+use Rattle.std.proofs.Common.{◌≡◌, ◌+◌, ◌-◌, suc, refl, ◌∙◌, arith}
 use Rattle.zeus_model.specs.Commit.{validated}
 use Rattle.zeus_node.proofs.Streams.{within_first, within_rest, pass_step, drop_step, none_passed}
 use Rattle.zeus_node.proofs.Within.{length-each_write}

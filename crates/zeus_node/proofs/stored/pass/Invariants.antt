@@ -1,4 +1,4 @@
-use Rattle.std.proofs.Common.{◌≡◌, ◌≤◌, ◌+◌, ◌-◌, length, take, drop, vec_capacity}
+use Rattle.std.proofs.Common.{◌≡◌, ◌≤◌, ◌-◌, length, take, drop, vec_capacity}
 use Rattle.zeus_model.specs.Commit.{each_write, validated, writes_of}
 use Rattle.zeus_node.specs.Copies.{IsWithin}
 use Rattle.zeus_node.proofs.stored.pass.Given as goal

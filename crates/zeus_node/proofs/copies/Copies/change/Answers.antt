@@ -1,6 +1,5 @@
-use Rattle.std.proofs.Common.{◌≡◌, ◌<◌, ◌≤◌, ◌∙◌, sym, ap, length, drop, arith, rules}
+use Rattle.std.proofs.Common.{◌<◌, ◌∙◌, ap, length, arith}
 use Rattle.std.proofs.Math.ListN.{length-set}
-use Rattle.std.proofs.lemmas.List.{drop_all}
 use Rattle.zeus_model.specs.Commit.{each_write}
 use Rattle.zeus_node.specs.Copies.{changed_by}
 use Rattle.zeus_node.proofs.Within.{IsWithin-at}

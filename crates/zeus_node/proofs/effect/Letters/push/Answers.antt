@@ -1,4 +1,4 @@
-use Rattle.std.proofs.Common.{◌≡◌, ◌<◌, ◌≤◌, length, arith, ap, ◌∙◌}
+use Rattle.std.proofs.Common.{length, arith, ap, ◌∙◌}
 use Rattle.zeus_node.proofs.Cut.{cut_room, cut_full}
 use Rattle.zeus_node.proofs.effect.Letters.push.Goals as goal
 

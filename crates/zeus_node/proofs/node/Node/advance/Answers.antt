@@ -1,5 +1,4 @@
 use Rattle.std.proofs.Common.{◌≡◌, ◌+◌, ◌≤◌, length, take, map, refl, sym, ap, ◌∙◌, arith}
-use Rattle.zeus_base.specs.Nodes.{without, meet}
 use Rattle.zeus_model.specs.Commit.{as_kept, pass_own}
 use Rattle.zeus_model.specs.State.{Node, slot}
 use Rattle.zeus_node.proofs.Adding.{adds_passes}

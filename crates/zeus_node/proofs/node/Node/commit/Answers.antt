@@ -1,6 +1,5 @@
-use Rattle.std.proofs.Common.{◌≡◌, ◌+◌, ◌≤◌, length, refl, sym, ap, ◌∙◌}
-use Rattle.zeus_base.specs.Nodes.{without, meet}
-use Rattle.zeus_model.specs.Local.{replicas_of}
+use Rattle.std.proofs.Common.{ap, ◌∙◌}
+use Rattle.zeus_base.specs.Nodes.{without}
 use Rattle.zeus_model.specs.State.{Node}
 use Rattle.zeus_node.proofs.Adding.{adds_passes, adds_room}
 use Rattle.zeus_node.proofs.Writing.{commit_done}

@@ -1,6 +1,5 @@
 use Rattle.zeus_node.proofs.Beginning.{current_none, current_some}
 use Rattle.zeus_node.proofs.OwnSlots.{slot_read}
-use Rattle.std.proofs.Common.{sym, ◌∙◌}
 use Rattle.zeus_node.proofs.node.Node.current.Goals as goal
 
 pub returns-in-None : goal.returns-in-None

@@ -1,4 +1,4 @@
-use Rattle.std.proofs.Common.{◌<◌, length, sym}
+use Rattle.std.proofs.Common.{sym}
 use Rattle.zeus_model.specs.State.{no_entry}
 use Rattle.zeus_node.proofs.Acks.{nth_read}
 use Rattle.zeus_node.proofs.node.Node.entry.Goals as goal

@@ -1,4 +1,3 @@
-use Rattle.std.proofs.Common.{◌≡◌, ◌≤◌, length}
 use Rattle.zeus_node.proofs.OwnSlots.{slot_read}
 use Rattle.zeus_node.proofs.node.Node.followers.Goals as goal
 

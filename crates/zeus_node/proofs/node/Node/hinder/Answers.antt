@@ -1,7 +1,6 @@
-use Rattle.std.proofs.Common.{◌≡◌, sym, ap, ◌∙◌}
+use Rattle.std.proofs.Common.{sym, ap, ◌∙◌}
 use Rattle.zeus_model.specs.State.{Node}
-use Rattle.zeus_node.specs.Tries.{told_hindrance}
-use Rattle.std.proofs.Common.{Some, refl}
+use Rattle.std.proofs.Common.{refl}
 use Rattle.zeus_node.proofs.Beginning.{first_none}
 use Rattle.zeus_node.proofs.Reading.{read-missing, read-unready}
 use Rattle.zeus_node.proofs.node.Node.hinder.Goals as goal

@@ -1,4 +1,4 @@
-use Rattle.std.proofs.Common.{◌≡◌, ◌<◌, ◌≤◌, refl, sym, ap, ◌∙◌, length}
+use Rattle.std.proofs.Common.{sym, ◌∙◌}
 use Rattle.zeus_model.specs.Local.{hindrance_at}
 use Rattle.zeus_model.specs.State.{copy}
 use Rattle.zeus_node.proofs.Reading.{hindrance_found, hindrance_not_here, hindrance_whole, first_of-end, told_nothing}

@@ -1,5 +1,3 @@
-use Rattle.std.proofs.Common.{sym, ◌∙◌}
-use Rattle.zeus_node.proofs.ByIndex.{nth-get_or}
 use Rattle.zeus_node.proofs.Reading.{hindered-missing, hindered-valid, hindered-unready}
 use Rattle.zeus_node.proofs.node.Node.hindrance_at.Goals as goal
 

@@ -1,6 +1,4 @@
-use Rattle.std.proofs.Common.{◌≡◌, ◌<◌, ◌≤◌, ◌+◌, true, false, length, drop, sym, ap, ◌∙◌, arith}
-use Rattle.std.specs.List.{list_any}
-use Rattle.zeus_node.specs.Tries.{worn_at}
+use Rattle.std.proofs.Common.{sym, ◌∙◌, arith}
 use Rattle.zeus_node.proofs.Writing.{any_here, any_not_here, any_end, or_here, or_there, or_neither, number_at, number_below}
 use Rattle.zeus_node.proofs.node.Node.is_worn.Goals as goal
 

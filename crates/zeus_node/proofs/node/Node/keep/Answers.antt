@@ -1,4 +1,4 @@
-use Rattle.std.proofs.Common.{◌≡◌, ◌<◌, length, ap, ◌∙◌, sym, refl, arith}
+use Rattle.std.proofs.Common.{◌≡◌, length, arith}
 use Rattle.zeus_node.proofs.Logs.{row_length, log_read, store_by, store-first}
 use Rattle.zeus_node.proofs.node.Node.keep.Goals as goal
 

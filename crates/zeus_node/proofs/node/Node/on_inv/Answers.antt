@@ -1,6 +1,5 @@
-use Rattle.std.proofs.Common.{sym, ap, ◌∙◌, length, ◌≤◌, ◌≡◌}
+use Rattle.std.proofs.Common.{sym, ap, ◌∙◌}
 use Rattle.std.specs.Prelude.{◌==◌}
-use Rattle.zeus_model.specs.Commit.{on_rinv, stored_rinv}
 use Rattle.zeus_model.specs.State.{Node}
 use Rattle.zeus_node.proofs.Adding.{quiet_done}
 use Rattle.zeus_node.proofs.Rows.{on_rinv-own, on_rinv-foreign, raise-stream, length-raise}

@@ -1,6 +1,6 @@
-use Rattle.std.proofs.Common.{sym, ap, ◌∙◌, ◌<◌, ◌≤◌}
+use Rattle.std.proofs.Common.{sym, ap, ◌∙◌}
 use Rattle.std.specs.Prelude.{◌==◌}
-use Rattle.zeus_model.specs.State.{Node, log}
+use Rattle.zeus_model.specs.State.{Node}
 use Rattle.zeus_node.proofs.Rows.{on_rval-own, on_rval-raised, on_rval-old}
 use Rattle.zeus_node.proofs.node.Node.on_val.Goals as goal
 

@@ -1,4 +1,3 @@
-use Rattle.std.proofs.Common.{◌≡◌, ◌≤◌, length}
 use Rattle.zeus_node.proofs.OwnSlots.{slot_read, pending_read, pass_own_by, pass_own-first}
 use Rattle.zeus_node.proofs.node.Node.pass.Goals as goal
 

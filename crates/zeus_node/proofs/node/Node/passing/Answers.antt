@@ -1,6 +1,4 @@
-use Rattle.std.proofs.Common.{◌≡◌, ◌≤◌, length, map, sym, ap, ◌∙◌}
-use Rattle.zeus_model.specs.Commit.{as_kept, passing}
-use Rattle.zeus_model.specs.State.{Slot}
+use Rattle.std.proofs.Common.{◌∙◌}
 use Rattle.zeus_node.specs.Shown.{shown}
 use Rattle.zeus_node.proofs.OwnSlots.{slot_read, passing-own}
 use Rattle.zeus_node.proofs.node.Node.passing.Goals as goal

@@ -1,5 +1,3 @@
-use Rattle.std.proofs.Common.{◌≡◌, ◌<◌, ◌+◌, length, refl, sym, ap, ◌∙◌}
-use Rattle.zeus_model.specs.State.{Slot}
 use Rattle.zeus_node.proofs.OwnSlots.{slot_read}
 use Rattle.zeus_node.proofs.Writing.{pushed_by, pushed-first}
 use Rattle.zeus_node.proofs.node.Node.push.Goals as goal

@@ -1,4 +1,4 @@
-use Rattle.std.proofs.Common.{◌≡◌, ◌<◌, ◌≤◌, [], length, take, refl, sym, ap, ◌∙◌, arith}
+use Rattle.std.proofs.Common.{refl, arith}
 use Rattle.zeus_node.proofs.Adding.{adds_room}
 use Rattle.zeus_node.proofs.Fine.{cleared-letters, few_none, keeps-same, received-frame, received-letters}
 use Rattle.zeus_node.proofs.Finish.{receive-untaken, received, row-unpassed}

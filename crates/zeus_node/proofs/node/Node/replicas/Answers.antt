@@ -1,7 +1,5 @@
-use Rattle.std.proofs.Common.{◌≡◌, ◌<◌, ◌≤◌, ◌+◌, ◌-◌, ℕ, suc, length, drop, refl, sym, ap, ◌∙◌, arith}
+use Rattle.std.proofs.Common.{◌≡◌, ◌<◌, ◌+◌, ◌-◌, ℕ, suc, length, refl, sym, ap, ◌∙◌, arith}
 use Rattle.zeus_base.specs.Nodes.{join}
-use Rattle.zeus_packet.specs.declared.write.Write.{Write}
-use Rattle.zeus_model.specs.Local.{replicas_of}
 use Rattle.zeus_model.specs.State.{entry}
 use Rattle.zeus_node.proofs.Within.{IsWithin-at}
 use Rattle.zeus_node.proofs.Writing.{replicas_step, replicas_none}

@@ -1,4 +1,4 @@
-use Rattle.std.proofs.Common.{◌≡◌, refl, sym, ap, ◌∙◌}
+use Rattle.std.proofs.Common.{ap, ◌∙◌}
 use Rattle.zeus_model.specs.State.{copy, value_of}
 use Rattle.zeus_txn.specs.Ops.{named}
 use Rattle.zeus_txn.specs.Run.{run, value_at}

@@ -1,5 +1,4 @@
-use Rattle.std.proofs.Common.{◌≡◌, ◌∙◌, sym}
-use Rattle.zeus_node.specs.Done.{Adds}
+use Rattle.std.proofs.Common.{◌∙◌}
 use Rattle.zeus_node.proofs.Adding.{adds_passes, adds_room, sent_step, sent_end}
 use Rattle.zeus_node.proofs.node.Node.send_each.Goals as goal
 

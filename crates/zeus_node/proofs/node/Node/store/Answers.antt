@@ -1,8 +1,5 @@
-use Rattle.std.proofs.Common.{◌≡◌, ◌<◌, ◌≤◌, length, true, false, sym, ap, ◌∙◌, arith}
-use Rattle.std.specs.Prelude.{◌==◌}
+use Rattle.std.proofs.Common.{sym, ◌∙◌, arith}
 use Rattle.std.proofs.lemmas.Bool.{eqb-false}
-use Rattle.zeus_model.specs.Commit.{next_kept}
-use Rattle.zeus_model.specs.State.{log}
 use Rattle.zeus_node.proofs.Adding.{quiet_done}
 use Rattle.zeus_node.proofs.Rows.{stored-again, stored-gap, stored-full, stored-taken}
 use Rattle.zeus_node.proofs.node.Node.store.Goals as goal

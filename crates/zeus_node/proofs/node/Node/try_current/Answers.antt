@@ -1,4 +1,4 @@
-use Rattle.std.proofs.Common.{◌≤◌, length, sym, ◌∙◌, arith}
+use Rattle.std.proofs.Common.{sym, ◌∙◌, arith}
 use Rattle.zeus_node.proofs.Adding.{quiet_done}
 use Rattle.zeus_node.proofs.Fine.{few_none}
 use Rattle.zeus_node.proofs.Writing.{try-write, try-read}

@@ -1,4 +1,3 @@
-use Rattle.std.proofs.Common.{◌≡◌, refl, sym, ap, ◌∙◌}
 use Rattle.zeus_node.proofs.Beginning.{first_none}
 use Rattle.zeus_node.proofs.Reading.{read-read}
 use Rattle.zeus_node.proofs.node.Node.try_read.Goals as goal

@@ -1,4 +1,4 @@
-use Rattle.std.proofs.Common.{◌≡◌, ap, refl, sym, ◌∙◌}
+use Rattle.std.proofs.Common.{ap, refl, sym, ◌∙◌}
 use Rattle.zeus_model.specs.State.{Node}
 use Rattle.zeus_node.proofs.Beginning.{first_tx}
 use Rattle.zeus_node.specs.FirstNode.{IsFirstNode}

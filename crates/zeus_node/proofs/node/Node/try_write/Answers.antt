@@ -1,12 +1,8 @@
-use Rattle.std.proofs.Common.{◌≡◌, ◌<◌, ◌≤◌, ◌+◌, ◌-◌, ◌^◌, Bool, true, false, length, refl, sym, ap, ◌∙◌, arith}
-use Rattle.std.specs.Prelude.{◌==◌, ◌||◌}
-use Rattle.std.specs.List.{list_any}
-use Rattle.std.proofs.lemmas.Bool.{eq-eqb, ne_eqb, eqb-false}
-use Rattle.zeus_model.specs.State.{Node, next_number, slot}
+use Rattle.std.proofs.Common.{refl, sym, ap, ◌∙◌, arith}
+use Rattle.std.proofs.lemmas.Bool.{eq-eqb, ne_eqb}
 use Rattle.zeus_model.specs.Tables.{where_true}
 use Rattle.zeus_model.specs.declared.answer.Tried.TheVariants.{WornOut}
 use Rattle.zeus_node.specs.FirstNode.{IsFirstNode}
-use Rattle.zeus_node.specs.Tries.{worn_at}
 use Rattle.zeus_node.proofs.Adding.{quiet_done}
 use Rattle.zeus_node.proofs.Fine.{few_none}
 use Rattle.zeus_node.proofs.Writing.{first_cause, worn_is, or_false, write-full, write-worn, write-commit, run_new}

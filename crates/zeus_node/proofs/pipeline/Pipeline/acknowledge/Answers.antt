@@ -1,5 +1,4 @@
-use Rattle.std.proofs.Common.{◌≡◌, ◌<◌, ◌≤◌, ◌-◌, length, true, false, sym, ap, ◌∙◌, arith}
-use Rattle.zeus_base.specs.Nodes.{has}
+use Rattle.std.proofs.Common.{◌<◌, ◌≤◌, ◌-◌, length, sym, ◌∙◌, arith}
 use Rattle.zeus_node.proofs.Acks.{same_read, again-low, again-high, again-acked, taken}
 use Rattle.zeus_node.proofs.pipeline.Pipeline.acknowledge.Goals as goal
 

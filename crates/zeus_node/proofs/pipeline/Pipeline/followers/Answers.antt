@@ -1,5 +1,4 @@
-use Rattle.std.proofs.Common.{◌≡◌, ◌<◌, ◌≤◌, ◌+◌, ◌-◌, ℕ, suc, length, map, take, drop, refl, sym, ap, subst, ◌∙◌, arith}
-use Rattle.zeus_model.specs.Commit.{as_kept, followers_of}
+use Rattle.std.proofs.Common.{◌≡◌, ◌<◌, ◌+◌, ◌-◌, ℕ, suc, refl, sym, ap, ◌∙◌, arith}
 use Rattle.zeus_model.specs.State.{Slot}
 use Rattle.zeus_base.specs.Nodes.{join}
 use Rattle.zeus_node.proofs.Fronts.{followers_step, followers_none}

@@ -1,5 +1,4 @@
-use Rattle.std.proofs.Common.{◌≡◌, ◌<◌, ◌≤◌, ◌-◌, length, true, false, sym, ap, ◌∙◌, arith}
-use Rattle.zeus_base.specs.Nodes.{has}
+use Rattle.std.proofs.Common.{◌<◌, ◌≤◌, ◌-◌, length, sym, ◌∙◌, arith}
 use Rattle.zeus_node.proofs.Acks.{same_read, kept_again-low, kept_again-high, kept_again-acked, kept_taken}
 use Rattle.zeus_node.proofs.stored.StoredLog.acknowledge.Goals as goal
 
