@@ -30,3 +30,12 @@ pub struct Ran {
     pub reply: Reply,
     pub writes: NewValues,
 }
+
+impl Ran {
+    /// The answer alone.
+    pub fn into_reply(self) -> Reply
+        ensures { result ≡ self.reply }
+    {
+        self.reply
+    }
+}

@@ -1,0 +1,17 @@
+pub mod Cut
+pub mod ByIndex
+pub mod Written
+pub mod Within
+pub mod Streams
+pub mod Acks
+pub mod Fronts
+pub mod Logs
+pub mod Adding
+pub mod Rows
+pub mod OwnSlots
+pub mod Finish
+pub mod Sent
+pub mod Beginning
+pub mod Reading
+pub mod Writing
+pub mod Fine
