@@ -1,5 +1,5 @@
 -- Who decides on a placement, and what a proposal makes of one.
-use Rattle.std.specs.Prelude.{ℕ, Bool, true, false, ◌&&◌, ◌||◌, ◌==◌, nat_lt, List, [], ◌∷◌, Option, Some, None, if◌then◌else◌}
+use Rattle.std.specs.Prelude.{ℕ, Bool, true, false, ◌&&◌, ◌==◌, List, Option, Some, None, if◌then◌else◌}
 use Rattle.zeus_base.specs.Nodes.{has, with_node, without, meet, least, same_nodes}
 use Rattle.zeus_base.specs.Order.{same_stamp}
 use Rattle.zeus_packet.specs.declared.place.Place.{Place}

@@ -1,11 +1,9 @@
 -- Laws of the equality of placements, wishes and proposals: each test is true exactly where the two are one.
-use Rattle.std.specs.Prelude.{Bool, true, ◌==◌, ◌≡◌, ◌↔◌, refl}
+use Rattle.std.specs.Prelude.{Bool, true, ◌≡◌, ◌↔◌, refl}
 use Rattle.std.specs.Cmp.{IsEquivalence}
 use Rattle.std.proofs.Common.{arith, ap, sym}
 use Rattle.std.proofs.lemmas.Bool.{eqb-true, eq-eqb, false≢true}
 use Rattle.std.proofs.lemmas.Bool.Decides.{same_from_decides}
-use Rattle.zeus_base.specs.Nodes.{same_nodes}
-use Rattle.zeus_base.specs.Order.{same_stamp}
 use Rattle.zeus_base.specs.OrderLaws.{same_stamp-true, same_stamp-refl}
 use Rattle.zeus_base.specs.ValueLaws.{same_nodes-true, same_nodes-from}
 use Rattle.zeus_packet.specs.Place.{same_place, same_want, same_proposal}

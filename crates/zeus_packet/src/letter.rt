@@ -1,4 +1,6 @@
 //! Letters between nodes, and the packets that carry them.
+ghost use Rattle.std.specs.Prelude.{◌≡◌};
+
 use crate::place::{Place, Proposal, Want};
 use crate::write::{Content, Writes};
 use zeus_base::{NodeId, NodeSet, ObjId, SlotId, Stamp, Stream};
@@ -48,6 +50,21 @@ pub struct RInv {
     pub writes: Writes,
 }
 
+impl RInv {
+    /// The same once more, without memory.
+    pub fn duplicate(&self) -> RInv
+        ensures { result ≡ self.now }
+    {
+        RInv {
+            stream: self.stream,
+            number: self.number,
+            done: self.done,
+            followers: self.followers,
+            writes: self.writes.duplicate(),
+        }
+    }
+}
+
 /// What a letter says.
 #[derive(Debug, Drop)]
 pub enum Body {
@@ -71,6 +88,25 @@ pub enum Body {
     Recovered,
 }
 
+impl Body {
+    /// The same once more, without memory.
+    pub fn duplicate(&self) -> Body
+        ensures { result ≡ self.now }
+    {
+        match self {
+            Body::RInv(r) => Body::RInv(r.duplicate()),
+            Body::RAck(stream, number) => Body::RAck(*stream, *number),
+            Body::RVal(stream, done) => Body::RVal(*stream, *done),
+            Body::OReq(obj, want) => Body::OReq(*obj, *want),
+            Body::OInv(obj, p) => Body::OInv(*obj, *p),
+            Body::OAck(obj, p, content) => Body::OAck(*obj, *p, *content),
+            Body::ONack(obj, stamp, cause) => Body::ONack(*obj, *stamp, *cause),
+            Body::OVal(obj, stamp, place) => Body::OVal(*obj, *stamp, *place),
+            Body::Recovered => Body::Recovered,
+        }
+    }
+}
+
 /// A letter of an epoch from one node to another.
 #[derive(Debug, Drop)]
 pub struct Letter {
@@ -78,6 +114,20 @@ pub struct Letter {
     pub to: NodeId,
     pub epoch: u32,
     pub body: Body,
+}
+
+impl Letter {
+    /// The same once more, without memory.
+    pub fn duplicate(&self) -> Letter
+        ensures { result ≡ self.now }
+    {
+        Letter {
+            from: self.from,
+            to: self.to,
+            epoch: self.epoch,
+            body: self.body.duplicate(),
+        }
+    }
 }
 
 /// A letter with its number on the link from its sender to its receiver.

@@ -3,9 +3,13 @@
 
 mod letter;
 mod place;
+mod ranges;
+#[cfg(test)]
+mod tests;
 mod write;
 
 pub use letter::{Body, Cause, Letter, Packet, RInv, State};
 pub use place::{Place, Proposal, View, Want, arbiters, new_place, source};
+pub use ranges::fits;
 pub use write::{Content, Write, Writes};
-pub use zeus_base::{NodeId, NodeSet, ObjId, SlotId, Stamp, Stream, Value};
+pub use zeus_base::{Limits, NodeId, NodeSet, ObjId, SlotId, Stamp, Stream, Value};
