@@ -1,7 +1,8 @@
 -- Names of objects, as the list of their bytes and as 16 bytes of which the first are the name.
 use Rattle.std.specs.Prelude.{ℕ, ◌≡◌, ◌≤◌, ◌⊎◌, ◌-◌, List, ◌++◌, length, take, drop, replicate, slice_index, All}
-use Rattle.std.proofs.Common.{arith, refl}
-use Rattle.std.proofs.lemmas.List.{take-append-drop, length-take-le}
+use Rattle.std.proofs.Common.{arith, refl, ◌∙◌}
+use Rattle.std.proofs.Math.Seq.{take-append_seam, drop-append_seam}
+use Rattle.std.proofs.lemmas.List.{take-append-drop, length-take-le, length-append, length-replicate, drop-replicate}
 use Rattle.zeus_model.specs.declared.script.Name.TheInside.{Inside}
 
 -- an ASCII letter
@@ -33,3 +34,22 @@ padded-take t h =
     let taken : length (take t.len t.bytes) ≡ t.len = length-take-le t.len t.bytes (omega (arith, h.whole, h.fits)) in
     let parts : take t.len t.bytes ++ drop t.len t.bytes ≡ t.bytes = take-append-drop t.len t.bytes in
     rw (taken, ← h.padding, parts) refl
+
+-- a name, and bytes 0 up to 16 behind it
+IsPadded-append : (bytes front rest : List ℕ) → IsName bytes → front ≡ bytes → rest ≡ replicate (16 - length bytes) 0 → IsPadded record { len = length bytes; bytes = front ++ rest }
+IsPadded-append bytes front rest name is zeros =
+    let short : length bytes ≤ 16 = name.1 in
+    let first : take (length bytes) (front ++ rest) ≡ bytes = rw is (take-append_seam bytes rest) in
+    let last : drop (length bytes) (front ++ rest) ≡ rest = rw is (drop-append_seam bytes rest) in
+    let room : length rest ≡ 16 - length bytes = rw zeros (length-replicate (16 - length bytes) 0) in
+    record {
+      name = rw first name;
+      whole = rw (is, length-append bytes rest, room) (omega arith);
+      fits = short;
+      padding = last ∙ zeros;
+    }
+
+-- a name that is copied over the front of 16 bytes 0
+pub IsPadded-copied : (bytes front : List ℕ) → IsName bytes → front ≡ bytes → IsPadded record { len = length bytes; bytes = front ++ drop (length bytes) (replicate {A = ℕ} 16 0) }
+IsPadded-copied bytes front name is =
+    IsPadded-append bytes front (drop (length bytes) (replicate {A = ℕ} 16 0)) name is (drop-replicate {X = ℕ} (length bytes) 16 0)

@@ -1,5 +1,6 @@
 //! Scripts: a configuration with names for its objects, the transactions, and the steps of the run.
-ghost use Rattle.std.specs.Prelude.{◌≡◌, ◌↔◌, IsTrue, [], length};
+ghost use Rattle.std.specs.Prelude.{◌≡◌, ◌↔◌, IsTrue, IsSome, IfSome, [], length};
+ghost use Rattle.zeus_model.specs.Names.{IsLetter, IsNameByte};
 
 use std::marker::Model;
 use zeus_base::{Config, Steps};
@@ -26,6 +27,49 @@ impl Model for Name {
     ghost inverse = { padded };
 
     ghost inverse_ok = { padded-take };
+}
+
+impl Name {
+    ghost use Rattle.zeus_model.specs.Names.{IsName};
+
+    /// The name of these bytes, where they are one.
+    pub fn new(bytes: &[u8]) -> Option<Name>
+        ensures valid { IsSome result ↔ IsName bytes.now }
+        ensures value { IfSome result (λ name. name ≡ bytes.now) }
+    {
+        let goes_on = bytes.iter().all(|byte| is_name_byte(*byte));
+        if bytes.is_empty() || bytes.len() > 16 || !is_letter(bytes[0]) || !goes_on {
+            return None;
+        }
+        let mut kept = [0; 16];
+        kept[..bytes.len()].copy_from_slice(bytes);
+        Some(Name {
+            len: bytes.len() as u8,
+            bytes: kept,
+        })
+    }
+
+    /// The bytes of the name.
+    pub fn as_bytes(&self) -> &[u8]
+        ensures bytes { result.now ≡ self.now }
+        ensures name { IsName self.now }
+    {
+        &self.bytes[..self.len as usize]
+    }
+}
+
+/// Whether a byte is an ASCII letter.
+fn is_letter(byte: u8) -> bool
+    ensures { IsTrue result ↔ IsLetter byte }
+{
+    (b'A' <= byte && byte <= b'Z') || (b'a' <= byte && byte <= b'z')
+}
+
+/// Whether a byte is a letter, a decimal digit or `_`.
+fn is_name_byte(byte: u8) -> bool
+    ensures { IsTrue result ↔ IsNameByte byte }
+{
+    is_letter(byte) || (b'0' <= byte && byte <= b'9') || byte == b'_'
 }
 
 /// The names of the objects in order, seen as a list.

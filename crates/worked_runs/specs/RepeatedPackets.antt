@@ -1,0 +1,80 @@
+-- A packet that comes again is answered again and changes nothing.
+use Rattle.std.specs.Prelude.{ℕ, List, [], ◌∷◌, codes, None}
+use Rattle.zeus_base.specs.declared.step.Step.TheVariants.{Begin, Try, Deliver}
+use Rattle.zeus_base.specs.declared.value.Value.TheVariants.{Num}
+use Rattle.zeus_txn.specs.declared.ops.Op.TheVariants.{Get, Add}
+use Rattle.zeus_model.specs.declared.script.Script.{Script}
+use Rattle.worked_runs.specs.Lines.{lines}
+
+abbrev pub repeated_packets_script : Script
+repeated_packets_script =
+    record {
+      config =
+          record {
+            version = 1;
+            nodes = 2;
+            slots = 1;
+            directory = 0 ∷ [];
+            degree = None;
+            objects =
+                record { value = Num 5; owner = 0; replicas = 0 ∷ 1 ∷ [] } ∷ [];
+          };
+      names = codes "x" ∷ [];
+      txs =
+          record { node = 0; slot = 0; after = None; tx = Add 0 3 ∷ [] } ∷
+          record { node = 1; slot = 0; after = None; tx = Get 0 ∷ [] } ∷ [];
+      steps =
+          Begin 0 ∷ Try 0 0 ∷ Deliver 0 1 0 ∷ Deliver 0 1 0 ∷ Deliver 0 1 0 ∷ Deliver 1 0 0 ∷ Deliver 1 0 1 ∷ [];
+    }
+
+-- the script as it is written
+abbrev pub repeated_packets_text : List ℕ
+repeated_packets_text =
+    lines
+    (
+    codes "zeus 1" ∷
+    codes "nodes 2" ∷
+    codes "slots 1" ∷
+    codes "directory 0" ∷
+    codes "object x 5 0 1" ∷
+    codes "tx 0 0 add x 3" ∷
+    codes "tx 1 0 get x" ∷
+    codes "run" ∷
+    codes "begin 0" ∷
+    codes "try 0 0" ∷
+    codes "deliver 0 1 0" ∷
+    codes "deliver 0 1 0" ∷
+    codes "deliver 0 1 0" ∷
+    codes "deliver 1 0 0" ∷
+    codes "deliver 1 0 1" ∷
+    codes "end" ∷ []
+    )
+
+-- what a run of it prints
+abbrev pub repeated_packets_report : List ℕ
+repeated_packets_report =
+    lines
+    (
+    codes "report 1" ∷
+    codes "0 begin 0 = begun" ∷
+    codes "1 try 0 0 = committed 0" ∷
+    codes "> 0 1 0 1 rinv 0.0 0 0 1 x 1 8" ∷
+    codes "2 deliver 0 1 0 = taken" ∷
+    codes "> 1 0 0 1 rack 0.0 0" ∷
+    codes "3 deliver 0 1 0 = again" ∷
+    codes "> 1 0 1 1 rack 0.0 0" ∷
+    codes "4 deliver 0 1 0 = again" ∷
+    codes "> 1 0 2 1 rack 0.0 0" ∷
+    codes "5 deliver 1 0 0 = taken" ∷
+    codes "* 0 ok 8" ∷
+    codes "! 0" ∷
+    codes "> 0 1 1 1 rval 0.0 1" ∷
+    codes "6 deliver 1 0 1 = again" ∷
+    codes "history 0" ∷
+    codes "tx 0 acked" ∷
+    codes "tx 1 new" ∷
+    codes "object x 0 0,1" ∷
+    codes "copy x 0 valid 1 8" ∷
+    codes "copy x 1 invalid 1 8" ∷
+    codes "end" ∷ []
+    )
