@@ -1,8 +1,15 @@
 //! Transactions as they are declared.
+ghost use Rattle.std.specs.Prelude.{◌≡◌, ◌↔◌, IsTrue, [], length, nat_lt, None, Some, if◌then◌else◌, option_copied, slice_get};
+ghost use Rattle.std.specs.List.{list_any};
+ghost use Rattle.zeus_txn.specs.Ops.{is_write, mentions, named, stores};
+ghost use Rattle.zeus_txn.specs.Tx.{IsTx, made_tx};
+
+use crate::lists::Named;
 use crate::ops::Op;
 use smallvec::SmallVec;
+use std::alloc::Global;
 use std::marker::Model;
-use zeus_base::{NodeId, SlotId, TxId};
+use zeus_base::{NodeId, ObjId, SlotId, TxId};
 
 /// A transaction: 1 to 16 operations on at most 8 objects, seen as the list of its operations.
 #[derive(Debug, Drop)]
@@ -21,6 +28,92 @@ impl Model for Tx {
     ghost view = { λ t. t.ops.items };
 
     ghost invariant = { λ t. (t.ops.capacity ≡ 16) × IsTx t.ops.items };
+}
+
+impl Tx {
+    /// The transaction of these operations.
+    ///
+    /// # Errors
+    /// The first fault that applies.
+    #[tactic(auto, unfolding(crate::specs::Tx::made_tx))]
+    pub fn new(alloc: Global, ops: &[Op]) -> Result<Tx, TxFault>
+        ensures { result ≡ made_tx ops.now }
+    {
+        if ops.is_empty() {
+            return Err(TxFault::Empty);
+        }
+        if ops.len() > 16 {
+            return Err(TxFault::ManyOps);
+        }
+        if named(alloc, ops).is_none() {
+            return Err(TxFault::ManyObjects);
+        }
+        Ok(Tx {
+            ops: SmallVec::from_slice(alloc, ops).unwrap(),
+        })
+    }
+
+    /// The operations in order.
+    pub fn ops(&self) -> &[Op]
+        ensures list { result.now ≡ self.now }
+        ensures limits { IsTx self.now }
+    {
+        self.ops.as_slice()
+    }
+
+    /// Whether it has a put or an add, whether or not it fails.
+    pub fn is_write(&self) -> bool
+        ensures { result ≡ is_write self.now }
+    {
+        is_write(self.ops.as_slice())
+    }
+
+    /// The objects that it names, in the order of first naming.
+    pub fn named(&self) -> Named
+        ensures { result ≡ named self.now }
+    {
+        named(*self.ops.allocator(), self.ops.as_slice()).unwrap()
+    }
+
+    /// The same transaction once more, without memory.
+    pub fn duplicate(&self) -> Tx
+        ensures { result ≡ self.now }
+    {
+        Tx {
+            ops: SmallVec::from_slice(*self.ops.allocator(), self.ops.as_slice()).unwrap(),
+        }
+    }
+}
+
+// Whether an operation stores.
+fn is_write(ops: &[Op]) -> bool
+    ensures { result ≡ list_any stores ops.now }
+{
+    ops.iter().any(|op| op.stores())
+}
+
+// The objects that the operations name, in the order of first naming, where there are at most 8.
+fn named(alloc: Global, ops: &[Op]) -> Option<Named>
+    ensures { result ≡ (if nat_lt 8 (length (named ops.now)) then None else Some (named ops.now)) }
+{
+    let mut all = Named::new(alloc);
+    for op in ops {
+        let obj = op.object();
+        if !mentions(obj, all.as_slice()) {
+            if all.len() == 8 {
+                return None;
+            }
+            all.push(obj);
+        }
+    }
+    Some(all)
+}
+
+// Whether the object is in the list.
+fn mentions(obj: ObjId, all: &[ObjId]) -> bool
+    ensures { result ≡ mentions obj all.now }
+{
+    all.contains(&obj)
 }
 
 /// Why operations are no transaction; the first that applies.
@@ -57,4 +150,48 @@ impl Model for TxList {
     ghost Value = { List TxDecl };
 
     ghost view = { λ l. l.items.items };
+}
+
+impl TxList {
+    /// The transactions as the vector has them.
+    pub fn from_vec(items: Vec<TxDecl>) -> TxList
+        ensures { result ≡ items.items }
+    {
+        TxList { items }
+    }
+
+    /// The transactions as a vector.
+    pub fn into_vec(self) -> Vec<TxDecl>
+        ensures { result.items ≡ self }
+    {
+        self.items
+    }
+
+    /// The transactions as a slice.
+    pub fn as_slice(&self) -> &[TxDecl]
+        ensures { result.now ≡ self.now }
+    {
+        self.items.as_slice()
+    }
+
+    /// How many there are.
+    pub fn len(&self) -> usize
+        ensures { result ≡ length self.now }
+    {
+        self.items.len()
+    }
+
+    /// Whether there is none.
+    pub fn is_empty(&self) -> bool
+        ensures { IsTrue result ↔ (self.now ≡ []) }
+    {
+        self.items.is_empty()
+    }
+
+    /// The one at this place from 0, where there is one.
+    pub fn get(&self, place: usize) -> Option<&TxDecl>
+        ensures { option_copied result ≡ slice_get self.now place }
+    {
+        self.items.get(place)
+    }
 }
