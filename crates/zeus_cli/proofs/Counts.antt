@@ -1,5 +1,5 @@
 -- Counting the transactions that write.
-use Rattle.std.proofs.Common.{ℕ, ◌≡◌, ◌+◌, suc, List, ◌∷◌, cond, arith, refl}
+use Rattle.std.proofs.Common.{◌≡◌, ◌+◌, suc, List, ◌∷◌, cond, arith, refl}
 use Rattle.zeus_txn.specs.Ops.{is_write}
 use Rattle.zeus_txn.specs.declared.tx.TxDecl.{TxDecl}
 use Rattle.zeus_model.specs.FirstRange.{count_writes}

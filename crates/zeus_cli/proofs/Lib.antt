@@ -1,3 +1,4 @@
 pub mod Counts
 pub mod Due
 pub mod Tests
+pub mod Words

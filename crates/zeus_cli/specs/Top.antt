@@ -1,8 +1,7 @@
 -- What the program does with its words, its source and its sink.
-use Rattle.std.specs.Prelude.{ℕ, ◌≡◌, ◌<◌, ◌⊎◌, ◌++◌, List, [], ◌∷◌, map, length, codes, string_bytes, Option, String}
+use Rattle.std.specs.Prelude.{ℕ, ◌≡◌, ◌<◌, ◌⊎◌, List, [], ◌∷◌, map, length, codes, string_bytes, Option, String}
 use Rattle.std.specs.Io.KnownBytes.{IsAtEnd, Appends}
 use Rattle.zeus_io.specs.Bytes.{Takes, AppendsFront}
-use Rattle.zeus_io.specs.Faults.{Rose}
 use Rattle.zeus_model.specs.declared.script.Script.{Script}
 use Rattle.zeus_model.specs.FirstRange.{IsFirstRange}
 use Rattle.zeus_model.specs.ReportText.{report}

@@ -9,9 +9,8 @@ mod top;
 use std::env;
 use std::io::ErrorKind;
 use std::process::ExitCode;
-use zeus_io::{Sink, Status, StdSink, StdSource, write_all};
-
 pub use top::zeus_top;
+use zeus_io::{Sink, Status, StdSink, StdSource, write_all};
 
 // Where the arguments are no text.
 fn refuse<K: Sink>(sink: &mut K) -> Status {
