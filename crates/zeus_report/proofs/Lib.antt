@@ -1,2 +1,4 @@
 pub mod Pieces
 pub mod Names
+pub mod Copies
+pub mod RunSteps

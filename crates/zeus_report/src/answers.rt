@@ -3,74 +3,74 @@ ghost use Rattle.std.specs.Prelude.{◌≡◌, ◌++◌, OnOk};
 ghost use Rattle.zeus_model.specs.ReportWords.{begin_text, tried_text, received_text, ticked_text, stopped_text, made_text, installed_text, answer_text, tx_state_text};
 
 use crate::letters::write_cause;
-use crate::words::{
+use crate::words::{append, 
     state_text, write_counted, write_number, write_object, write_stamped, write_word,
 };
-use std::alloc::AllocError;
+use zeus_base::NoMemory;
 use zeus_model::{Answer, Begin, Install, Made, Name, Outcome, Stop, Ticked, Tried, TxState};
 
 #[tactic(auto, unfolding(zeus_model::specs::ReportWords::begin_text))]
-fn write_begin(out: &mut Vec<u8>, answer: &Begin) -> Result<(), AllocError>
+fn write_begin(out: &mut Vec<u8>, answer: &Begin) -> Result<(), NoMemory>
     ensures { OnOk result (out.new.items ≡ out.old.items ++ begin_text answer.now) }
 {
     match answer {
-        Begin::Begun => out.extend_from_slice(b"begun"),
-        Begin::Stopped => out.extend_from_slice(b"stopped"),
+        Begin::Begun => append(out, b"begun"),
+        Begin::Stopped => append(out, b"stopped"),
         Begin::Busy(id) => write_counted(out, b"busy", u64::from(id.0)),
     }
 }
 
 #[tactic(auto, unfolding(zeus_model::specs::ReportWords::tried_text))]
-fn write_tried(out: &mut Vec<u8>, names: &[Name], answer: &Tried) -> Result<(), AllocError>
+fn write_tried(out: &mut Vec<u8>, names: &[Name], answer: &Tried) -> Result<(), NoMemory>
     ensures { OnOk result (out.new.items ≡ out.old.items ++ tried_text names.now answer.now) }
 {
     match answer {
-        Tried::Stopped => out.extend_from_slice(b"stopped"),
-        Tried::Nothing => out.extend_from_slice(b"nothing"),
+        Tried::Stopped => append(out, b"stopped"),
+        Tried::Nothing => append(out, b"nothing"),
         Tried::NoCopy(_, obj) => {
-            out.extend_from_slice(b"no copy")?;
+            append(out, b"no copy")?;
             write_object(out, names, *obj)
         }
         Tried::NotValid(obj, state) => {
-            out.extend_from_slice(b"not valid")?;
+            append(out, b"not valid")?;
             write_object(out, names, *obj)?;
             write_word(out, state_text(*state))
         }
-        Tried::Read(_, _) => out.extend_from_slice(b"read"),
-        Tried::PipeFull => out.extend_from_slice(b"pipe full"),
+        Tried::Read(_, _) => append(out, b"read"),
+        Tried::PipeFull => append(out, b"pipe full"),
         Tried::NotOwner(obj) => {
-            out.extend_from_slice(b"not owner")?;
+            append(out, b"not owner")?;
             write_object(out, names, *obj)
         }
         Tried::Held(obj, slot) => {
-            out.extend_from_slice(b"held")?;
+            append(out, b"held")?;
             write_object(out, names, *obj)?;
             write_number(out, u64::from(slot.0))
         }
-        Tried::WornOut => out.extend_from_slice(b"worn out"),
+        Tried::WornOut => append(out, b"worn out"),
         Tried::Committed(_, n, _) => write_counted(out, b"committed", u64::from(*n)),
     }
 }
 
 #[tactic(auto, unfolding(zeus_model::specs::ReportWords::received_text))]
-fn write_received(out: &mut Vec<u8>, answer: &Outcome) -> Result<(), AllocError>
+fn write_received(out: &mut Vec<u8>, answer: &Outcome) -> Result<(), NoMemory>
     ensures { OnOk result (out.new.items ≡ out.old.items ++ received_text answer.now) }
 {
     match answer {
-        Outcome::Stopped => out.extend_from_slice(b"stopped"),
+        Outcome::Stopped => append(out, b"stopped"),
         Outcome::NotMine(node) => write_counted(out, b"not mine", u64::from(node.0)),
         Outcome::OtherEpoch(theirs, mine) => {
             write_counted(out, b"other epoch", u64::from(*theirs))?;
             write_number(out, u64::from(*mine))
         }
-        Outcome::NotOpen => out.extend_from_slice(b"not open"),
-        Outcome::Taken => out.extend_from_slice(b"taken"),
-        Outcome::Again => out.extend_from_slice(b"again"),
+        Outcome::NotOpen => append(out, b"not open"),
+        Outcome::Taken => append(out, b"taken"),
+        Outcome::Again => append(out, b"again"),
         Outcome::Gap(n) => write_counted(out, b"gap", u64::from(*n)),
         Outcome::Older(stamp) => write_stamped(out, b"older", stamp),
         Outcome::Settled(stamp) => write_stamped(out, b"settled", stamp),
         Outcome::Refused(cause) => {
-            out.extend_from_slice(b"refused")?;
+            append(out, b"refused")?;
             write_cause(out, cause)
         }
     }
@@ -97,24 +97,24 @@ fn stopped_text(answer: Stop) -> &'static [u8]
 }
 
 #[tactic(auto, unfolding(zeus_model::specs::ReportWords::made_text))]
-fn write_made(out: &mut Vec<u8>, answer: &Made) -> Result<(), AllocError>
+fn write_made(out: &mut Vec<u8>, answer: &Made) -> Result<(), NoMemory>
     ensures { OnOk result (out.new.items ≡ out.old.items ++ made_text answer.now) }
 {
     match answer {
         Made::Installed(epoch) => write_counted(out, b"installed", u64::from(*epoch)),
-        Made::Empty => out.extend_from_slice(b"empty"),
+        Made::Empty => append(out, b"empty"),
         Made::NotMember(node) => write_counted(out, b"not member", u64::from(node.0)),
         Made::NotStopped(node) => write_counted(out, b"not stopped", u64::from(node.0)),
     }
 }
 
 #[tactic(auto, unfolding(zeus_model::specs::ReportWords::installed_text))]
-fn write_installed(out: &mut Vec<u8>, answer: &Install) -> Result<(), AllocError>
+fn write_installed(out: &mut Vec<u8>, answer: &Install) -> Result<(), NoMemory>
     ensures { OnOk result (out.new.items ≡ out.old.items ++ installed_text answer.now) }
 {
     match answer {
-        Install::Installed => out.extend_from_slice(b"installed"),
-        Install::Stopped => out.extend_from_slice(b"stopped"),
+        Install::Installed => append(out, b"installed"),
+        Install::Stopped => append(out, b"stopped"),
         Install::Old(epoch) => write_counted(out, b"old", u64::from(*epoch)),
     }
 }
@@ -125,18 +125,18 @@ pub(crate) fn write_answer(
     out: &mut Vec<u8>,
     names: &[Name],
     answer: &Answer,
-) -> Result<(), AllocError>
+) -> Result<(), NoMemory>
     ensures { OnOk result (out.new.items ≡ out.old.items ++ answer_text names.now answer.now) }
 {
     match answer {
         Answer::Begin(answer) => write_begin(out, answer),
-        Answer::Twice => out.extend_from_slice(b"twice"),
+        Answer::Twice => append(out, b"twice"),
         Answer::Waits(id) => write_counted(out, b"waits", u64::from(id.0)),
         Answer::Try(answer) => write_tried(out, names, answer),
         Answer::NoPacket(count) => write_counted(out, b"no packet", u64::from(*count)),
         Answer::Receive(answer) => write_received(out, answer),
-        Answer::Tick(answer) => out.extend_from_slice(ticked_text(*answer)),
-        Answer::Stop(answer) => out.extend_from_slice(stopped_text(*answer)),
+        Answer::Tick(answer) => append(out, ticked_text(*answer)),
+        Answer::Stop(answer) => append(out, stopped_text(*answer)),
         Answer::View(answer) => write_made(out, answer),
         Answer::NoView(count) => write_counted(out, b"no view", u64::from(*count)),
         Answer::Install(answer) => write_installed(out, answer),

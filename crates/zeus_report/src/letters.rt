@@ -5,46 +5,45 @@ ghost use Rattle.zeus_model.specs.ReportWords.{number, named_object, stream_text
 ghost use Rattle.zeus_model.specs.Spelling.{word};
 ghost use Rattle.zeus_report.specs.Lines.{packet_line, write_text};
 
-use crate::words::{
+use crate::words::{append, 
     state_text, write_counted, write_line_end, write_nodes, write_number, write_object,
     write_stamp, write_stamped, write_stream, write_value, write_word,
 };
-use std::alloc::AllocError;
-use zeus_base::Stream;
+use zeus_base::{NoMemory, Stream};
 use zeus_model::Name;
 use zeus_packet::{Body, Cause, Content, Packet, Place, Proposal, RInv, Want, Write};
 
 /// Writes a space and why a letter was refused.
 #[tactic(auto, unfolding(zeus_model::specs::ReportWords::cause_text))]
-pub(crate) fn write_cause(out: &mut Vec<u8>, cause: &Cause) -> Result<(), AllocError>
+pub(crate) fn write_cause(out: &mut Vec<u8>, cause: &Cause) -> Result<(), NoMemory>
     ensures { OnOk result (out.new.items ≡ out.old.items ++ word (cause_text cause.now)) }
 {
     match cause {
-        Cause::OwnStream => out.extend_from_slice(b" own stream"),
-        Cause::Window => out.extend_from_slice(b" window"),
-        Cause::NotDirectory => out.extend_from_slice(b" not directory"),
+        Cause::OwnStream => append(out, b" own stream"),
+        Cause::Window => append(out, b" window"),
+        Cause::NotDirectory => append(out, b" not directory"),
         Cause::Proposed(stamp) => write_stamped(out, b" proposed", stamp),
-        Cause::Owns => out.extend_from_slice(b" owns"),
-        Cause::HasCopy => out.extend_from_slice(b" has copy"),
-        Cause::NotReader => out.extend_from_slice(b" not reader"),
-        Cause::NoSource => out.extend_from_slice(b" no source"),
-        Cause::Degree => out.extend_from_slice(b" degree"),
-        Cause::IsSource => out.extend_from_slice(b" is source"),
-        Cause::WornOut => out.extend_from_slice(b" worn out"),
-        Cause::NoCopy => out.extend_from_slice(b" no copy"),
+        Cause::Owns => append(out, b" owns"),
+        Cause::HasCopy => append(out, b" has copy"),
+        Cause::NotReader => append(out, b" not reader"),
+        Cause::NoSource => append(out, b" no source"),
+        Cause::Degree => append(out, b" degree"),
+        Cause::IsSource => append(out, b" is source"),
+        Cause::WornOut => append(out, b" worn out"),
+        Cause::NoCopy => append(out, b" no copy"),
         Cause::Held(slot) => write_counted(out, b" held", u64::from(slot.0)),
         Cause::NotValid(state) => {
-            out.extend_from_slice(b" not valid")?;
+            append(out, b" not valid")?;
             write_word(out, state_text(*state))
         }
         Cause::Kept(slot) => write_counted(out, b" kept", u64::from(slot.0)),
-        Cause::NotArbiter => out.extend_from_slice(b" not arbiter"),
-        Cause::NotCollector => out.extend_from_slice(b" not collector"),
-        Cause::OwnPlace => out.extend_from_slice(b" own place"),
+        Cause::NotArbiter => append(out, b" not arbiter"),
+        Cause::NotCollector => append(out, b" not collector"),
+        Cause::OwnPlace => append(out, b" own place"),
     }
 }
 
-fn write_write(out: &mut Vec<u8>, names: &[Name], write: &Write) -> Result<(), AllocError>
+fn write_write(out: &mut Vec<u8>, names: &[Name], write: &Write) -> Result<(), NoMemory>
     ensures { OnOk result (out.new.items ≡ out.old.items ++ write_text names.now write.now) }
 {
     write_object(out, names, write.obj)?;
@@ -52,7 +51,7 @@ fn write_write(out: &mut Vec<u8>, names: &[Name], write: &Write) -> Result<(), A
     write_value(out, &write.value)
 }
 
-fn write_writes(out: &mut Vec<u8>, names: &[Name], writes: &[Write]) -> Result<(), AllocError>
+fn write_writes(out: &mut Vec<u8>, names: &[Name], writes: &[Write]) -> Result<(), NoMemory>
     ensures { OnOk result (out.new.items ≡ out.old.items ++ writes_text names.now writes.now) }
 {
     for write in writes {
@@ -73,7 +72,7 @@ fn want_text(want: Want) -> &'static [u8]
     }
 }
 
-fn write_place(out: &mut Vec<u8>, place: &Place) -> Result<(), AllocError>
+fn write_place(out: &mut Vec<u8>, place: &Place) -> Result<(), NoMemory>
     ensures { OnOk result (out.new.items ≡ out.old.items ++ place_text place.now) }
 {
     write_number(out, u64::from(place.owner.0))?;
@@ -81,7 +80,7 @@ fn write_place(out: &mut Vec<u8>, place: &Place) -> Result<(), AllocError>
 }
 
 // A proposal but for its wish.
-fn write_proposal(out: &mut Vec<u8>, proposal: &Proposal) -> Result<(), AllocError>
+fn write_proposal(out: &mut Vec<u8>, proposal: &Proposal) -> Result<(), NoMemory>
     ensures { OnOk result (out.new.items ≡ out.old.items ++ proposal_text proposal.now) }
 {
     write_stamp(out, &proposal.stamp)?;
@@ -91,11 +90,11 @@ fn write_proposal(out: &mut Vec<u8>, proposal: &Proposal) -> Result<(), AllocErr
 }
 
 #[tactic(auto, unfolding(zeus_model::specs::ReportWords::content_text))]
-fn write_content(out: &mut Vec<u8>, content: &Option<Content>) -> Result<(), AllocError>
+fn write_content(out: &mut Vec<u8>, content: &Option<Content>) -> Result<(), NoMemory>
     ensures { OnOk result (out.new.items ≡ out.old.items ++ content_text content.now) }
 {
     match content {
-        None => out.extend_from_slice(b" -"),
+        None => append(out, b" -"),
         Some(content) => {
             write_number(out, content.ver)?;
             write_value(out, &content.value)
@@ -104,16 +103,16 @@ fn write_content(out: &mut Vec<u8>, content: &Option<Content>) -> Result<(), All
 }
 
 // A text, and then a stream and a number.
-fn write_numbered(out: &mut Vec<u8>, text: &[u8], stream: &Stream, n: u32) -> Result<(), AllocError>
+fn write_numbered(out: &mut Vec<u8>, text: &[u8], stream: &Stream, n: u32) -> Result<(), NoMemory>
     ensures { OnOk result (out.new.items ≡ out.old.items ++ text.now ++ word (stream_text stream.now) ++ number n) }
 {
-    out.extend_from_slice(text)?;
+    append(out, text)?;
     write_stream(out, stream)?;
     write_number(out, u64::from(n))
 }
 
 #[tactic(auto, unfolding(zeus_model::specs::ReportWords::body_text))]
-fn write_entry(out: &mut Vec<u8>, names: &[Name], entry: &RInv) -> Result<(), AllocError>
+fn write_entry(out: &mut Vec<u8>, names: &[Name], entry: &RInv) -> Result<(), NoMemory>
     ensures { OnOk result (out.new.items ≡ out.old.items ++ word (body_text names.now (Body.RInv entry.now))) }
 {
     write_numbered(out, b" rinv", &entry.stream, entry.number)?;
@@ -124,7 +123,7 @@ fn write_entry(out: &mut Vec<u8>, names: &[Name], entry: &RInv) -> Result<(), Al
 
 /// Writes a space and what the letter says.
 #[tactic(auto, unfolding(zeus_model::specs::ReportWords::body_text))]
-pub(crate) fn write_body(out: &mut Vec<u8>, names: &[Name], body: &Body) -> Result<(), AllocError>
+pub(crate) fn write_body(out: &mut Vec<u8>, names: &[Name], body: &Body) -> Result<(), NoMemory>
     ensures { OnOk result (out.new.items ≡ out.old.items ++ word (body_text names.now body.now)) }
 {
     match body {
@@ -132,40 +131,40 @@ pub(crate) fn write_body(out: &mut Vec<u8>, names: &[Name], body: &Body) -> Resu
         Body::RAck(stream, n) => write_numbered(out, b" rack", stream, *n),
         Body::RVal(stream, done) => write_numbered(out, b" rval", stream, *done),
         Body::OReq(obj, want) => {
-            out.extend_from_slice(b" oreq")?;
+            append(out, b" oreq")?;
             write_object(out, names, *obj)?;
-            out.extend_from_slice(want_text(*want))
+            append(out, want_text(*want))
         }
         Body::OInv(obj, proposal) => {
-            out.extend_from_slice(b" oinv")?;
+            append(out, b" oinv")?;
             write_object(out, names, *obj)?;
             write_proposal(out, proposal)?;
-            out.extend_from_slice(want_text(proposal.want))
+            append(out, want_text(proposal.want))
         }
         Body::OAck(obj, proposal, content) => {
-            out.extend_from_slice(b" oack")?;
+            append(out, b" oack")?;
             write_object(out, names, *obj)?;
             write_proposal(out, proposal)?;
             write_content(out, content)?;
-            out.extend_from_slice(want_text(proposal.want))
+            append(out, want_text(proposal.want))
         }
         Body::ONack(obj, stamp, cause) => {
-            out.extend_from_slice(b" onack")?;
+            append(out, b" onack")?;
             write_object(out, names, *obj)?;
             write_stamp(out, stamp)?;
             write_cause(out, cause)
         }
         Body::OVal(obj, stamp, place) => {
-            out.extend_from_slice(b" oval")?;
+            append(out, b" oval")?;
             write_object(out, names, *obj)?;
             write_stamp(out, stamp)?;
             write_place(out, place)
         }
-        Body::Recovered => out.extend_from_slice(b" recovered"),
+        Body::Recovered => append(out, b" recovered"),
     }
 }
 
-fn write_packet(out: &mut Vec<u8>, names: &[Name], packet: &Packet) -> Result<(), AllocError>
+fn write_packet(out: &mut Vec<u8>, names: &[Name], packet: &Packet) -> Result<(), NoMemory>
     ensures { OnOk result (out.new.items ≡ out.old.items ++ packet_line names.now packet.now) }
 {
     let letter = &packet.letter;
@@ -182,7 +181,7 @@ pub(crate) fn write_packets(
     out: &mut Vec<u8>,
     names: &[Name],
     packets: &[Packet],
-) -> Result<(), AllocError>
+) -> Result<(), NoMemory>
     ensures { OnOk result (out.new.items ≡ out.old.items ++ packet_lines names.now packets.now) }
 {
     for packet in packets {

@@ -3,5 +3,12 @@
 
 mod answers;
 mod letters;
+mod runs;
+
+mod standing;
 mod steps;
 mod words;
+mod world;
+
+pub use runs::report;
+pub use world::{Report, World};

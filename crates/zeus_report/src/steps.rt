@@ -4,12 +4,11 @@ ghost use Rattle.zeus_model.specs.ReportText.{step_text, acked_lines};
 ghost use Rattle.zeus_model.specs.Spelling.{word, spaced};
 ghost use Rattle.zeus_report.specs.Lines.{acked_line};
 
-use crate::words::{write_counted, write_line_end, write_number};
-use std::alloc::AllocError;
-use zeus_base::{NodeSet, Step, TxId};
+use crate::words::{append, write_counted, write_line_end, write_number};
+use zeus_base::{NoMemory, NodeSet, Step, TxId};
 
 #[tactic(auto, unfolding(zeus_model::specs::Spelling::spaced))]
-fn write_members(out: &mut Vec<u8>, set: NodeSet) -> Result<(), AllocError>
+fn write_members(out: &mut Vec<u8>, set: NodeSet) -> Result<(), NoMemory>
     ensures { OnOk result (out.new.items ≡ out.old.items ++ spaced (map decimal set)) }
 {
     for node in set {
@@ -20,7 +19,7 @@ fn write_members(out: &mut Vec<u8>, set: NodeSet) -> Result<(), AllocError>
 
 /// Writes a space and the step.
 #[tactic(auto, unfolding(zeus_model::specs::Spelling::words_text, zeus_model::specs::Spelling::step_words, zeus_model::specs::Spelling::spaced))]
-pub(crate) fn write_step(out: &mut Vec<u8>, step: &Step) -> Result<(), AllocError>
+pub(crate) fn write_step(out: &mut Vec<u8>, step: &Step) -> Result<(), NoMemory>
     ensures { OnOk result (out.new.items ≡ out.old.items ++ word (step_text step.now)) }
 {
     match step {
@@ -37,7 +36,7 @@ pub(crate) fn write_step(out: &mut Vec<u8>, step: &Step) -> Result<(), AllocErro
         Step::Tick(node) => write_counted(out, b" tick", u64::from(node.0)),
         Step::Stop(node) => write_counted(out, b" stop", u64::from(node.0)),
         Step::View(members) => {
-            out.extend_from_slice(b" view")?;
+            append(out, b" view")?;
             write_members(out, *members)
         }
         Step::Install(node, epoch) => {
@@ -47,7 +46,7 @@ pub(crate) fn write_step(out: &mut Vec<u8>, step: &Step) -> Result<(), AllocErro
     }
 }
 
-fn write_ack(out: &mut Vec<u8>, id: TxId) -> Result<(), AllocError>
+fn write_ack(out: &mut Vec<u8>, id: TxId) -> Result<(), NoMemory>
     ensures { OnOk result (out.new.items ≡ out.old.items ++ acked_line id) }
 {
     write_counted(out, b"!", u64::from(id.0))?;
@@ -55,7 +54,7 @@ fn write_ack(out: &mut Vec<u8>, id: TxId) -> Result<(), AllocError>
 }
 
 /// Writes a line for each transaction that a step acknowledges.
-pub(crate) fn write_acked(out: &mut Vec<u8>, ids: &[TxId]) -> Result<(), AllocError>
+pub(crate) fn write_acked(out: &mut Vec<u8>, ids: &[TxId]) -> Result<(), NoMemory>
     ensures { OnOk result (out.new.items ≡ out.old.items ++ acked_lines ids.now) }
 {
     for id in ids {

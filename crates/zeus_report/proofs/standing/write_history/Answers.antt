@@ -1,0 +1,16 @@
+use Rattle.std.proofs.Common.{refl}
+use Rattle.zeus_model.specs.ReportText.{points_text}
+use Rattle.zeus_model.specs.ReportWords.{number}
+use Rattle.zeus_model.specs.Book.{no_reply}
+use Rattle.zeus_report.specs.Lines.{point_at}
+use Rattle.zeus_report.proofs.Names.{nth_is_here}
+use Rattle.zeus_report.proofs.Pieces.{one_more, all_done}
+use Rattle.zeus_report.proofs.standing.write_history.Goals as goal
+
+pub loop-place-preserved : goal.loop-place-preserved
+unfolding points_text
+loop-place-preserved c =
+    let points = c.args.world.now.book.points in
+    one_more points_text (λ p. number p.id) (λ p ps. refl) points c.loop-place.place (point_at points c.loop-place.place)
+    c.loop-place.out.items c.write_point_id.new.out.items _ ? (nth_is_here record { id = 0; reply = no_reply } points c.loop-place.place ?)
+    c.loop-place.invariant (c.in_ok-write_point_id.ensures)
