@@ -5,8 +5,8 @@ ghost use Rattle.zeus_model.specs.ReportWords.{number, named_object, stream_text
 ghost use Rattle.zeus_model.specs.Spelling.{word};
 ghost use Rattle.zeus_report.specs.Lines.{packet_line, write_text};
 
-use crate::words::{append, 
-    state_text, write_counted, write_line_end, write_nodes, write_number, write_object,
+use crate::words::{
+    append, state_text, write_counted, write_line_end, write_nodes, write_number, write_object,
     write_stamp, write_stamped, write_stream, write_value, write_word,
 };
 use zeus_base::{NoMemory, Stream};

@@ -4,7 +4,6 @@
 mod answers;
 mod letters;
 mod runs;
-
 mod standing;
 mod steps;
 mod words;

@@ -1,6 +1,6 @@
 //! How a world stands at the end: its history, its transactions, its objects and their copies.
 ghost use Rattle.std.specs.Prelude.{◌≡◌, ◌<◌, ◌≤◌, ◌++◌, OnOk, Some, length};
-ghost use Rattle.zeus_model.specs.ReportText.{history_line, tx_state_lines, copy_line, copy_lines, holders_text, object_text, objects_text, final_text};
+ghost use Rattle.zeus_model.specs.ReportText.{points_text, history_line, tx_state_lines, copy_line, copy_lines, holders_text, object_text, objects_text, final_text};
 ghost use Rattle.zeus_model.specs.ReportWords.{number};
 ghost use Rattle.zeus_model.specs.Readers.{live_among};
 ghost use Rattle.zeus_model.specs.Tables.{below};
@@ -25,13 +25,20 @@ fn write_point_id(out: &mut Vec<u8>, world: &World, place: u32) -> Result<(), No
     }
 }
 
+fn write_point_ids(out: &mut Vec<u8>, world: &World) -> Result<(), NoMemory>
+    ensures { OnOk result (out.new.items ≡ out.old.items ++ points_text world.now.book.points) }
+{
+    for place in 0..world.points() {
+        write_point_id(out, world, place)?;
+    }
+    Ok(())
+}
+
 fn write_history(out: &mut Vec<u8>, world: &World) -> Result<(), NoMemory>
     ensures { OnOk result (out.new.items ≡ out.old.items ++ history_line world.now.book) }
 {
     append(out, b"history")?;
-    for place in 0..world.points() {
-        write_point_id(out, world, place)?;
-    }
+    write_point_ids(out, world)?;
     write_line_end(out)
 }
 

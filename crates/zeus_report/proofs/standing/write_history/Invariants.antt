@@ -1,8 +1,0 @@
--- What is written and the points that are left stay all of them.
-use Rattle.std.proofs.Common.{◌≡◌, ◌++◌, drop, codes}
-use Rattle.zeus_model.specs.ReportText.{points_text}
-use Rattle.zeus_report.proofs.standing.write_history.Given as goal
-
-abbrev pub invariant-loop-place : goal.invariant-loop-place
-invariant-loop-place l =
-    l.out.items ++ points_text (drop l.place l.world.book.points) ≡ l.initial.out.items ++ points_text l.world.book.points
