@@ -1,12 +1,9 @@
-//! Stand-ins for the crates that read scripts and make reports.
+//! A stand-in for the crate that reads scripts.
 ghost use Rattle.std.specs.Prelude.{◌≡◌, IfOk, IsErrOf};
-ghost use Rattle.zeus_model.specs.FirstRange.{IsFirstRange};
-ghost use Rattle.zeus_model.specs.ReportText.{report};
 ghost use Rattle.zeus_model.specs.Scripts.{IsSpelled};
 ghost use Rattle.zeus_model.specs.declared.script.Script.{Script as ScriptData};
 
 use std::alloc::Global;
-use zeus_base::NoMemory;
 use zeus_model::Script;
 
 /// Why bytes give no script.
@@ -22,11 +19,4 @@ pub(crate) fn read_script(_alloc: Global, _bytes: &[u8]) -> Result<Script, ReadS
     ensures fault { IsErrOf result ReadScript.Fault → (s : ScriptData) → ¬ IsSpelled _bytes.now s }
 {
     Err(ReadScript::NoMemory)
-}
-
-pub(crate) fn report(_alloc: Global, _script: &Script) -> Result<Vec<u8>, NoMemory>
-    requires { IsFirstRange _script.now }
-    ensures { IfOk result (λ text. text.items ≡ report _script.now) }
-{
-    Err(NoMemory)
 }

@@ -12,11 +12,12 @@ ghost use Rattle.zeus_cli.specs.Output.{Fits, IsWritten};
 
 use crate::first_range::is_first_range;
 use crate::output::Output;
-use crate::pending::{ReadScript, read_script, report};
+use crate::pending::{ReadScript, read_script};
 use std::alloc::Global;
 use zeus_base::NoMemory;
 use zeus_io::{ReadEnd, Sink, Source, Status, WriteFault, read_all, write_all};
 use zeus_model::Script;
+use zeus_report::report;
 
 // The most bytes that a script may have.
 const LONGEST: usize = 4_194_304;
@@ -86,7 +87,10 @@ fn answer<S: Source>(alloc: Global, words: &[String], source: &mut S) -> Result<
     }
     match read(alloc, source)? {
         None => Ok(Output::NoScript),
-        Some(script) => Ok(Output::Report(report(alloc, &script)?)),
+        Some(script) => {
+            let (text, _) = report(alloc, &script)?;
+            Ok(Output::Report(text))
+        }
     }
 }
 
