@@ -1,10 +1,8 @@
 -- Steps of a world, one after another, and what they leave alone.
-use Rattle.std.proofs.Common.{ℕ, suc, ◌≡◌, ◌<◌, ◌≤◌, ◌+◌, Bool, true, false, List, [], ◌∷◌, ◌++◌, length, get_or, drop, Option, Some, None, append_assoc, arith, refl, ap, ◌∙◌}
+use Rattle.std.proofs.Common.{ℕ, suc, ◌≡◌, ◌<◌, ◌≤◌, ◌+◌, Bool, true, false, List, [], ◌∷◌, ◌++◌, length, get_or, drop, Option, Some, None, append_assoc, arith, refl, ◌∙◌}
 use Rattle.std.specs.Prelude.{if◌then◌else◌, nat_lt}
-use Rattle.std.specs.List.{slice_get}
 use Rattle.std.proofs.Math.ListN.{drop_of_length-le}
 use Rattle.std.proofs.lemmas.List.{drop_more, append-nil}
-use Rattle.zeus_base.specs.Tables.{nth}
 use Rattle.zeus_base.specs.declared.step.Step.{Step}
 use Rattle.zeus_base.specs.declared.step.Step.TheVariants.{Begin, Try, Deliver, Tick, Stop, View, Install}
 use Rattle.zeus_packet.specs.declared.letter.Letter.{Letter}

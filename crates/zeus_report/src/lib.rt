@@ -3,11 +3,11 @@
 
 mod answers;
 mod letters;
+mod machine;
 mod runs;
 mod standing;
 mod steps;
 mod words;
-mod world;
 
+pub use machine::{Machine, Report};
 pub use runs::report;
-pub use world::{Report, World};

@@ -6,8 +6,8 @@ use Rattle.zeus_report.proofs.Names.{nth-slice_get}
 use Rattle.zeus_report.proofs.standing.write_point_id.Goals as goal
 
 pub returns-in-Some : goal.returns-in-Some
-returns-in-Some c =
-    let points = c.args.world.now.book.points in
+returns-in-Some g c =
+    let points = (g.M.Machine.world c.args.machine.now).book.points in
     let here = nth-slice_get record { id = 0; reply = no_reply } points c.args.place _ c.in-Some.ensures in
     let id_here = ap (λ p. p.id) here in
     let view = c.id.view_is in

@@ -1,11 +1,11 @@
--- What the calls of a world tell.
-use Rattle.std.specs.Prelude.{ℕ, ◌≡◌, List, []}
+-- What the calls of a machine tell.
+use Rattle.std.specs.Prelude.{ℕ, ◌≡◌, List}
 use Rattle.std.specs.List.{slice_get}
-use Rattle.std.specs.Prelude.{Some, None}
+use Rattle.std.specs.Prelude.{Some}
 use Rattle.zeus_txn.specs.declared.reply.Reply.{Reply}
 use Rattle.zeus_model.specs.Book.{Point}
-use Rattle.zeus_model.specs.World.{World, Event}
-use Rattle.zeus_report.specs.declared.world.Report.{Report}
+use Rattle.zeus_model.specs.World.{Event}
+use Rattle.zeus_report.specs.declared.machine.Report.{Report}
 
 -- the report of a step is of what happens in it
 pub record Reports (r : Report) (e : Event) : Type 0 where
@@ -17,15 +17,3 @@ pub record Reports (r : Report) (e : Event) : Type 0 where
 -- the point at a place of the history
 abbrev pub IsPoint : List Point → ℕ → ℕ → Reply → Type 0
 IsPoint points place id reply = slice_get points place ≡ Some record { id = id; reply = reply }
-
--- a world without nodes
-abbrev pub no_world : World
-no_world =
-    record {
-      config = record { version = 1; nodes = 0; slots = 0; directory = []; degree = None; objects = [] };
-      txs = [];
-      nodes = [];
-      links = [];
-      views = [];
-      book = record { steps = 0; points = []; records = [] };
-    }

@@ -1,4 +1,0 @@
-pub mod Counts
-pub mod Due
-pub mod Tests
-pub mod Words
