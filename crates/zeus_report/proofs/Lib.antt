@@ -1,0 +1,5 @@
+pub mod Pieces
+pub mod Names
+pub mod Copies
+pub mod RunSteps
+pub mod Whole

@@ -1,0 +1,28 @@
+-- Tables by index that pad, where the place is in range and where it is past the end.
+use Rattle.std.proofs.Common.{ℕ, zero, suc, ◌≡◌, ◌<◌, ◌≤◌, List, [], ◌∷◌, length, get_or, Some, arith, refl}
+use Rattle.std.specs.List.{slice_get}
+use Rattle.zeus_base.specs.Tables.{nth}
+
+pub nth-get_or : {A : Type 0} (d : A) (xs : List A) (i : ℕ) → nth d xs i ≡ get_or xs i d
+unfolding nth
+nth-get_or d [] i = refl
+nth-get_or d (x ∷ xs) zero = refl
+nth-get_or d (x ∷ xs) (suc i) = nth-get_or d xs i
+
+pub nth_past : {A : Type 0} (d : A) (xs : List A) (i : ℕ) → length xs ≤ i → nth d xs i ≡ d
+unfolding nth
+nth_past d [] i h = refl
+nth_past d (x ∷ xs) zero h = absurd (omega arith)
+nth_past d (x ∷ xs) (suc i) h = nth_past d xs i (omega arith)
+
+pub nth_is_here : {A : Type 0} (d : A) (xs : List A) (i : ℕ) → i < length xs → nth d xs i ≡ get_or xs i (nth d xs i)
+unfolding nth
+nth_is_here d [] i h = absurd (omega arith)
+nth_is_here d (x ∷ xs) zero h = refl
+nth_is_here d (x ∷ xs) (suc i) h = nth_is_here d xs i (omega arith)
+
+pub nth-slice_get : {A : Type 0} (d : A) (xs : List A) (i : ℕ) (x : A) → slice_get xs i ≡ Some x → nth d xs i ≡ x
+unfolding nth
+nth-slice_get d [] i x e = cc
+nth-slice_get d (y ∷ ys) zero x e = cc
+nth-slice_get d (y ∷ ys) (suc i) x e = nth-slice_get d ys i x e

@@ -1,0 +1,16 @@
+use Rattle.std.proofs.Common.{refl}
+use Rattle.zeus_model.specs.ReportText.{object_text, objects_text}
+use Rattle.zeus_report.proofs.Pieces.{count_more, count_done}
+use Rattle.zeus_report.proofs.standing.write_objects.Goals as goal
+
+pub loop-x-preserved : goal.loop-x-preserved
+unfolding objects_text
+loop-x-preserved g c =
+    let names = c.args.names.now in
+    let world = g.M.Machine.world c.args.machine.now in
+    count_more (objects_text names world) (object_text names world) (λ x xs. refl) c.loop-x.x c.args.count
+    c.loop-x.out.items c.write_standing.new.out.items _ c.loop-x-test.true c.loop-x.invariant (c.in_ok-write_standing.ensures)
+
+pub returns : goal.returns
+unfolding objects_text
+returns g c = count_done (objects_text c.args.names.now (g.M.Machine.world c.args.machine.now)) refl c.loop-x.x c.args.count c.loop-x.out.items _ c.loop-x-test.false c.loop-x.invariant

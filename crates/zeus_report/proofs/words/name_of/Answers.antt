@@ -1,0 +1,16 @@
+use Rattle.std.proofs.Common.{[]}
+use Rattle.zeus_report.proofs.Names.{nth-get_or, nth_past}
+use Rattle.zeus_report.proofs.words.name_of.Goals as goal
+
+pub returns-in-Some : goal.returns-in-Some
+returns-in-Some c =
+    let e = nth-get_or [] c.args.names.now c.from.result in
+    let f = c.in-Some.ensures.lookup.3.1 [] in
+    let v = c.obj.view_is in
+    cc (e, f, v)
+
+pub returns-in-None : goal.returns-in-None
+returns-in-None c =
+    let e = nth_past [] c.args.names.now c.from.result c.in-None.ensures.lookup.3 in
+    let v = c.obj.view_is in
+    cc (e, v)

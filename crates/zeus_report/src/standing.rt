@@ -1,0 +1,182 @@
+//! How a world stands at the end: its history, its transactions, its objects and their copies.
+ghost use Rattle.std.specs.Prelude.{◌≡◌, ◌<◌, ◌≤◌, ◌++◌, OnOk, Some, length};
+ghost use Rattle.zeus_model.specs.ReportText.{points_text, history_line, tx_state_lines, copy_line, copy_lines, holders_text, object_text, objects_text, final_text};
+ghost use Rattle.zeus_model.specs.ReportWords.{number};
+ghost use Rattle.zeus_model.specs.Readers.{live_among};
+ghost use Rattle.zeus_model.specs.Tables.{below};
+ghost use Rattle.zeus_report.specs.Lines.{tx_state_line, live_copy, point_at};
+
+use crate::answers::tx_state_text;
+use crate::machine::Machine;
+use crate::words::{
+    append, state_text, write_line_end, write_nodes, write_number, write_object,
+    write_optional_node, write_value, write_word,
+};
+use zeus_base::{NoMemory, NodeId, NodeSet, ObjId, TxId};
+use zeus_model::{Copy, Name};
+
+fn write_point_id<M: Machine>(out: &mut Vec<u8>, machine: &M, place: u32) -> Result<(), NoMemory>
+    requires { place < length (M.world machine.now).book.points }
+    ensures { OnOk result (out.new.items ≡ out.old.items ++ number (point_at (M.world machine.now).book.points place).id) }
+{
+    match machine.point(place) {
+        Some((id, _)) => write_number(out, u64::from(id.0)),
+        None => Ok(()),
+    }
+}
+
+fn write_point_ids<M: Machine>(out: &mut Vec<u8>, machine: &M) -> Result<(), NoMemory>
+    ensures { OnOk result (out.new.items ≡ out.old.items ++ points_text (M.world machine.now).book.points) }
+{
+    for place in 0..machine.points() {
+        write_point_id(out, machine, place)?;
+    }
+    Ok(())
+}
+
+fn write_history<M: Machine>(out: &mut Vec<u8>, machine: &M) -> Result<(), NoMemory>
+    ensures { OnOk result (out.new.items ≡ out.old.items ++ history_line (M.world machine.now).book) }
+{
+    append(out, b"history")?;
+    write_point_ids(out, machine)?;
+    write_line_end(out)
+}
+
+fn write_tx_state<M: Machine>(out: &mut Vec<u8>, machine: &M, id: TxId) -> Result<(), NoMemory>
+    ensures { OnOk result (out.new.items ≡ out.old.items ++ tx_state_line (M.world machine.now) id) }
+{
+    append(out, b"tx")?;
+    write_number(out, u64::from(id.0))?;
+    write_word(out, tx_state_text(machine.tx_state(id)))?;
+    write_line_end(out)
+}
+
+fn write_tx_states<M: Machine>(out: &mut Vec<u8>, machine: &M, count: u32) -> Result<(), NoMemory>
+    ensures { OnOk result (out.new.items ≡ out.old.items ++ tx_state_lines (M.world machine.now) (below count)) }
+{
+    for k in 0..count {
+        write_tx_state(out, machine, TxId(k))?;
+    }
+    Ok(())
+}
+
+#[tactic(auto, unfolding(zeus_model::specs::ReportText::copy_line))]
+fn write_copy(
+    out: &mut Vec<u8>,
+    names: &[Name],
+    obj: ObjId,
+    node: NodeId,
+    copy: &Option<Copy>,
+) -> Result<(), NoMemory>
+    ensures { OnOk result (out.new.items ≡ out.old.items ++ copy_line names.now obj node copy.now) }
+{
+    let Some(copy) = copy else { return Ok(()) };
+    append(out, b"copy")?;
+    write_object(out, names, obj)?;
+    write_number(out, u64::from(node.0))?;
+    write_word(out, state_text(copy.state))?;
+    write_number(out, copy.ver)?;
+    write_value(out, &copy.value)?;
+    write_line_end(out)
+}
+
+fn write_live_copy<M: Machine>(
+    out: &mut Vec<u8>,
+    names: &[Name],
+    machine: &M,
+    obj: ObjId,
+    at: NodeId,
+) -> Result<(), NoMemory>
+    ensures { OnOk result (out.new.items ≡ out.old.items ++ live_copy names.now (M.world machine.now) obj at) }
+{
+    if machine.is_live(at) {
+        write_copy(out, names, obj, at, &machine.copy(at, obj))
+    } else {
+        Ok(())
+    }
+}
+
+// The copies at the live ones of the nodes.
+#[tactic(auto, using(crate::proofs::Copies::live_copies_split), unfolding(zeus_model::specs::ReportText::copy_lines, zeus_model::specs::Readers::live_among))]
+fn write_copies<M: Machine>(
+    out: &mut Vec<u8>,
+    names: &[Name],
+    machine: &M,
+    obj: ObjId,
+    nodes: NodeSet,
+) -> Result<(), NoMemory>
+    ensures { OnOk result (out.new.items ≡ out.old.items ++ copy_lines names.now (M.world machine.now) obj (live_among (M.world machine.now) nodes)) }
+{
+    for node in nodes {
+        write_live_copy(out, names, machine, obj, node)?;
+    }
+    Ok(())
+}
+
+#[tactic(auto, unfolding(zeus_model::specs::ReportText::holders_text))]
+fn write_holders<M: Machine>(
+    out: &mut Vec<u8>,
+    names: &[Name],
+    machine: &M,
+    obj: ObjId,
+) -> Result<(), NoMemory>
+    ensures { OnOk result (out.new.items ≡ out.old.items ++ holders_text names.now (M.world machine.now) obj) }
+{
+    if machine.is_lost(obj) {
+        append(out, b"lost")?;
+        write_object(out, names, obj)?;
+        write_line_end(out)
+    } else {
+        write_copies(out, names, machine, obj, machine.latest_place(obj).replicas)
+    }
+}
+
+fn write_standing<M: Machine>(
+    out: &mut Vec<u8>,
+    names: &[Name],
+    machine: &M,
+    obj: ObjId,
+) -> Result<(), NoMemory>
+    ensures { OnOk result (out.new.items ≡ out.old.items ++ object_text names.now (M.world machine.now) obj) }
+{
+    append(out, b"object")?;
+    write_object(out, names, obj)?;
+    write_optional_node(out, machine.owner(obj))?;
+    write_nodes(out, machine.latest_place(obj).replicas)?;
+    write_line_end(out)?;
+    write_holders(out, names, machine, obj)
+}
+
+fn write_objects<M: Machine>(
+    out: &mut Vec<u8>,
+    names: &[Name],
+    machine: &M,
+    count: u16,
+) -> Result<(), NoMemory>
+    requires { count ≤ 256 }
+    ensures { OnOk result (out.new.items ≡ out.old.items ++ objects_text names.now (M.world machine.now) (below count)) }
+{
+    for x in 0..count {
+        write_standing(out, names, machine, ObjId(x))?;
+    }
+    Ok(())
+}
+
+/// Writes how the world stands; it has so many transactions and objects.
+pub(crate) fn write_final<M: Machine>(
+    out: &mut Vec<u8>,
+    names: &[Name],
+    machine: &M,
+    txs: u32,
+    objects: u16,
+) -> Result<(), NoMemory>
+    requires txs { txs ≡ length (M.world machine.now).txs }
+    requires objects { objects ≡ length (M.world machine.now).config.objects }
+    requires few_objects { objects ≤ 256 }
+    ensures { OnOk result (out.new.items ≡ out.old.items ++ final_text names.now (M.world machine.now)) }
+{
+    write_history(out, machine)?;
+    write_tx_states(out, machine, txs)?;
+    write_objects(out, names, machine, objects)?;
+    append(out, b"end\n")
+}
