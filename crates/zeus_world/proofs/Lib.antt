@@ -1,0 +1,4 @@
+mod Sending
+mod Recording
+mod Passing
+mod Finding
