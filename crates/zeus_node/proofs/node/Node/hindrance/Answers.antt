@@ -9,7 +9,7 @@ loop-object-init c = hindrance_whole c.args.self.now c.args.tx.now
 
 pub returns-then-is_some : goal.returns-then-is_some
 returns-then-is_some c =
-    let list = c.as_slice-object-items.ensures ∙ c.named-named.ensures in
+    let list = c.as_slice-object-items.ensures.list ∙ c.named-named.ensures in
     let here = rw list at c.loop-object-test.true in
     let is = rw list at c.object-item.is in
     hindrance_found c.args.self.now c.args.tx.now _ _ _ here is c.hindrance_at-found.ensures (sym c.is_some.ensures ∙ c.if-is_some.true)
@@ -17,7 +17,7 @@ returns-then-is_some c =
 
 pub loop-object-preserved : goal.loop-object-preserved
 loop-object-preserved c =
-    let list = c.as_slice-object-items.ensures ∙ c.named-named.ensures in
+    let list = c.as_slice-object-items.ensures.list ∙ c.named-named.ensures in
     let here = rw list at c.loop-object-test.true in
     let is = rw list at c.object-item.is in
     hindrance_not_here c.args.self.now c.args.tx.now _ _ _ here is c.hindrance_at-found.ensures (sym c.is_some.ensures ∙ c.if-is_some.false)
@@ -25,6 +25,6 @@ loop-object-preserved c =
 
 pub returns : goal.returns
 returns c =
-    let list = c.as_slice-object-items.ensures ∙ c.named-named.ensures in
+    let list = c.as_slice-object-items.ensures.list ∙ c.named-named.ensures in
     let past = rw list at c.loop-object-test.false in
     told_nothing ∙ first_of-end (λ y. hindrance_at y (copy c.args.self.now y)) _ _ past ∙ c.loop-object.invariant

@@ -16,7 +16,7 @@ loop-place-init c = record {
 pub overflow_add-ver : goal.overflow_add-ver
 overflow_add-ver c =
     let here : c.loop-place.place < length c.args.values.now = omega arith in
-    let is = rw c.as_slice.ensures at c.index-as_slice-place.is in
+    let is = rw c.as_slice.ensures.list at c.index-as_slice-place.is in
     let new = new_read c.args.self.now c.args.values.now c.loop-place.place c.index-as_slice-place.result c.requires here is in
     let other : c.version-ver.result ≡ 18446744073709551615 → ⊥ =
     λ e. eqb-false _ _ new.rises (sym c.version-ver.ensures ∙ e)
@@ -26,7 +26,7 @@ overflow_add-ver c =
 pub loop-place-preserved : goal.loop-place-preserved
 loop-place-preserved c =
     let here : c.loop-place.place < length c.args.values.now = omega arith in
-    let is = rw c.as_slice.ensures at c.index-as_slice-place.is in
+    let is = rw c.as_slice.ensures.list at c.index-as_slice-place.is in
     let new = new_read c.args.self.now c.args.values.now c.loop-place.place c.index-as_slice-place.result c.requires here is in
     let pushed = rw c.version-ver.ensures at c.push.ensures in
     record {

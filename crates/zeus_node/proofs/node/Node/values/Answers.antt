@@ -16,7 +16,7 @@ push-requires c =
 
 pub loop-place-preserved : goal.loop-place-preserved
 loop-place-preserved c =
-    let list = c.as_slice.ensures ∙ c.named-named.ensures in
+    let list = c.as_slice.ensures.list ∙ c.named-named.ensures in
     let count = c.len-count.ensures.value ∙ ap length c.named-named.ensures in
     let here : c.loop-place.place < length (named c.args.tx.now) = omega arith in
     let is = rw list at c.index-as_slice-place.is in
