@@ -2,9 +2,11 @@
 #![tactic(auto)]
 
 mod answer;
+mod fault;
 mod script;
 mod state;
 
 pub use answer::{Answer, Begin, Install, Made, Outcome, Stop, Ticked, Tried, TxState};
+pub use fault::{Kind, ScriptFault};
 pub use script::{Name, Names, Script};
 pub use state::{Copy, Current, Entry, Gather, Kept, Pending};

@@ -2,13 +2,14 @@
 ghost use Rattle.std.specs.Prelude.{◌≡◌, ◌↔◌, IsTrue, IsSome, IfSome, [], length};
 ghost use Rattle.zeus_model.specs.Names.{IsLetter, IsNameByte};
 
+use std::hash::{Hash, Hasher};
 use std::marker::Model;
 use zeus_base::{Config, Steps};
 use zeus_txn::TxList;
 
 /// The name of an object: 1 to 16 bytes, first an ASCII letter, then letters, digits or `_`; kept inline and seen as
 /// the list of its bytes.
-#[derive(Clone, Copy, Debug)]
+#[derive(Clone, Copy, Debug, Eq)]
 pub struct Name {
     len: u8,
     bytes: [u8; 16],
@@ -55,6 +56,34 @@ impl Name {
         ensures name { IsName self.now }
     {
         &self.bytes[..self.len as usize]
+    }
+}
+
+impl PartialEq for Name {
+    ghost use Rattle.std.specs.Cmp.{partial_equiv_from_equiv};
+    ghost use Rattle.std.proofs.lemmas.Cmp.{nat_list_eq_equiv};
+    ghost use Rattle.std.specs.Str.{bytes_eq};
+
+    ghost eq = { bytes_eq };
+
+    ghost laws = { partial_equiv_from_equiv nat_list_eq_equiv };
+
+    fn eq(&self, other: &Name) -> bool {
+        self.as_bytes() == other.as_bytes()
+    }
+}
+
+impl Hash for Name {
+    ghost use Rattle.std.proofs.Common.{rules};
+    ghost use Rattle.std.specs.Hash as fed;
+    ghost use Rattle.std.specs.Cmp.Rules.{hashing};
+
+    ghost hash_input = { fed.slice fed.u8 };
+
+    ghost respects_eq = { Prim.search (hashing, rules) };
+
+    fn hash<H: Hasher>(&self, state: &mut H) {
+        self.as_bytes().hash(state);
     }
 }
 
