@@ -3,6 +3,7 @@
 
 mod book;
 mod links;
+mod posting;
 
 pub use book::Book;
 pub use links::Links;
