@@ -8,7 +8,7 @@ ghost use Rattle.zeus_txn.specs.declared.ops.Op.{Op};
 ghost use Rattle.zeus_node.specs.Copies.{IsWithin};
 ghost use Rattle.zeus_node.specs.Done.{IsDone, IsQuiet};
 ghost use Rattle.zeus_node.specs.Effect.{IsCleared};
-ghost use Rattle.zeus_node.specs.FirstNode.{AreFew, AreFirstLetters, BeginsFrame, IsFirstCurrent, IsFirstTx, KeepsFrame};
+ghost use Rattle.zeus_node.specs.FirstNode.{AreFew, AreFirstLettersFrom, BeginsFrame, IsFirstCurrent, IsFirstTx, KeepsFrame};
 ghost use Rattle.zeus_node.specs.Tries.{AreNew, current_id, pushed, told_hindrance, worn_at};
 
 use super::Node;
@@ -344,7 +344,7 @@ impl Node {
         ensures passed { out.new.passed ≡ (try_slot self.old slot).passed }
         ensures frame { KeepsFrame self.old self.new }
         ensures few { AreFew out.new.passed }
-        ensures letters { AreFirstLetters (length self.old.logs) (length self.old.copies) out.new.sent }
+        ensures letters { AreFirstLettersFrom self.old.me (length self.old.logs) (length self.old.copies) out.new.sent }
     {
         if self.stopped {
             return Tried::Stopped;
