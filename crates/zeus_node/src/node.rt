@@ -12,6 +12,8 @@ ghost use Rattle.zeus_node.specs.Effect.{IsCleared};
 mod local;
 mod start;
 
+pub use start::all_nodes;
+
 use crate::copies::{Change, Copies};
 use crate::effect::Effect;
 use crate::pipeline::Pipeline;

@@ -1,5 +1,7 @@
-mod Sending
-mod Recording
-mod Passing
-mod Finding
 mod Batches
+mod Finding
+mod Passes
+mod Passing
+mod Reading
+mod Recording
+mod Sending

@@ -1,3 +1,7 @@
-pub mod Links
 pub mod Books
+pub mod FirstWorld
+pub mod Links
 pub mod Posting
+pub mod Shown
+pub mod Steps
+pub mod Tries

@@ -1,7 +1,7 @@
 //! Transactions at a node: begun, read from the copies, or committed at their owner.
 ghost use Rattle.std.specs.Prelude.{◌≡◌, ◌==◌, ◌<◌, ◌≤◌, ◌+◌, ◌^◌, ◌-◌, ◌||◌, true, [], None, Some, List, length, map, take};
 ghost use Rattle.zeus_model.specs.Local.{begin, commit, hindrance, new_writes, read_row, replicas_of, run_here, try_current, try_slot, with_current, write_cause, write_row};
-ghost use Rattle.zeus_model.specs.State.{copy, entry, next_number, slot as slot_of, value_of, version_of};
+ghost use Rattle.zeus_model.specs.State.{copy, entry, next_number, no_entry, owns, slot as slot_of, value_of, version_of};
 ghost use Rattle.std.specs.List.{list_any};
 ghost use Rattle.zeus_txn.specs.Ops.{is_write, named};
 ghost use Rattle.zeus_txn.specs.declared.ops.Op.{Op};
@@ -15,9 +15,9 @@ use super::Node;
 use crate::copies::Change;
 use crate::effect::Effect;
 use crate::places::{object_place, slot_place};
-use zeus_base::{NodeSet, ObjId, SlotId, TxId, Value};
+use zeus_base::{NodeId, NodeSet, ObjId, SlotId, Stamp, TxId, Value};
 use zeus_model::{Begin, Copy, Current, Entry, Pending, Tried};
-use zeus_packet::{Body, RInv, State, Write, Writes};
+use zeus_packet::{Body, Place, RInv, State, Write, Writes};
 use zeus_txn::{NewValues, Op, Ran, Tx, Values, run_ops};
 
 /// What hinders a read.
@@ -27,6 +27,23 @@ pub(crate) enum Hindrance {
     Missing(ObjId),
     /// The copy of the object is not valid.
     Unready(ObjId, State),
+}
+
+/// The entry of an object that there is not.
+fn no_entry() -> Entry
+    ensures { result ≡ no_entry }
+{
+    Entry {
+        stamp: Stamp {
+            ver: 0,
+            driver: NodeId(0),
+        },
+        place: Place {
+            owner: NodeId(0),
+            replicas: NodeSet::empty(),
+        },
+        proposal: None,
+    }
 }
 
 impl Node {
@@ -48,6 +65,26 @@ impl Node {
         ensures { result.now ≡ entry self.now object }
     {
         &self.entries[object_place(object)]
+    }
+
+    /// What the node knows of the object's placement, and of no object the placement at no node.
+    #[tactic(auto, unfolding(zeus_base::specs::Tables::nth))]
+    pub fn known_entry(&self, object: ObjId) -> Entry
+        ensures { result ≡ entry self.now object }
+    {
+        match self.entries.get(object_place(object)) {
+            None => no_entry(),
+            Some(entry) => *entry,
+        }
+    }
+
+    /// Whether the node owns the object: its settled placement says so, and it holds no proposal.
+    #[tactic(auto, unfolding(zeus_model::specs::State::owns))]
+    pub fn owns(&self, object: ObjId) -> bool
+        ensures { result ≡ owns self.now object }
+    {
+        let entry = self.known_entry(object);
+        entry.place.owner == self.me && entry.proposal.is_none()
     }
 
     /// The node's copy of the object, where it has one.
