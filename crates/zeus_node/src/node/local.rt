@@ -68,7 +68,6 @@ impl Node {
     }
 
     /// What the node knows of the object's placement, and of no object the placement at no node.
-    #[tactic(auto, unfolding(zeus_base::specs::Tables::nth))]
     pub fn known_entry(&self, object: ObjId) -> Entry
         ensures { result ≡ entry self.now object }
     {
