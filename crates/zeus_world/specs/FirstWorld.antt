@@ -50,4 +50,4 @@ pub record IsFirstRun (c : Config) (txs : List TxDecl) : Type 0 where
   pub config : IsFirstConfig c
   pub some : 1 ≤ c.nodes
   pub few : length txs < 2 ^ 32
-  pub txs : AreTxsOf c txs
+  pub first : AreTxsOf c txs

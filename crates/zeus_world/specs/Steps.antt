@@ -19,8 +19,8 @@ pub record HasSpace (m : Made) : Type 0 where
   pub sent : vec_len m.sent + 64 ≤ vec_capacity m.sent
 
 -- the report has this answer, and all that was made
-pub record IsReportOf (answer : Answer) (m : Made) (r : Report) : Type 0 where
-  pub answer : r.answer ≡ answer
+pub record IsReportOf (a : Answer) (m : Made) (r : Report) : Type 0 where
+  pub answer : r.answer ≡ a
   pub points : r.points.items ≡ m.points.ids
   pub acked : r.acked.items ≡ m.acked.ids
   pub sent : r.sent.items ≡ m.sent.items

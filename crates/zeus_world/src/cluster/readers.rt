@@ -1,5 +1,5 @@
 //! How a cluster stands.
-ghost use Rattle.std.specs.Prelude.{◌≡◌, ◌≤◌, length, option_copied, MatchOption};
+ghost use Rattle.std.specs.Prelude.{◌≡◌, ◌<◌, ◌≤◌, length, option_copied, MatchOption};
 ghost use Rattle.zeus_model.specs.Book.{record_of};
 ghost use Rattle.zeus_model.specs.Readers.{is_live, is_lost, owner, tx_state};
 ghost use Rattle.zeus_model.specs.Sound.{latest_entry, latest_place};
