@@ -2,3 +2,4 @@ mod Sending
 mod Recording
 mod Passing
 mod Finding
+mod Reading

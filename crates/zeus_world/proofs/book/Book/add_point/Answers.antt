@@ -1,5 +1,5 @@
 use Rattle.zeus_world.proofs.Recording.{pointed}
-use Rattle.zeus_world.proofs.book.Book.point.Goals as goal
+use Rattle.zeus_world.proofs.book.Book.add_point.Goals as goal
 
 pub returns-clause-book : goal.returns-clause-book
 returns-clause-book c =
