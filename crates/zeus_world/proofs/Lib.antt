@@ -3,3 +3,4 @@ mod Recording
 mod Passing
 mod Finding
 mod Reading
+mod Passes

@@ -5,6 +5,7 @@ ghost use Rattle.zeus_model.specs.Book.{book_ack, book_begin, book_commit, book_
 ghost use Rattle.zeus_model.specs.Readers.{state_of};
 ghost use Rattle.zeus_world.specs.Books.{IsChange};
 
+mod passes;
 mod readers;
 
 use std::alloc::Global;

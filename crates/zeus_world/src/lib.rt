@@ -2,7 +2,9 @@
 #![tactic(auto)]
 
 mod book;
+mod ids;
 mod links;
 
 pub use book::Book;
+pub use ids::IdList;
 pub use links::Links;
