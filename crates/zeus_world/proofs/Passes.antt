@@ -1,6 +1,7 @@
 -- The passes of a step, by the words of the machine.
-use Rattle.std.proofs.Common.{ℕ, zero, suc, ◌≡◌, ◌<◌, ◌≤◌, ◌+◌, ◌++◌, Bool, true, false, List, [], ◌∷◌, Option, Some, None, length, refl, sym, ap, ◌∙◌, arith}
+use Rattle.std.proofs.Common.{ℕ, suc, ◌≡◌, ◌<◌, ◌≤◌, ◌+◌, ◌++◌, Bool, true, false, List, [], ◌∷◌, Option, Some, None, length, refl, sym, ap, ◌∙◌, arith}
 use Rattle.std.specs.Prelude.{if◌then◌else◌, ◌-◌, ◌==◌}
+use Rattle.std.specs.List.{slice_get}
 use Rattle.std.proofs.lemmas.List.{append-nil, append_assoc}
 use Rattle.zeus_base.specs.TableLaws.{length-put}
 use Rattle.zeus_base.specs.declared.order.Stream.{Stream}
@@ -113,22 +114,36 @@ left_none done own s number after h =
     rw count (same_change _ _ _ _ _ _ refl (sym (append-nil done.points)) (sym (append-nil done.acked)))
 
 -- the only pass of a step
-pub only_pass :
-    (done next : BookChange) (me : ℕ) (p : Passed) (ps : List Passed) (own : Bool) → AreFew (p ∷ ps) → own ≡ (p.stream.node == me)
-    → next ≡ left done own p.stream p.first (p.after - p.first)
-    → next ≡ change_then done (λ b. book_passes b me (in_stream_order (p ∷ ps)))
+only_pass :
+    (done : BookChange) (me : ℕ) (p : Passed) (ps : List Passed) → AreFew (p ∷ ps)
+    → left done (p.stream.node == me) p.stream p.first (p.after - p.first) ≡ change_then done (λ b. book_passes b me (in_stream_order (p ∷ ps)))
 unfolding AreFew in_stream_order inserted book_passes
-only_pass done next me p [] own few is e =
+only_pass done me p [] few =
     let c = pass_numbers done.book (p.stream.node == me) p.stream (numbers_from p.first (p.after - p.first)) in
-    e ∙ rw is (same_change _ _ _ _ _ _ refl (sym (ap (λ xs. done.points ++ xs) (append-nil c.points))) (sym (ap (λ xs. done.acked ++ xs) (append-nil c.acked))))
-only_pass done next me p (q ∷ ps) own few is e = absurd few
+    same_change _ _ _ _ _ _ refl (sym (ap (λ xs. done.points ++ xs) (append-nil c.points))) (sym (ap (λ xs. done.acked ++ xs) (append-nil c.acked)))
+only_pass done me p (q ∷ ps) few = absurd few
+
+pub first_passed :
+    (done next : BookChange) (me : ℕ) (p : Passed) (ps : List Passed) (own : Bool) → AreFew ps → Some p ≡ slice_get ps 0
+    → own ≡ (p.stream.node == me) → next ≡ left done own p.stream p.first (p.after - p.first)
+    → next ≡ change_then done (λ b. book_passes b me (in_stream_order ps))
+first_passed done next me p [] own few found is e = cc
+first_passed done next me p (q ∷ ps) own few found is e =
+    let same : p ≡ q = cc in
+    e ∙ rw (is, same) (only_pass done me q ps few)
 
 -- a step without passes
-pub no_pass : (done : BookChange) (me : ℕ) → done ≡ change_then done (λ b. book_passes b me (in_stream_order []))
+pub nothing_passed : (done : BookChange) (me : ℕ) (ps : List Passed) → None ≡ slice_get ps 0 → done ≡ change_then done (λ b. book_passes b me (in_stream_order ps))
 unfolding in_stream_order book_passes
-no_pass done me = same_change _ _ _ _ _ _ refl (sym (append-nil done.points)) (sym (append-nil done.acked))
+nothing_passed done me [] none = same_change _ _ _ _ _ _ refl (sym (append-nil done.points)) (sym (append-nil done.acked))
+nothing_passed done me (p ∷ ps) none = cc
 
-pub few_entries : (p : Passed) (ps : List Passed) → AreFew (p ∷ ps) → p.after ≤ p.first + 16
+-- the only pass is of at most 16 entries
+few_entries : (p : Passed) (ps : List Passed) → AreFew (p ∷ ps) → p.after ≤ p.first + 16
 unfolding AreFew
 few_entries p [] few = few
 few_entries p (q ∷ ps) few = absurd few
+
+pub first_few : (p : Passed) (ps : List Passed) → AreFew ps → Some p ≡ slice_get ps 0 → p.after ≤ p.first + 16
+first_few p [] few found = cc
+first_few p (q ∷ ps) few found = let same : p ≡ q = cc in rw same (few_entries q ps few)

@@ -12,7 +12,14 @@ use zeus_base::{NodeId, Passed, Stream};
 impl Book {
     /// The entry of this number of the stream has passed, at its own node or at another: its transaction, where there
     /// is one, stands in `points` if this is its point, and in `acked` if it is acknowledged by it.
-    fn pass_entry(&mut self, stream: &Stream, number: u32, own: bool, points: &mut IdList, acked: &mut IdList)
+    fn pass_entry(
+        &mut self,
+        stream: &Stream,
+        number: u32,
+        own: bool,
+        points: &mut IdList,
+        acked: &mut IdList,
+    )
         requires records { length self.old.book.records < 2 ^ 32 }
         requires room { 0 < self.old.room }
         requires points { 0 < points.old.room }
@@ -34,7 +41,13 @@ impl Book {
     /// The entries of the stream from `first` on and below `after` have passed, at their own node or at another: the
     /// transactions that have their points by it stand behind those of `points`, and those that are acknowledged by it
     /// behind those of `acked`, in order.
-    pub fn pass_entries(&mut self, passed: &Passed, own: bool, points: &mut IdList, acked: &mut IdList)
+    pub fn pass_entries(
+        &mut self,
+        passed: &Passed,
+        own: bool,
+        points: &mut IdList,
+        acked: &mut IdList,
+    )
         requires records { length self.old.book.records < 2 ^ 32 }
         requires room { passed.now.after ≤ passed.now.first + self.old.room }
         requires points { passed.now.after ≤ passed.now.first + points.old.room }
@@ -51,8 +64,15 @@ impl Book {
         }
     }
 
-    /// The passes of a step of this node, of which there is at most one, of at most 16 entries.
-    pub fn pass_all(&mut self, me: NodeId, passed: &[Passed], points: &mut IdList, acked: &mut IdList)
+    /// The passes of a step of this node, of which there is at most one, of at most 16 entries: as
+    /// [`pass_entries`](Book::pass_entries) has it, with an acknowledgement where the stream is the node's own.
+    pub fn pass_all(
+        &mut self,
+        me: NodeId,
+        passed: &[Passed],
+        points: &mut IdList,
+        acked: &mut IdList,
+    )
         requires few { AreFew passed.now }
         requires records { length self.old.book.records < 2 ^ 32 }
         requires room { 16 ≤ self.old.room }
