@@ -1,25 +1,14 @@
 -- Letters of one sender put on their links one after another.
 use Rattle.std.proofs.Common.{ℕ, zero, suc, ◌≡◌, ◌<◌, ◌≤◌, ◌+◌, List, [], ◌∷◌, ◌++◌, length, drop, get_or, refl, sym, ap, ◌∙◌, subst, add-one, append_assoc, append-nil, arith}
 use Rattle.std.proofs.Math.Seq.{drop-cons}
+use Rattle.zeus_base.specs.TableLaws.{length-put, nth-put_same}
 use Rattle.zeus_packet.specs.declared.letter.Letter.{Letter}
 use Rattle.zeus_packet.specs.declared.letter.Packet.{Packet}
-use Rattle.zeus_model.specs.Tables.{nth, put}
+use Rattle.zeus_model.specs.Tables.{nth}
 use Rattle.zeus_model.specs.World.{all_posted, link, packets, posted}
 use Rattle.zeus_world.specs.Links.{LinkState, letters, no_link, room, row_letters, letters_of, HasRoom, IsLink}
 use Rattle.zeus_world.specs.Posting.{AreFrom, CanPost}
 use Rattle.zeus_world.proofs.Sending.{letters-nth, row_letters-nth}
-
-pub length-put : {A : Type 0} (d : A) (xs : List A) (i : ℕ) (v : A) → i < length xs → length (put d xs i v) ≡ length xs
-unfolding put
-length-put d [] i v h = absurd (omega arith)
-length-put d (x ∷ xs) zero v h = refl
-length-put d (x ∷ xs) (suc i) v h = ap suc (length-put d xs i v (omega arith))
-
-pub nth-put_same : {A : Type 0} (d : A) (xs : List A) (i : ℕ) (v : A) → i < length xs → nth d (put d xs i v) i ≡ v
-unfolding nth put
-nth-put_same d [] i v h = absurd (omega arith)
-nth-put_same d (x ∷ xs) zero v h = refl
-nth-put_same d (x ∷ xs) (suc i) v h = nth-put_same d xs i v (omega arith)
 
 pub length-letters : (rows : List (List LinkState)) → length (letters rows) ≡ length rows
 unfolding letters
@@ -40,7 +29,7 @@ length-posted links l h = length-put [] links l.from _ h
 
 pub length-posted_row : (links : List (List (List Letter))) (l : Letter) → l.from < length links → l.to < length (nth [] links l.from) → length (nth [] (posted links l) l.from) ≡ length (nth [] links l.from)
 length-posted_row links l h k =
-    ap length (nth-put_same [] links l.from _ h) ∙ length-put [] (nth [] links l.from) l.to _ k
+    ap length (nth-put_same [] links l.from _) ∙ length-put [] (nth [] links l.from) l.to _ k
 
 pub first_link : (rows : List (List LinkState)) (l : Letter) (ls : List Letter) → CanPost rows (l ∷ ls) → IsLink rows l.from l.to
 unfolding AreFrom

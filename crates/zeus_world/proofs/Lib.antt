@@ -1,7 +1,13 @@
 mod Batches
 mod Finding
+mod FirstLinks
+mod FirstNodes
+mod Noting
 mod Passes
 mod Passing
 mod Reading
 mod Recording
 mod Sending
+mod Standing
+mod Trying
+mod Worlds

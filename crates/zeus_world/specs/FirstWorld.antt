@@ -1,11 +1,11 @@
 -- The worlds of the first range of scripts: one slot a node, no degree, and letters of commit alone.
-use Rattle.std.specs.Prelude.{ℕ, ◌≡◌, ◌<◌, ◌≤◌, ◌^◌, List, [], length, map, Some}
+use Rattle.std.specs.Prelude.{ℕ, ◌≡◌, ◌<◌, ◌≤◌, ◌^◌, List, [], length, map, All}
 use Rattle.zeus_base.specs.declared.config.Config.{Config}
 use Rattle.zeus_packet.specs.declared.letter.Letter.{Letter}
 use Rattle.zeus_txn.specs.declared.tx.TxDecl.{TxDecl}
 use Rattle.zeus_model.specs.State.{Node, slot}
 use Rattle.zeus_model.specs.Tables.{nth}
-use Rattle.zeus_model.specs.World.{World, link, no_node, no_tx, nth_letter, start_entry}
+use Rattle.zeus_model.specs.World.{World, link, no_node, no_tx, start_entry}
 use Rattle.zeus_node.specs.FirstNode.{IsFirstConfig, IsFirstLetter, IsFirstTx, IsIdBelow}
 
 -- what a node keeps through a run: its number, its entries, the sizes of its tables, and that its current transaction is one
@@ -34,7 +34,7 @@ AreTxsOf c txs = (k : ℕ) → k < length txs → IsTxOf c (nth no_tx txs k)
 pub record AreLinksOf (nodes objects : ℕ) (links : List (List (List Letter))) : Type 0 where
   pub senders : length links ≡ nodes
   pub receivers : (n : ℕ) → n < nodes → length (nth [] links n) ≡ nodes
-  pub letters : (from to i : ℕ) (l : Letter) → nth_letter (link links from to) i ≡ Some l → IsFirstLetter nodes objects l
+  pub letters : (from to : ℕ) → All (IsFirstLetter nodes objects) (link links from to)
 
 pub record IsFirstWorld (w : World) : Type 0 where
   pub config : IsFirstConfig w.config

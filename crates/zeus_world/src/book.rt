@@ -9,6 +9,7 @@ mod passes;
 mod readers;
 mod tries;
 
+use crate::places::tx_place;
 use std::alloc::Global;
 use std::marker::Model;
 use zeus_base::{NoMemory, Stream, TxId};
@@ -17,12 +18,6 @@ use zeus_txn::{Reply, Values};
 
 /// How many points a book has at most, so that they are counted by 32 bits.
 const MOST: usize = 0xffff_ffff;
-
-fn place(id: TxId) -> usize
-    ensures { result ≡ id }
-{
-    id.0 as usize
-}
 
 /// An entry of a stream, by its number.
 #[derive(Clone, Copy, Debug, PartialEq, Eq)]
@@ -279,7 +274,7 @@ impl Book {
         ensures { self.new ≡ record { book = book_begin self.old.book id; room = self.old.room } }
     {
         let step = self.steps;
-        let record = &mut self.records[place(id)];
+        let record = &mut self.records[tx_place(id)];
         record.begin(step);
     }
 
@@ -288,7 +283,7 @@ impl Book {
         requires { id < length self.old.book.records }
         ensures { self.new ≡ record { book = book_commit self.old.book stream.now id number reply; room = self.old.room } }
     {
-        let record = &mut self.records[place(id)];
+        let record = &mut self.records[tx_place(id)];
         record.commit(stream, number, reply);
     }
 
@@ -297,7 +292,7 @@ impl Book {
         requires { id < length self.old.book.records }
         ensures { self.new ≡ record { book = book_reply self.old.book id reply; room = self.old.room } }
     {
-        let record = &mut self.records[place(id)];
+        let record = &mut self.records[tx_place(id)];
         record.set_reply(reply);
     }
 
@@ -306,7 +301,7 @@ impl Book {
         requires { id < length self.old.book.records }
         ensures { self.new ≡ record { book = book_refuse self.old.book id; room = self.old.room } }
     {
-        let record = &mut self.records[place(id)];
+        let record = &mut self.records[tx_place(id)];
         record.refuse();
     }
 
@@ -316,7 +311,7 @@ impl Book {
         ensures { self.new ≡ record { book = book_ack self.old.book id; room = self.old.room } }
     {
         let step = self.steps;
-        let record = &mut self.records[place(id)];
+        let record = &mut self.records[tx_place(id)];
         record.acknowledge(step);
     }
 
@@ -329,7 +324,7 @@ impl Book {
     {
         let step = self.steps;
         let alloc = *self.points.allocator();
-        let record = &mut self.records[place(id)];
+        let record = &mut self.records[tx_place(id)];
         let reply = record.reply_or_none(alloc);
         record.point(step);
         self.points.push_reserved(Point { id, reply });
@@ -351,7 +346,7 @@ impl Book {
     fn record(&self, id: TxId) -> Option<&Record>
         ensures { option_copied result ≡ slice_get self.now.book.records id }
     {
-        self.records.get(place(id))
+        self.records.get(tx_place(id))
     }
 
     /// The transaction of an entry: the one that was committed with this stream and number.
@@ -373,7 +368,7 @@ impl Book {
         requires { id < length self.now.book.records }
         ensures { result ≡ is_some (record_of self.now.book id).point }
     {
-        let record = &self.records[place(id)];
+        let record = &self.records[tx_place(id)];
         record.has_point()
     }
 

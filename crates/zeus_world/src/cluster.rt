@@ -1,26 +1,14 @@
 //! The nodes of a run, the links between them, and the book of what they did.
-ghost use Rattle.std.specs.Prelude.{◌≡◌, ◌<◌, ◌+◌, ◌^◌, IfOk, OnErr};
-ghost use Rattle.zeus_model.specs.World.{start};
-ghost use Rattle.zeus_world.specs.FirstWorld.{IsFirstRun};
-
 mod readers;
 mod start;
 mod steps;
 
 use crate::book::Book;
 use crate::links::Links;
-use std::alloc::Global;
 use std::marker::Model;
-use zeus_base::{Config, NodeId, NodeSet};
+use zeus_base::{Config, NodeSet};
 use zeus_node::{Effect, Node};
 use zeus_txn::TxList;
-
-/// The place of a node in a table by node.
-fn node_place(node: NodeId) -> usize
-    ensures { result ≡ node }
-{
-    node.0 as usize
-}
 
 /// A world that steps of the first range lead to, seen as the world of the machine.
 #[derive(Debug, Drop)]

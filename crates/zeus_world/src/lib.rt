@@ -6,6 +6,7 @@ mod cluster;
 mod ids;
 mod links;
 mod made;
+mod places;
 mod posting;
 
 pub use book::Book;

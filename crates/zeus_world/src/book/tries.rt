@@ -1,15 +1,29 @@
 //! What a try's answer says goes into the book.
 ghost use Rattle.std.specs.Prelude.{◌≡◌, ◌<◌, ◌≤◌, ◌+◌, length};
 ghost use Rattle.zeus_model.specs.Book.{book_tried, change_then};
+ghost use Rattle.zeus_model.specs.World.{book_begun};
 ghost use Rattle.zeus_world.specs.Books.{so_far};
 ghost use Rattle.zeus_world.specs.Tries.{IsOfBelow};
 
 use super::Book;
 use crate::ids::IdList;
-use zeus_base::Stream;
-use zeus_model::Tried;
+use zeus_base::{Stream, TxId};
+use zeus_model::{Begin, Tried};
 
 impl Book {
+    /// A node was asked to begin the transaction: it is begun at this step where the node took it.
+    #[tactic(auto, unfolding(zeus_model::specs::World::book_begun))]
+    pub fn note_begun(&mut self, id: TxId, begun: &Begin)
+        requires { id < length self.old.book.records }
+        ensures { self.new ≡ record { book = (book_begun self.old.book id begun.now).book; room = self.old.room } }
+    {
+        match begun {
+            Begin::Begun => self.begin(id),
+            Begin::Stopped => {}
+            Begin::Busy(_) => {}
+        }
+    }
+
     /// The slot of the stream was tried with this answer: a committed transaction is an entry of the stream, one that was
     /// read has its point and its acknowledgement, and one without a copy is refused where there is no degree.
     pub fn note_tried(&mut self, stream: &Stream, degree: Option<u8>, tried: &Tried, points: &mut IdList, acked: &mut IdList)
@@ -31,7 +45,10 @@ impl Book {
                 points.push_where(true, *id);
                 acked.push_where(true, *id);
             }
-            Tried::NoCopy(id, _) if degree.is_none() => self.refuse(*id),
+            Tried::NoCopy(id, _) => match degree {
+                None => self.refuse(*id),
+                Some(_) => {}
+            },
             _ => {}
         }
     }

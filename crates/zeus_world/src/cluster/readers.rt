@@ -7,7 +7,8 @@ ghost use Rattle.zeus_model.specs.State.{copy, owns};
 ghost use Rattle.zeus_model.specs.World.{node};
 ghost use Rattle.zeus_report.specs.Machines.{IsPoint};
 
-use super::{Cluster, node_place};
+use super::Cluster;
+use crate::places::node_place;
 use zeus_base::{NodeId, ObjId, TxId};
 use zeus_model::{Copy, Entry, TxState};
 use zeus_packet::Place;

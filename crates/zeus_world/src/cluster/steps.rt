@@ -4,8 +4,9 @@ ghost use Rattle.zeus_model.specs.Local.{begin, try_slot};
 ghost use Rattle.zeus_model.specs.World.{begin_or_not, begin_refused, begun_at, deliver_or_not, link, node, nth_letter, refuse_step, step_begin, tried_at, tx_decl, waits_for};
 ghost use Rattle.zeus_world.specs.Steps.{IsTaken};
 
-use super::{Cluster, node_place};
+use super::Cluster;
 use crate::made::{MOST_PACKETS, MOST_POINTS, Made};
+use crate::places::{node_place, tx_place};
 use crate::posting::post_all;
 use zeus_base::{NoMemory, NodeId, SlotId, Stream, TxId};
 use zeus_model::{Answer, Begin};
@@ -18,7 +19,7 @@ impl<'a> Cluster<'a> {
         requires { id < length self.now.txs }
         ensures { result.now ≡ tx_decl self.now id }
     {
-        &self.txs.as_slice()[id.0 as usize]
+        &self.txs.as_slice()[tx_place(id)]
     }
 
     /// A step that the world itself answers: it is counted, and nothing else changes.
@@ -65,12 +66,10 @@ impl<'a> Cluster<'a> {
         ensures { IsTaken result self.new (begun_at self.old id (tx_decl self.old id).node (begin (node self.old (tx_decl self.old id).node) (tx_decl self.old id).slot id (tx_decl self.old id).tx)) }
     {
         let made = Made::nothing(*self.nodes.allocator());
-        let tx = &self.txs.as_slice()[id.0 as usize];
+        let tx = &self.txs.as_slice()[tx_place(id)];
         let node = &mut self.nodes[node_place(tx.node)];
         let begun = node.begin(tx.slot, id, &tx.tx);
-        if begun == Begin::Begun {
-            self.book.begin(id);
-        }
+        self.book.note_begun(id, &begun);
         self.book.count();
         made.into_report(Answer::Begin(begun))
     }
