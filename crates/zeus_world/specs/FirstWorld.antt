@@ -45,8 +45,8 @@ pub record IsFirstWorld (w : World) : Type 0 where
   pub links : AreLinksOf w.config.nodes (length w.config.objects) w.links
   pub records : length w.book.records ≡ length w.txs
 
--- a configuration with transactions of the first range
-pub record IsFirstRun (c : Config) (txs : List TxDecl) : Type 0 where
+-- what a world of the first range can start with
+pub record CanStart (c : Config) (txs : List TxDecl) : Type 0 where
   pub config : IsFirstConfig c
   pub some : 1 ≤ c.nodes
   pub few : length txs < 2 ^ 32

@@ -1,4 +1,5 @@
 pub mod Books
+pub mod FirstRun
 pub mod FirstWorld
 pub mod Links
 pub mod Posting

@@ -3,7 +3,7 @@ ghost use Rattle.std.specs.Prelude.{◌≡◌, ◌<◌, ◌≤◌, [], ◌∷◌
 ghost use Rattle.zeus_model.specs.Tables.{below};
 ghost use Rattle.zeus_model.specs.World.{start, start_node};
 ghost use Rattle.zeus_node.specs.FirstNode.{IsFirstConfig};
-ghost use Rattle.zeus_world.specs.FirstWorld.{IsFirstRun};
+ghost use Rattle.zeus_world.specs.FirstWorld.{CanStart};
 
 use super::Cluster;
 use crate::book::Book;
@@ -19,7 +19,7 @@ impl<'a> Cluster<'a> {
     /// # Errors
     /// `NoMemory` where the memory for it is not there.
     pub(crate) fn start(alloc: Global, config: &'a Config, txs: &'a TxList) -> Result<Self, NoMemory>
-        requires { IsFirstRun config.now txs.now }
+        requires { CanStart config.now txs.now }
         ensures { IfOk result (λ cluster. cluster ≡ start config.now txs.now) }
     {
         Ok(Cluster {
