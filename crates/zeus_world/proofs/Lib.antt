@@ -1,3 +1,4 @@
+mod AtStart
 mod Batches
 mod Finding
 mod FirstLinks

@@ -34,6 +34,7 @@ impl<'a> Cluster<'a> {
     }
 }
 
+#[tactic(auto, unfolding(zeus_model::specs::Tables::numbers_from))]
 fn start_nodes(alloc: Global, config: &Config) -> Result<Vec<Node>, NoMemory>
     requires { IsFirstConfig config.now }
     ensures { IfOk result (λ v. v.items ≡ map (start_node config.now) (below config.now.nodes)) }
