@@ -6,9 +6,11 @@ mod FirstNodes
 mod Noting
 mod Passes
 mod Passing
+mod Reaching
 mod Reading
 mod Recording
 mod Sending
 mod Standing
+mod Starting
 mod Trying
 mod Worlds

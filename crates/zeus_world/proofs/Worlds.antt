@@ -1,5 +1,5 @@
 -- What steps make of a world, by the words of the machine.
-use Rattle.std.proofs.Common.{ℕ, zero, suc, ◌≡◌, ◌<◌, ◌≤◌, ◌+◌, ◌++◌, Bool, true, false, List, [], ◌∷◌, Option, Some, None, is_some, length, map, take, refl, sym, ap, ◌∙◌, subst, arith}
+use Rattle.std.proofs.Common.{ℕ, zero, suc, ◌≡◌, ◌≢◌, ◌<◌, ◌≤◌, ◌+◌, ◌^◌, ◌++◌, Bool, true, false, List, [], ◌∷◌, Option, Some, None, is_some, length, map, take, refl, sym, ap, ◌∙◌, subst, arith}
 use Rattle.std.proofs.Math.ListN.{get_or, set}
 use Rattle.zeus_base.specs.TableLaws.{length-put}
 use Rattle.zeus_base.specs.declared.config.Config.{Config}
@@ -14,12 +14,16 @@ use Rattle.zeus_model.specs.declared.answer.Tried.{Tried}
 use Rattle.zeus_model.specs.Local.{begin, try_slot}
 use Rattle.zeus_model.specs.Receive.{receive}
 use Rattle.zeus_base.specs.declared.step.Passed.{Passed}
+use Rattle.zeus_base.specs.declared.step.Step.{Step}
+use Rattle.zeus_base.specs.declared.step.Step.TheVariants.{Begin as BeginStep, Try as TryStep, Deliver as DeliverStep, Tick, Stop, View, Install}
+use Rattle.zeus_model.specs.FirstRange.{is_first_step}
+use Rattle.zeus_model.specs.Scripts.{FitsStep}
 use Rattle.zeus_node.specs.FirstNode.{AreFirstLettersFrom, IsFirstTx}
 use Rattle.zeus_world.specs.Books.{BookState, IdsState, so_far}
 use Rattle.zeus_model.specs.Book.{Book, BookChange, book_begin, book_passes, book_tried, change_then, counted, in_stream_order, no_record, record_of, unchanged}
 use Rattle.zeus_model.specs.State.{Node}
 use Rattle.zeus_model.specs.Tables.{nth, or_else, put, where_true}
-use Rattle.zeus_model.specs.World.{Event, World, acted, all_posted, begin_or_not, begin_refused, begun_at, book_begun, cut, deliver_or_not, node, no_node, no_tx, link, nth_letter, packets, received_at, refuse_step, step_begin, tried_at, tx_decl, waits_for}
+use Rattle.zeus_model.specs.World.{Event, World, acted, all_posted, begin_or_not, begin_refused, begun_at, book_begun, cut, deliver_or_not, happens, node, no_node, no_tx, link, nth_letter, packets, received_at, refuse_step, step_begin, tried_at, tx_decl, waits_for}
 use Rattle.zeus_report.specs.Machines.{Reports}
 use Rattle.zeus_report.specs.declared.machine.Report.{Report}
 use Rattle.zeus_world.specs.FirstWorld.{AreLinksOf, IsFirstWorld, IsNodeOf, IsTxOf}
@@ -215,3 +219,40 @@ pub sent_first :
     (c : Config) (txs n : ℕ) (m : Node) (sent : List Letter) → IsNodeOf c txs n m → AreFirstLettersFrom m.me (length m.logs) (length m.copies) sent
     → AreFirstLettersFrom n c.nodes (length c.objects) sent
 sent_first c txs n m sent k f = rw (k.number, k.logs, k.copies) at f
+
+-- ---- each step is one of the three kinds
+
+pub fits_begin : (c : Config) (txs id : ℕ) (s : Step) → s ≡ BeginStep id → FitsStep c txs s → id < txs
+unfolding FitsStep
+fits_begin c txs id s e f = rw e at f
+
+pub fits_try : (c : Config) (txs n slot : ℕ) (s : Step) → s ≡ TryStep n slot → FitsStep c txs s → (n < c.nodes) × (slot < c.slots)
+unfolding FitsStep
+fits_try c txs n slot s e f = rw e at f
+
+pub fits_deliver : (c : Config) (txs from to i : ℕ) (s : Step) → s ≡ DeliverStep from to i → FitsStep c txs s → (from < c.nodes) × (to < c.nodes) × (i < 2 ^ 32)
+unfolding FitsStep
+fits_deliver c txs from to i s e f = rw e at f
+
+pub begin_happens : (w : World) (id : ℕ) → happens w (BeginStep id) ≡ step_begin w id
+unfolding happens
+begin_happens w id = refl
+
+pub try_happens : (w : World) (n s : ℕ) → happens w (TryStep n s) ≡ tried_at w n s (try_slot (node w n) s)
+unfolding happens
+try_happens w n s = refl
+
+pub deliver_happens : (w : World) (from to i : ℕ) → happens w (DeliverStep from to i) ≡ deliver_or_not w from to (nth_letter (link w.links from to) i)
+unfolding happens
+deliver_happens w from to i = refl
+
+pub no_other_step :
+    (s : Step) → is_first_step s ≡ true → ((id : ℕ) → s ≢ BeginStep id) → ((n slot : ℕ) → s ≢ TryStep n slot) → ((from to i : ℕ) → s ≢ DeliverStep from to i) → ⊥
+unfolding is_first_step
+no_other_step (BeginStep id) h b t d = b id refl
+no_other_step (TryStep n slot) h b t d = t n slot refl
+no_other_step (DeliverStep from to i) h b t d = d from to i refl
+no_other_step (Tick n) h b t d = cc
+no_other_step (Stop n) h b t d = cc
+no_other_step (View set) h b t d = cc
+no_other_step (Install n e) h b t d = cc

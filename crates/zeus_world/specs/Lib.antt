@@ -3,6 +3,7 @@ pub mod FirstRun
 pub mod FirstWorld
 pub mod Links
 pub mod Posting
+pub mod Reached
 pub mod Shown
 pub mod Steps
 pub mod Tries

@@ -8,7 +8,9 @@ mod links;
 mod made;
 mod places;
 mod posting;
+mod world;
 
 pub use book::Book;
 pub use ids::IdList;
 pub use links::Links;
+pub use world::World;

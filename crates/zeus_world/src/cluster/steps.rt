@@ -1,14 +1,16 @@
 //! What each step does to a cluster.
-ghost use Rattle.std.specs.Prelude.{◌≡◌, ◌<◌, ◌+◌, ◌^◌, IfOk, OnErr, length};
+ghost use Rattle.std.specs.Prelude.{◌≡◌, ◌<◌, ◌+◌, ◌^◌, true, IfOk, OnErr, length};
+ghost use Rattle.zeus_model.specs.FirstRange.{is_first_step};
 ghost use Rattle.zeus_model.specs.Local.{begin, try_slot};
-ghost use Rattle.zeus_model.specs.World.{begin_or_not, begin_refused, begun_at, deliver_or_not, link, node, nth_letter, refuse_step, step_begin, tried_at, tx_decl, waits_for};
+ghost use Rattle.zeus_model.specs.Scripts.{FitsStep};
+ghost use Rattle.zeus_model.specs.World.{begin_or_not, begin_refused, begun_at, deliver_or_not, happens, link, node, nth_letter, refuse_step, step_begin, tried_at, tx_decl, waits_for};
 ghost use Rattle.zeus_world.specs.Steps.{IsTaken};
 
 use super::Cluster;
 use crate::made::{MOST_PACKETS, MOST_POINTS, Made};
 use crate::places::{node_place, tx_place};
 use crate::posting::post_all;
-use zeus_base::{NoMemory, NodeId, SlotId, Stream, TxId};
+use zeus_base::{NoMemory, NodeId, SlotId, Step, Stream, TxId};
 use zeus_model::{Answer, Begin};
 use zeus_report::Report;
 use zeus_txn::TxDecl;
@@ -137,5 +139,27 @@ impl<'a> Cluster<'a> {
         post_all(&mut self.links, self.effect.sent.as_slice(), &mut made.sent);
         self.book.count();
         Ok(made.into_report(Answer::Receive(outcome)))
+    }
+
+    /// Takes a step of the first range: a begin, a try or a delivery.
+    ///
+    /// # Errors
+    /// `NoMemory` where the room for what a step makes is not there, or no more steps can be counted; nothing has changed
+    /// then.
+    pub(crate) fn step(&mut self, step: &Step) -> Result<Report, NoMemory>
+        requires fits { FitsStep self.old.config (length self.old.txs) step.now }
+        requires first { is_first_step step.now ≡ true }
+        ensures ok { IfOk result (λ r. IsTaken r self.new (happens self.old step.now)) }
+        ensures err { OnErr result (self.new ≡ self.old) }
+    {
+        if self.book.steps() == u64::MAX {
+            return Err(NoMemory);
+        }
+        match step {
+            Step::Begin(id) => Ok(self.begin(*id)),
+            Step::Try(at, slot) => self.try_slot(*at, *slot),
+            Step::Deliver(from, to, number) => self.deliver(*from, *to, *number),
+            _ => unreachable!(),
+        }
     }
 }
