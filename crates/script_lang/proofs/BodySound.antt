@@ -95,7 +95,7 @@ degree_taken-sound live s ws fits reads =
 
 objects_more : (s : State) (ws : List (List ℕ)) (x : List ℕ × ObjectDecl) → AreObjects s.head.version s.head.nodes s.names s.objects → length s.names ≢ 256 → IsObject s.head.version s.head.nodes s.names ws x → AreObjects s.head.version s.head.nodes (s.names ++ x.0 ∷ []) (s.objects ++ x.1 ∷ [])
 objects_more s ws x are room o = record {
-  count = rw (length-append, length-append) (omega (arith, are.count));
+  count = rw (length-append s.names (x.0 ∷ []), length-append s.objects (x.1 ∷ [])) (omega (arith, are.count));
   few = rw length-append (omega (arith, are.few));
   each = all_more IsName s.names x.0 are.each o.name;
   distinct = all_pairs_push (λ a b. a ≢ b) s.names x.0 are.distinct (find-nowhere s.names x.0 o.new);

@@ -166,7 +166,7 @@ objects_lead : (live : Bool) (head : Head) (front names : List (List ℕ)) (befo
     → AllByRecursion (λ o. FitsValue head.version o.value) objects → AllByRecursion (KeepsDeclaration head.version head.nodes) objects
     → Leads live (at_stage stages.Objects head front before [] []) (object_lines names objects) (at_stage stages.Objects head (front ++ names) (before ++ objects) [] [])
 unfolding object_lines
-objects_lead live head front [] before [] few same room is apart fits keeps = rw (append-nil, append-nil) (leads_none live _)
+objects_lead live head front [] before [] few same room is apart fits keeps = rw (append-nil front, append-nil before) (leads_none live _)
 objects_lead live head front [] before (o ∷ objects) few same room is apart fits keeps = absurd (omega arith)
 objects_lead live head front (name ∷ names) before [] few same room is apart fits keeps = absurd (omega arith)
 objects_lead live head front (name ∷ names) before (o ∷ objects) few same room is apart fits keeps =
@@ -333,7 +333,7 @@ module _ (live : Bool) (n k : ℕ) (ns : List ℕ) (names : List (List ℕ)) (ob
   run_lead : Leads live start (head_lines (script_at n k ns names objects txs steps).config ++ object_lines names objects ++ map (tx_words names) txs ++ (codes "run" ∷ []) ∷ []) (at_stage stages.Steps (with_directory 1 n k ns) names objects txs [])
   run_lead =
       let declared = head_lines (script_at n k ns names objects txs steps).config ++ object_lines names objects in
-      rw append_assoc
+      rw (append_assoc declared (map (tx_words names) txs) ((codes "run" ∷ []) ∷ []))
       (leads_both live start _ _ declared (map (tx_words names) txs ++ (codes "run" ∷ []) ∷ []) declared_lead
       (all_txs_lead live (with_directory 1 n k ns) names objects txs settled fits.txs.few opened.live_txs fits.txs.each))
 
