@@ -1,4 +1,4 @@
-//! Scripts as text: reading them, with the first fault of what is no script, and printing them.
+//! Scripts as text: reading them, with the first fault of what is no script.
 #![tactic(auto)]
 
 mod builder;
@@ -13,6 +13,8 @@ mod reader;
 mod reading;
 mod stage;
 mod steps;
+#[cfg(test)]
+mod tests;
 mod transactions;
 mod words;
 

@@ -124,6 +124,8 @@ pub fn read_script(alloc: Global, bytes: &[u8], live: bool) -> Result<Script, Re
     ensures found { IfOk result (λ s. IsSpelled bytes.now s × IsOpened live s) }
     // What is spelled so is read, unless memory ran out.
     ensures only { (s : Script) → IsSpelled bytes.now s → IsOpened live s → ReadsScript result (Ok s) }
+    // A fault is that of the first line that reading line by line does not take.
+    ensures fault { ReadsScript result (script_read live bytes.now) }
 {
     script_read(alloc, bytes, live)
 }
