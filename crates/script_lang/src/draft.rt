@@ -146,6 +146,7 @@ impl Draft {
             return Err(Failure::Kind(Kind::Long));
         }
         let (name, declared) = object_of(line, &self.head, &self.names)?;
+        // The check finds the type of the value only where it is named.
         let value: Value = declared.value;
         self.objects.push(ObjectDecl { value, ..declared })?;
         self.names.push(name)?;

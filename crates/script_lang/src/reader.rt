@@ -100,9 +100,9 @@ fn script_of(alloc: Global, draft: Draft) -> Result<Script, AllocError>
     })
 }
 
-/// The script that bytes are, or their first fault.
+/// Reads line by line.
 #[tactic(auto, unfolding(crate::specs::Reading::script_read, crate::specs::Reading::scripted, crate::specs::Reading::start))]
-fn script_read(alloc: Global, bytes: &[u8], live: bool) -> Result<Script, ReadScript>
+fn script_of_bytes(alloc: Global, bytes: &[u8], live: bool) -> Result<Script, ReadScript>
     ensures { ReadsScript result (script_read live bytes.now) }
 {
     if bytes.len() > MOST_BYTES {
@@ -118,6 +118,10 @@ fn script_read(alloc: Global, bytes: &[u8], live: bool) -> Result<Script, ReadSc
 ///
 /// Scripts of version 1 without the line of the degree are read; with `live` also none of more than 1,000 transactions
 /// and none with a step.
+///
+/// # Errors
+/// `Fault` with the first faulty line, and what is wrong with the first of its words that does not fit; `NoMemory` where
+/// memory was wanting.
 #[tactic(auto, using(crate::proofs::ReadSound::read_found, crate::proofs::ReadComplete::read_only))]
 pub fn read_script(alloc: Global, bytes: &[u8], live: bool) -> Result<Script, ReadScript>
     // What is read is spelled so.
@@ -127,5 +131,5 @@ pub fn read_script(alloc: Global, bytes: &[u8], live: bool) -> Result<Script, Re
     // A fault is that of the first line that reading line by line does not take.
     ensures fault { ReadsScript result (script_read live bytes.now) }
 {
-    script_read(alloc, bytes, live)
+    script_of_bytes(alloc, bytes, live)
 }

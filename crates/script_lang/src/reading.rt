@@ -1,4 +1,4 @@
-//! Reading a script.
+//! Why no script was read.
 ghost use Rattle.std.specs.Prelude.{◌≡◌};
 ghost use Rattle.zeus_model.specs.declared.fault.Kind.TheVariants as kinds;
 
@@ -10,6 +10,7 @@ use zeus_model::{Kind, ScriptFault};
 pub enum ReadScript {
     /// The bytes are no script.
     Fault(ScriptFault),
+    /// Memory was wanting.
     NoMemory,
 }
 
