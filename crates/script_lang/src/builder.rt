@@ -8,7 +8,7 @@ use std::marker::Model;
 use zeus_base::ObjId;
 use zeus_txn::{Op, Tx};
 
-// Whether the object is among these.
+/// Whether the object is among these.
 fn is_mentioned(seen: &[ObjId], object: ObjId) -> bool
     ensures { result ≡ mentions object seen.now }
 {

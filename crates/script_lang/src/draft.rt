@@ -30,7 +30,7 @@ const MOST_STEPS: usize = 50_000;
 
 /// What the lines so far say.
 #[derive(Drop)]
-pub struct Draft {
+pub(crate) struct Draft {
     pub stage: Stage,
     pub head: Head,
     pub names: NameIndex,
@@ -48,7 +48,7 @@ impl Draft {
 
     /// Before the first line.
     #[tactic(auto, unfolding(crate::specs::Reading::start))]
-    pub fn new(alloc: Global) -> Self
+    pub(crate) fn new(alloc: Global) -> Self
         ensures { state_of result ≡ start }
     {
         Draft {
@@ -271,7 +271,7 @@ impl Draft {
 
     /// The next line. Whether it was the last one.
     #[tactic(auto, unfolding(crate::specs::Drafts::line_taken, crate::specs::Drafts::more))]
-    pub fn take_line(&mut self, live: bool, line: &mut Parts) -> Result<bool, Failure>
+    pub(crate) fn take_line(&mut self, live: bool, line: &mut Parts) -> Result<bool, Failure>
         ensures { TakesLine result self.new (line_taken live (state_of self.old) self.old.stage line.old) }
     {
         match self.stage {

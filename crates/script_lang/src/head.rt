@@ -3,7 +3,7 @@ use zeus_base::NodeSet;
 
 /// The version, the ranges of nodes and slots, the directory, and the degree.
 #[derive(Clone, Copy, Debug)]
-pub struct Head {
+pub(crate) struct Head {
     pub version: u8,
     pub nodes: u8,
     pub slots: u8,

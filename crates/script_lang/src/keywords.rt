@@ -5,7 +5,7 @@ ghost use Rattle.script_lang.specs.Steps.{step_word_of};
 
 /// The word of an operation.
 #[derive(Clone, Copy, Debug, PartialEq, Eq)]
-pub enum OpWord {
+pub(crate) enum OpWord {
     Get,
     Put,
     Add,
@@ -15,7 +15,7 @@ pub enum OpWord {
 
 /// The word of a step.
 #[derive(Clone, Copy, Debug, PartialEq, Eq)]
-pub enum StepWord {
+pub(crate) enum StepWord {
     Begin,
     Try,
     Deliver,
@@ -27,7 +27,7 @@ pub enum StepWord {
 
 /// The operation that a word begins; `same` from version 2 on.
 #[tactic(auto, unfolding(crate::specs::Operations::op_word_of))]
-pub fn op_word_of(word: &[u8], version: u8) -> Option<OpWord>
+pub(crate) fn op_word_of(word: &[u8], version: u8) -> Option<OpWord>
     ensures { result ≡ op_word_of version word.now }
 {
     if word == b"get".as_slice() {
@@ -47,7 +47,7 @@ pub fn op_word_of(word: &[u8], version: u8) -> Option<OpWord>
 
 /// The step that a word begins.
 #[tactic(auto, unfolding(crate::specs::Steps::step_word_of))]
-pub fn step_word_of(word: &[u8]) -> Option<StepWord>
+pub(crate) fn step_word_of(word: &[u8]) -> Option<StepWord>
     ensures { result ≡ step_word_of word.now }
 {
     if word == b"begin".as_slice() {

@@ -9,7 +9,7 @@ use zeus_model::{Name, Names};
 
 /// The names that were declared, each of them once, seen as their list in order.
 #[derive(Drop)]
-pub struct NameIndex {
+pub(crate) struct NameIndex {
     names: IndexSet<Name>,
 }
 
@@ -25,7 +25,7 @@ impl Model for NameIndex {
 
 impl NameIndex {
     /// No name.
-    pub fn new(alloc: Global) -> Self
+    pub(crate) fn new(alloc: Global) -> Self
         ensures { result ≡ [] }
     {
         NameIndex {
@@ -34,7 +34,7 @@ impl NameIndex {
     }
 
     /// How many there are.
-    pub fn len(&self) -> usize
+    pub(crate) fn len(&self) -> usize
         ensures count { result ≡ length self.now }
         ensures few { length self.now ≤ 256 }
     {
@@ -43,7 +43,7 @@ impl NameIndex {
 
     /// The place of a name, where it was declared.
     #[tactic(auto, using(crate::proofs::Naming::position_is_find))]
-    pub fn find(&self, name: &Name) -> Option<usize>
+    pub(crate) fn find(&self, name: &Name) -> Option<usize>
         ensures place { result ≡ find self.now name.now }
         ensures within { IfSome result (λ place. place < length self.now) }
         ensures few { length self.now ≤ 256 }
@@ -53,7 +53,7 @@ impl NameIndex {
 
     /// Adds a new name at the end.
     #[tactic(auto, using(crate::proofs::Naming::new_name))]
-    pub fn push(&mut self, name: Name) -> Result<(), AllocError>
+    pub(crate) fn push(&mut self, name: Name) -> Result<(), AllocError>
         requires new { find self.old name ≡ None }
         requires room { length self.old < 256 }
         ensures { OnOk result (self.new ≡ self.old ++ name ∷ []) }
@@ -63,7 +63,7 @@ impl NameIndex {
     }
 
     /// The names as a list of their own.
-    pub fn to_names(&self, alloc: Global) -> Result<Names, AllocError>
+    pub(crate) fn to_names(&self, alloc: Global) -> Result<Names, AllocError>
         ensures { IfOk result (λ names. names ≡ self.now) }
     {
         Ok(Names::from_vec(Vec::from_slice(alloc, self.names.as_slice())?))

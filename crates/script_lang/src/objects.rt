@@ -25,7 +25,7 @@ fn new_name_of(word: &[u8], names: &NameIndex) -> Result<Name, Kind>
 
 /// The object of the words behind `object`: a new name, a value, the owner, and further replicas.
 #[tactic(auto, unfolding(crate::specs::Objects::object_at))]
-pub fn object_of(
+pub(crate) fn object_of(
     words: &mut Parts,
     head: &Head,
     names: &NameIndex,

@@ -5,14 +5,14 @@ ghost use Rattle.script_lang.specs.Drafts.{version_of};
 use zeus_model::Kind;
 
 /// The newest version of scripts that is read.
-pub const LATEST_VERSION: u8 = 1;
+pub(crate) const LATEST_VERSION: u8 = 1;
 
 /// Whether the line of the degree is read.
-pub const READS_DEGREE: bool = false;
+pub(crate) const READS_DEGREE: bool = false;
 
 /// The version that a word is.
 #[tactic(auto, unfolding(crate::specs::Drafts::version_of))]
-pub fn version_of(word: &[u8]) -> Result<u8, Kind>
+pub(crate) fn version_of(word: &[u8]) -> Result<u8, Kind>
     ensures { result ≡ version_of word.now }
 {
     if word == b"1".as_slice() {

@@ -6,7 +6,7 @@ use zeus_model::Kind;
 
 /// Which line may come next.
 #[derive(Clone, Copy, Debug, PartialEq, Eq)]
-pub enum Stage {
+pub(crate) enum Stage {
     /// The first line, with the version.
     Version,
     Nodes,
@@ -24,7 +24,7 @@ pub enum Stage {
 
 /// Why a line was not taken.
 #[derive(Debug, Drop)]
-pub enum Failure {
+pub(crate) enum Failure {
     Kind(Kind),
     NoMemory,
 }

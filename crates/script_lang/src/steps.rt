@@ -11,7 +11,12 @@ use zeus_model::Kind;
 
 /// The step of its word and the numbers behind it.
 #[tactic(auto, unfolding(crate::specs::Steps::step_at))]
-pub fn step_of(words: &mut Parts, word: StepWord, head: &Head, txs: u32) -> Result<Step, Kind>
+pub(crate) fn step_of(
+    words: &mut Parts,
+    word: StepWord,
+    head: &Head,
+    txs: u32,
+) -> Result<Step, Kind>
     requires nodes { head.now.nodes ≤ 8 }
     requires slots { head.now.slots ≤ 8 }
     ensures { result ≡ step_at head.now.nodes head.now.slots txs word words.old }

@@ -45,8 +45,9 @@ fn check(
 
 #[test]
 fn two_nodes(rt: HostRuntime) {
-    let text =
-        "zeus 1\nnodes 2\nslots 1\ndirectory 0\nobject x 5 0 1\ntx 0 0 add x 3\ntx 1 0 get x\nrun\nbegin 0\ntry 0 0\ndeliver 0 1 0\ndeliver 1 0 0\nbegin 1\ntry 1 0\ntick 0\ndeliver 0 1 2\ntry 1 0\nend\n";
+    let text = "zeus 1\nnodes 2\nslots 1\ndirectory 0\nobject x 5 0 1\ntx 0 0 add x 3\n\
+        tx 1 0 get x\nrun\nbegin 0\ntry 0 0\ndeliver 0 1 0\ndeliver 1 0 0\nbegin 1\n\
+        try 1 0\ntick 0\ndeliver 0 1 2\ntry 1 0\nend\n";
     let script = script(&rt, rt.alloc(), text.as_bytes());
     assert_eq!(rt; script.config.version, 1);
     assert_eq!(rt; script.config.nodes, 2);
@@ -74,8 +75,11 @@ fn two_nodes(rt: HostRuntime) {
 
 #[test]
 fn each_operation_and_each_step(rt: HostRuntime) {
-    let text =
-        "zeus 1\nnodes 8\nslots 2\ndirectory 0 3 7\nobject x 0 3 0\nobject y_2 18446744073709551615 0\ntx 0 0 get x\ntx 7 1 after 0 put y_2 7 ; add x 1 ; need x 0 ; get y_2\nrun\nbegin 1\ntry 7 1\ndeliver 7 7 4294967295\ntick 2\nstop 0\nview 1 7\nview\ninstall 7 4294967295\nend\n";
+    let text = "zeus 1\nnodes 8\nslots 2\ndirectory 0 3 7\nobject x 0 3 0\n\
+        object y_2 18446744073709551615 0\ntx 0 0 get x\n\
+        tx 7 1 after 0 put y_2 7 ; add x 1 ; need x 0 ; get y_2\nrun\nbegin 1\ntry 7 1\n\
+        deliver 7 7 4294967295\ntick 2\nstop 0\nview 1 7\nview\ninstall 7 4294967295\n\
+        end\n";
     let script = script(&rt, rt.alloc(), text.as_bytes());
     assert_eq!(rt; script.config.directory, set(0b1000_1001));
     let x = ObjectDecl {

@@ -109,7 +109,7 @@ fn after(words: &mut Parts, number: u32) -> Result<Option<TxId>, Kind>
 
 /// The transaction of number `number`, of the words behind `tx`.
 #[tactic(auto, unfolding(crate::specs::Transactions::tx_at))]
-pub fn tx_of(
+pub(crate) fn tx_of(
     words: &mut Parts,
     alloc: Global,
     head: &Head,

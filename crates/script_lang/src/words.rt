@@ -56,7 +56,7 @@ fn range_of(word: &[u8], lowest: u64, limit: u64) -> Result<u64, Kind>
 
 /// The name that a word is.
 #[tactic(auto, using(crate::proofs::Naming::is_name_Decides), unfolding(crate::specs::Names::name_of_word))]
-pub fn name_of(word: &[u8]) -> Result<Name, Kind>
+pub(crate) fn name_of(word: &[u8]) -> Result<Name, Kind>
     ensures { result ≡ name_of_word word.now }
 {
     Name::new(word).ok_or(Kind::Name)
@@ -111,7 +111,7 @@ fn is_owner(owner: Option<NodeId>, node: NodeId) -> bool
 
 /// What a list of nodes keeps.
 #[derive(Clone, Copy, Debug)]
-pub struct NodeRule {
+pub(crate) struct NodeRule {
     /// How many nodes there are.
     pub nodes: u8,
     /// How many may be listed, where that is bounded.
@@ -139,7 +139,7 @@ fn listed_of(word: &[u8], rule: &NodeRule, listed: NodeSet, lowest: u8) -> Resul
 impl<'a> Parts<'a> {
     /// The next word.
     #[tactic(auto, unfolding(crate::specs::Reads::word_at))]
-    pub fn word(&mut self) -> Result<&'a [u8], Kind>
+    pub(crate) fn word(&mut self) -> Result<&'a [u8], Kind>
         ensures { ReadsWord result self.new (word_at self.old) }
     {
         match self.next_part() {
@@ -150,7 +150,7 @@ impl<'a> Parts<'a> {
 
     /// Whether the line ends here.
     #[tactic(auto, unfolding(crate::specs::Reads::ended))]
-    pub fn end(&mut self) -> Result<(), Kind>
+    pub(crate) fn end(&mut self) -> Result<(), Kind>
         ensures { result ≡ ended self.old }
     {
         match self.next_part() {
@@ -161,7 +161,7 @@ impl<'a> Parts<'a> {
 
     /// The next word as a number.
     #[tactic(auto, unfolding(crate::specs::Numbers::number_at))]
-    pub fn number(&mut self) -> Result<u64, Kind>
+    pub(crate) fn number(&mut self) -> Result<u64, Kind>
         ensures { Reads result self.new (number_at self.old) }
     {
         match number_of(self.word()?) {
@@ -172,7 +172,7 @@ impl<'a> Parts<'a> {
 
     /// The next word as a number from the lowest on and below the limit.
     #[tactic(auto, unfolding(crate::specs::Numbers::range_at))]
-    pub fn number_in(&mut self, lowest: u64, limit: u64) -> Result<u64, Kind>
+    pub(crate) fn number_in(&mut self, lowest: u64, limit: u64) -> Result<u64, Kind>
         ensures number { Reads result self.new (range_at lowest limit self.old) }
         ensures range { IfOk result (λ n. (lowest ≤ n) × (n < limit)) }
     {
@@ -181,14 +181,14 @@ impl<'a> Parts<'a> {
 
     /// The next word as a value.
     #[tactic(auto, unfolding(crate::specs::Values::value_at))]
-    pub fn value(&mut self, version: u8) -> Result<Value, Kind>
+    pub(crate) fn value(&mut self, version: u8) -> Result<Value, Kind>
         ensures { Reads result self.new (value_at version self.old) }
     {
         value_of(self.word()?, version)
     }
 
     /// The next word as a node of so many.
-    pub fn node(&mut self, nodes: u8) -> Result<NodeId, Kind>
+    pub(crate) fn node(&mut self, nodes: u8) -> Result<NodeId, Kind>
         requires { nodes ≤ 8 }
         ensures number { Reads result self.new (range_at 0 nodes self.old) }
         ensures range { IfOk result (λ n. n < nodes) }
@@ -197,7 +197,7 @@ impl<'a> Parts<'a> {
     }
 
     /// The next word as a slot of so many.
-    pub fn slot(&mut self, slots: u8) -> Result<SlotId, Kind>
+    pub(crate) fn slot(&mut self, slots: u8) -> Result<SlotId, Kind>
         requires { slots ≤ 8 }
         ensures number { Reads result self.new (range_at 0 slots self.old) }
         ensures range { IfOk result (λ s. s < slots) }
@@ -206,7 +206,7 @@ impl<'a> Parts<'a> {
     }
 
     /// The nodes of a list, to the end of the line.
-    pub fn nodes(&mut self, rule: &NodeRule) -> Result<NodeSet, Kind>
+    pub(crate) fn nodes(&mut self, rule: &NodeRule) -> Result<NodeSet, Kind>
         requires { rule.now.nodes ≤ 8 }
         ensures { result ≡ nodes_after rule.now.nodes rule.now.most rule.now.owner [] 0 self.old }
     {
@@ -222,7 +222,7 @@ impl<'a> Parts<'a> {
 
     /// Takes the next word where it is this keyword.
     #[tactic(auto, unfolding(crate::specs::Reads::word_if))]
-    pub fn take_if(&mut self, keyword: &[u8]) -> bool
+    pub(crate) fn take_if(&mut self, keyword: &[u8]) -> bool
         ensures { (result, self.new) ≡ word_if keyword.now self.old }
     {
         match self.peek() {
@@ -236,7 +236,7 @@ impl<'a> Parts<'a> {
 
     /// Takes the next word, which is to be this keyword.
     #[tactic(auto, unfolding(crate::specs::Reads::keyword_at))]
-    pub fn keyword(&mut self, keyword: &[u8]) -> Result<(), Kind>
+    pub(crate) fn keyword(&mut self, keyword: &[u8]) -> Result<(), Kind>
         ensures { Reads result self.new (keyword_at keyword.now self.old) }
     {
         if self.word()? == keyword {
