@@ -1,12 +1,14 @@
 //! From the words of the command line and the bytes of a source to the bytes of a sink.
-ghost use Rattle.std.specs.Prelude.{◌≡◌, ◌≤◌, ◌⊎◌, ◌↔◌, IsTrue, IfOk, IsErr, IsErrOf, MatchOption, Some, Ok};
+ghost use Rattle.std.specs.Prelude.{◌≡◌, ◌≤◌, ◌⊎◌, ◌↔◌, ℕ, IsTrue, IfOk, IsErr, IsErrOf, MatchOption, Some, Ok, take};
 ghost use Rattle.std.specs.Io.KnownBytes.{Appends};
 ghost use Rattle.zeus_io.specs.Bytes.{AppendsFront};
 ghost use Rattle.zeus_io.specs.Faults.{Rose};
 ghost use Rattle.zeus_model.specs.FirstRange.{IsFirstRange};
-ghost use Rattle.zeus_model.specs.ReportText.{report};
+ghost use Rattle.zeus_model.specs.ReportText.{report, start_of};
 ghost use Rattle.zeus_model.specs.Scripts.{FitsScript, IsScript, IsSpelled};
+ghost use Rattle.zeus_model.specs.Sound.{Sound};
 ghost use Rattle.zeus_model.specs.Spelling.{spelling};
+ghost use Rattle.zeus_model.specs.World.{run};
 ghost use Rattle.zeus_model.specs.declared.script.Script.{Script as ScriptData};
 ghost use Rattle.zeus_cli.specs.Top.{AsksRun, TakesScript, TakesNoScript, IsNoFirstScript, IsFirstScript, IsReport, IsDue, Writes, WritesFront, usage_line, no_script_line};
 ghost use Rattle.zeus_cli.specs.Output.{Fits, IsWritten};
@@ -15,6 +17,7 @@ use crate::first_range::is_first_range;
 use crate::output::Output;
 use crate::pending::World;
 use script_lang::{ReadScript, read_script};
+use soundness::every_run_is_sound;
 use std::alloc::Global;
 use zeus_base::NoMemory;
 use zeus_io::{ReadEnd, Sink, Source, Status, WriteFault, read_all, write_all};
@@ -127,6 +130,11 @@ pub fn zeus_top<S: Source, K: Sink>(
     sink: &mut K,
 ) -> Status
     ensures done { result ≡ Status.Done → AsksRun words.now.items × Writes (K.held sink.old) (K.held sink.new) (IsReport (S.left source.old) (S.left source.new)) }
+
+    // The run that is reported: its world is sound at the start, after each step, and at the end.
+    ensures sound { result ≡ Status.Done → (s : ScriptData) → TakesScript (S.left source.old) (S.left source.new) s → (k : ℕ) → Sound (run (start_of s) (take k s.steps)) }
+
+    // Other bytes and other words.
     ensures script { result ≡ Status.Script → AsksRun words.now.items × TakesNoScript (S.left source.old) (S.left source.new) × Appends (K.held sink.old) (K.held sink.new) no_script_line }
     ensures usage { result ≡ Status.Usage → (¬ AsksRun words.now.items) × Appends (K.held sink.old) (K.held sink.new) usage_line }
     ensures unfinished { ¬ (result ≡ Status.Unfinished) }
@@ -140,6 +148,8 @@ pub fn zeus_top<S: Source, K: Sink>(
     ensures other_words { ¬ AsksRun words.now.items → (source.new ≡ source.old) × ((result ≡ Status.Usage) ⊎ (result ≡ Status.WriteFault)) }
     ensures complete { (s : ScriptData) → AsksRun words.now.items → S.left source.old ≡ Some (spelling s) → IsScript s → IsFirstRange s → ¬ Rose (S.faults source.old) (S.faults source.new) → ¬ Rose (K.faults sink.old) (K.faults sink.new) → (result ≡ Status.Done) ⊎ (result ≡ Status.OutOfMemory) }
 {
+    // The theorem over every run. The call does nothing.
+    every_run_is_sound();
     match answer(alloc, words, source) {
         Ok(output) => write(sink, &output),
         Err(Halt::ReadFault) => Status::ReadFault,
