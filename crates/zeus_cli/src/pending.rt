@@ -36,7 +36,11 @@ impl<'a> Model for World<'a> {
 
 impl<'a> World<'a> {
     /// The world at the start.
-    pub(crate) fn start(_alloc: Global, config: &'a Config, txs: &'a TxList) -> Result<World<'a>, NoMemory>
+    pub(crate) fn start(
+        _alloc: Global,
+        config: &'a Config,
+        txs: &'a TxList,
+    ) -> Result<World<'a>, NoMemory>
         requires limits { KeepsLimits config.now }
         requires txs { FitsTxs config.now txs.now }
         requires range { IsFirstRun config.now txs.now }
