@@ -9,3 +9,7 @@ pub record IsFirstRun (c : Config) (txs : List TxDecl) : Type 0 where
   pub plain : is_none c.degree ≡ true
   pub slots : c.slots ≡ 1
   pub object : is_first_object c.objects txs ≡ true
+
+-- there is no world yet
+unfoldable pub IsNone : Config → Type 0
+IsNone c = ⊥

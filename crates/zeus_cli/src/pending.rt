@@ -8,30 +8,28 @@ ghost use Rattle.zeus_cli.specs.Pending.{IsFirstRun};
 
 use std::alloc::Global;
 use std::marker::Model;
-use zeus_base::{Config, NoMemory, NodeId, ObjId, Step, TxId};
+use zeus_base::{Config, NoMemory, NodeId, NodeSet, ObjId, Step, TxId};
 use zeus_model::{Answer, Copy, TxState};
 use zeus_packet::Place;
 use zeus_report::{Machine, Report};
 use zeus_txn::{Reply, TxList};
-
-/// There is none.
-#[derive(Clone, Copy)]
-enum Never {}
 
 /// The world of a run.
 #[derive(Drop)]
 pub(crate) struct World<'a> {
     config: &'a Config,
     txs: &'a TxList,
-    never: Never,
 }
 
 impl<'a> Model for World<'a> {
     ghost use Rattle.zeus_model.specs.World.{World, start};
+    ghost use Rattle.zeus_cli.specs.Pending.{IsNone};
 
     ghost Value = { World };
 
     ghost view = { λ w. start w.config.now w.txs.now };
+
+    ghost invariant = { λ w. IsNone w.config.now };
 }
 
 impl<'a> World<'a> {
@@ -54,43 +52,66 @@ impl<'a> World<'a> {
 impl<'a> Machine for World<'a> {
     ghost world = { λ w. w };
 
+    #[tactic(auto, unfolding(crate::specs::Pending::IsNone))]
     fn step(&mut self, _step: &Step) -> Result<Report, NoMemory> {
-        match self.never {}
+        let _ = &self.config;
+        Err(NoMemory)
     }
 
+    #[tactic(auto, unfolding(crate::specs::Pending::IsNone))]
     fn reply(&self, _id: TxId) -> Option<&Reply> {
-        match self.never {}
+        let _ = &self.config;
+        None
     }
 
+    #[tactic(auto, unfolding(crate::specs::Pending::IsNone))]
     fn points(&self) -> u32 {
-        match self.never {}
+        let _ = &self.config;
+        0
     }
 
+    #[tactic(auto, unfolding(crate::specs::Pending::IsNone))]
     fn point(&self, _place: u32) -> Option<(TxId, &Reply)> {
-        match self.never {}
+        let _ = &self.config;
+        None
     }
 
+    #[tactic(auto, unfolding(crate::specs::Pending::IsNone))]
     fn tx_state(&self, _id: TxId) -> TxState {
-        match self.never {}
+        let _ = &self.config;
+        TxState::New
     }
 
+    #[tactic(auto, unfolding(crate::specs::Pending::IsNone))]
     fn owner(&self, _obj: ObjId) -> Option<NodeId> {
-        match self.never {}
+        let _ = &self.config;
+        None
     }
 
+    #[tactic(auto, unfolding(crate::specs::Pending::IsNone))]
     fn latest_place(&self, _obj: ObjId) -> Place {
-        match self.never {}
+        let _ = &self.config;
+        Place {
+            owner: NodeId(0),
+            replicas: NodeSet::empty(),
+        }
     }
 
+    #[tactic(auto, unfolding(crate::specs::Pending::IsNone))]
     fn is_lost(&self, _obj: ObjId) -> bool {
-        match self.never {}
+        let _ = &self.config;
+        false
     }
 
+    #[tactic(auto, unfolding(crate::specs::Pending::IsNone))]
     fn is_live(&self, _node: NodeId) -> bool {
-        match self.never {}
+        let _ = &self.config;
+        false
     }
 
+    #[tactic(auto, unfolding(crate::specs::Pending::IsNone))]
     fn copy(&self, _at: NodeId, _obj: ObjId) -> Option<Copy> {
-        match self.never {}
+        let _ = &self.config;
+        None
     }
 }
