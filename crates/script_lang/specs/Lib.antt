@@ -1,0 +1,14 @@
+pub mod Cut
+pub mod Reads
+pub mod Numbers
+pub mod Names
+pub mod Values
+pub mod NodeLists
+pub mod Operations
+pub mod Steps
+pub mod Objects
+pub mod Transactions
+pub mod Drafts
+pub mod Reading
+pub mod Opened
+pub mod Gathered

@@ -1,0 +1,23 @@
+//! Scripts as text: reading them, with the first fault of what is no script.
+#![tactic(auto)]
+
+mod builder;
+mod draft;
+mod head;
+mod keywords;
+mod names;
+mod objects;
+mod opened;
+mod parts;
+mod reader;
+mod reading;
+mod stage;
+mod steps;
+#[cfg(test)]
+mod tests;
+mod transactions;
+mod words;
+
+pub use reader::read_script;
+pub use reading::ReadScript;
+pub use zeus_model::{Kind, Name, Names, Script, ScriptFault};

@@ -1,0 +1,71 @@
+-- What the program does with its words, its source and its sink.
+use Rattle.std.specs.Prelude.{ℕ, ◌≡◌, ◌<◌, ◌⊎◌, List, [], ◌∷◌, map, length, codes, string_bytes, Option, String}
+use Rattle.std.specs.Io.KnownBytes.{IsAtEnd, Appends}
+use Rattle.zeus_io.specs.Bytes.{Takes, AppendsFront}
+use Rattle.zeus_model.specs.declared.script.Script.{Script}
+use Rattle.zeus_model.specs.FirstRange.{IsFirstRange}
+use Rattle.zeus_model.specs.ReportText.{report}
+use Rattle.zeus_model.specs.Scripts.{IsSpelled}
+
+-- the line for words that the program does not know
+abbrev pub usage_line : List ℕ
+usage_line = codes "usage\n"
+
+-- the line for bytes that are no script that the program runs
+abbrev pub no_script_line : List ℕ
+no_script_line = codes "script 0 not yet\n"
+
+-- the longest script, in bytes
+abbrev pub longest : ℕ
+longest = 4194304
+
+-- the words are the one word `run`
+abbrev pub AsksRun : {A : Type 0} → List (String A) → Type 0
+AsksRun words = map string_bytes words ≡ codes "run" ∷ []
+
+-- these bytes are the text of a script of the first range
+pub record IsFirstScript (bytes : List ℕ) (s : Script) : Type 0 where
+  pub spelled : IsSpelled bytes s
+  pub in_range : IsFirstRange s
+
+-- these bytes are the text of no script of the first range
+abbrev pub IsNoFirstScript : List ℕ → Type 0
+IsNoFirstScript bytes = (s : Script) → ¬ IsFirstScript bytes s
+
+-- the source was read to its end, and the bytes taken are the text of this script
+pub record TakesScript (before after : Option (List ℕ)) (s : Script) : Type 0 where
+  pub to_end : IsAtEnd after
+  pub taken : Takes before after (λ taken. IsFirstScript taken s)
+
+-- these bytes are the text of no script of the first range, and are all that there were or more than a script can have
+pub record AreNoScript (after : Option (List ℕ)) (taken : List ℕ) : Type 0 where
+  pub whole : IsAtEnd after ⊎ (longest < length taken)
+  pub none : IsNoFirstScript taken
+
+abbrev pub TakesNoScript : Option (List ℕ) → Option (List ℕ) → Type 0
+TakesNoScript before after = Takes before after (AreNoScript after)
+
+-- a script was taken, and its report is this text
+pub record IsReport (before after : Option (List ℕ)) (text : List ℕ) : Type 0 where
+  pub script : Script
+  pub taken : TakesScript before after script
+  pub text_is : text ≡ report script
+
+-- what is to be written
+unfoldable pub IsDue : {A : Type 0} → List (String A) → Option (List ℕ) → Option (List ℕ) → List ℕ → Type 0
+IsDue words before after text =
+    ((¬ AsksRun words) × (text ≡ usage_line))
+    ⊎ (AsksRun words × TakesNoScript before after × (text ≡ no_script_line))
+    ⊎ (AsksRun words × IsReport before after text)
+
+-- a text was written whole, behind what the sink held
+pub record Writes (before after : Option (List ℕ)) (P : List ℕ → Type 0) : Type 0 where
+  pub text : List ℕ
+  pub written : Appends before after text
+  pub is_so : P text
+
+-- the front of a text was written, and not all of it
+pub record WritesFront (before after : Option (List ℕ)) (P : List ℕ → Type 0) : Type 0 where
+  pub text : List ℕ
+  pub written : AppendsFront before after text
+  pub is_so : P text

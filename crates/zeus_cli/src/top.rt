@@ -1,0 +1,158 @@
+//! From the words of the command line and the bytes of a source to the bytes of a sink.
+ghost use Rattle.std.specs.Prelude.{◌≡◌, ◌≤◌, ◌⊎◌, ◌↔◌, ℕ, IsTrue, IfOk, IsErr, IsErrOf, MatchOption, Some, Ok, take};
+ghost use Rattle.std.specs.Io.KnownBytes.{Appends};
+ghost use Rattle.zeus_io.specs.Bytes.{AppendsFront};
+ghost use Rattle.zeus_io.specs.Faults.{Rose};
+ghost use Rattle.zeus_model.specs.FirstRange.{IsFirstRange};
+ghost use Rattle.zeus_model.specs.ReportText.{report, start_of};
+ghost use Rattle.zeus_model.specs.Scripts.{FitsScript, IsScript, IsSpelled};
+ghost use Rattle.zeus_model.specs.Sound.{Sound};
+ghost use Rattle.zeus_model.specs.Spelling.{spelling};
+ghost use Rattle.zeus_model.specs.World.{run};
+ghost use Rattle.zeus_model.specs.declared.script.Script.{Script as ScriptData};
+ghost use Rattle.zeus_cli.specs.Top.{AsksRun, TakesScript, TakesNoScript, IsNoFirstScript, IsFirstScript, IsReport, IsDue, Writes, WritesFront, usage_line, no_script_line};
+ghost use Rattle.zeus_cli.specs.Output.{Fits, IsWritten};
+
+use crate::first_range::is_first_range;
+use crate::output::Output;
+use crate::pending::World;
+use script_lang::{ReadScript, read_script};
+use soundness::every_run_is_sound;
+use std::alloc::Global;
+use zeus_base::NoMemory;
+use zeus_io::{ReadEnd, Sink, Source, Status, WriteFault, read_all, write_all};
+use zeus_model::Script;
+use zeus_report::report;
+
+// The most bytes that a script may have.
+const LONGEST: usize = 4_194_304;
+
+// Why there is nothing to write.
+#[derive(Clone, Copy, Debug, PartialEq, Eq)]
+enum Halt {
+    ReadFault,
+    NoMemory,
+}
+
+impl From<NoMemory> for Halt {
+    ghost use Rattle.zeus_cli.specs.declared.top.Halt.TheVariants.{NoMemory as OutOfMemory};
+
+    ghost from_gives = { λ _ e. e ≡ OutOfMemory };
+
+    fn from(_: NoMemory) -> Self {
+        Halt::NoMemory
+    }
+}
+
+fn asks_run(words: &[String]) -> bool
+    ensures { IsTrue result ↔ AsksRun words.now }
+{
+    match words {
+        [word] => word.as_str() == "run",
+        _ => false,
+    }
+}
+
+// The script of the first range that these bytes spell, if they do.
+fn first_script(alloc: Global, bytes: &[u8]) -> Result<Option<Script>, NoMemory>
+    ensures { IfOk result (λ script. MatchOption script (IsNoFirstScript bytes.now) (IsFirstScript bytes.now)) }
+{
+    match read_script(alloc, bytes, false) {
+        Ok(script) if is_first_range(&script) => Ok(Some(script)),
+        Ok(_) => Ok(None),
+        Err(ReadScript::Fault(_)) => Ok(None),
+        Err(ReadScript::NoMemory) => Err(NoMemory),
+    }
+}
+
+// The script of the first range that the source gives, if it gives one.
+fn read<S: Source>(alloc: Global, source: &mut S) -> Result<Option<Script>, Halt>
+    ensures script { IfOk result (λ script. MatchOption script (TakesNoScript (S.left source.old) (S.left source.new)) (TakesScript (S.left source.old) (S.left source.new))) }
+    ensures fault { IsErrOf result Halt.ReadFault → Rose (S.faults source.old) (S.faults source.new) }
+    ensures later { S.faults source.old ≤ S.faults source.new }
+{
+    match read_all(alloc, source, LONGEST) {
+        Ok(bytes) => Ok(first_script(alloc, &bytes)?),
+        Err(ReadEnd::TooLong) => Ok(None),
+        Err(ReadEnd::ReadFault) => Err(Halt::ReadFault),
+        Err(ReadEnd::NoMemory) => Err(Halt::NoMemory),
+    }
+}
+
+// The report of the run of a script, in a world of its own.
+fn report_of(alloc: Global, script: &Script) -> Result<Vec<u8>, NoMemory>
+    requires fits { FitsScript script.now }
+    requires range { IsFirstRange script.now }
+    ensures { IfOk result (λ text. text.items ≡ report script.now) }
+{
+    let mut world = World::start(alloc, &script.config, &script.txs)?;
+    report(alloc, &mut world, script)
+}
+
+// What is to be written, made whole.
+fn answer<S: Source>(alloc: Global, words: &[String], source: &mut S) -> Result<Output, Halt>
+    ensures ok { IfOk result (Fits words.now (S.left source.old) (S.left source.new)) }
+    ensures other_words { ¬ AsksRun words.now → (source.new ≡ source.old) × (result ≡ Ok Output.Usage) }
+    ensures asked { IsErr result → AsksRun words.now }
+    ensures fault { IsErrOf result Halt.ReadFault → Rose (S.faults source.old) (S.faults source.new) }
+    ensures later { S.faults source.old ≤ S.faults source.new }
+{
+    if !asks_run(words) {
+        return Ok(Output::Usage);
+    }
+    match read(alloc, source)? {
+        None => Ok(Output::NoScript),
+        Some(script) => {
+            let text = report_of(alloc, &script)?;
+            Ok(Output::Report(text))
+        }
+    }
+}
+
+fn write<K: Sink>(sink: &mut K, output: &Output) -> Status
+    ensures { IsWritten (K.held sink.old) (K.held sink.new) (K.faults sink.old) (K.faults sink.new) output.now result }
+{
+    match write_all(sink, output.text()) {
+        Ok(()) => output.status(),
+        Err(WriteFault) => Status::WriteFault,
+    }
+}
+
+/// The program `zeus`. With the one word `run` it reads a script from the source and writes the report of its run to the
+/// sink; other words give the line `usage`, and bytes that are no script of the first range the line `script 0 not yet`.
+/// The text is made whole before it is written, and writing takes no memory.
+///
+/// The source is read to its end, or past 4,194,304 bytes. Where memory ran out nothing is written; nothing says when.
+pub fn zeus_top<S: Source, K: Sink>(
+    alloc: Global,
+    words: &Vec<String>,
+    source: &mut S,
+    sink: &mut K,
+) -> Status
+    ensures done { result ≡ Status.Done → AsksRun words.now.items × Writes (K.held sink.old) (K.held sink.new) (IsReport (S.left source.old) (S.left source.new)) }
+
+    // The run that is reported: its world is sound at the start, after each step, and at the end.
+    ensures sound { result ≡ Status.Done → (s : ScriptData) → TakesScript (S.left source.old) (S.left source.new) s → (k : ℕ) → Sound (run (start_of s) (take k s.steps)) }
+
+    // Other bytes and other words.
+    ensures script { result ≡ Status.Script → AsksRun words.now.items × TakesNoScript (S.left source.old) (S.left source.new) × Appends (K.held sink.old) (K.held sink.new) no_script_line }
+    ensures usage { result ≡ Status.Usage → (¬ AsksRun words.now.items) × Appends (K.held sink.old) (K.held sink.new) usage_line }
+    ensures unfinished { ¬ (result ≡ Status.Unfinished) }
+
+    // A fault is answered only where it rose in this call.
+    ensures read_fault { result ≡ Status.ReadFault → Rose (S.faults source.old) (S.faults source.new) × (sink.new ≡ sink.old) }
+    ensures write_fault { result ≡ Status.WriteFault → Rose (K.faults sink.old) (K.faults sink.new) × WritesFront (K.held sink.old) (K.held sink.new) (IsDue words.now.items (S.left source.old) (S.left source.new)) }
+    ensures memory { result ≡ Status.OutOfMemory → AsksRun words.now.items × (sink.new ≡ sink.old) }
+
+    // Other words leave the source alone; a script is answered by its report.
+    ensures other_words { ¬ AsksRun words.now.items → (source.new ≡ source.old) × ((result ≡ Status.Usage) ⊎ (result ≡ Status.WriteFault)) }
+    ensures complete { (s : ScriptData) → AsksRun words.now.items → S.left source.old ≡ Some (spelling s) → IsScript s → IsFirstRange s → ¬ Rose (S.faults source.old) (S.faults source.new) → ¬ Rose (K.faults sink.old) (K.faults sink.new) → (result ≡ Status.Done) ⊎ (result ≡ Status.OutOfMemory) }
+{
+    // The theorem over every run. The call does nothing.
+    every_run_is_sound();
+    match answer(alloc, words, source) {
+        Ok(output) => write(sink, &output),
+        Err(Halt::ReadFault) => Status::ReadFault,
+        Err(Halt::NoMemory) => Status::OutOfMemory,
+    }
+}
