@@ -1,13 +1,13 @@
 -- A world at the start of a run.
-use Rattle.std.proofs.Common.{ℕ, zero, suc, ◌≡◌, ◌<◌, ◌≤◌, ◌+◌, ◌++◌, List, [], ◌∷◌, None, length, map, replicate, refl, sym, ap, ◌∙◌, arith}
+use Rattle.std.proofs.Common.{ℕ, zero, suc, ◌≡◌, ◌<◌, ◌+◌, ◌++◌, List, [], ◌∷◌, length, map, replicate, refl, ap, ◌∙◌, arith}
 use Rattle.std.specs.List.{All}
 use Rattle.zeus_base.specs.declared.config.Config.{Config}
 use Rattle.zeus_packet.specs.declared.letter.Letter.{Letter}
 use Rattle.zeus_txn.specs.declared.tx.TxDecl.{TxDecl}
 use Rattle.zeus_model.specs.Book.{Book, no_record}
-use Rattle.zeus_model.specs.State.{Node, no_slot, slot}
+use Rattle.zeus_model.specs.State.{Node, no_slot}
 use Rattle.zeus_model.specs.Tables.{below, nth, numbers_from}
-use Rattle.zeus_model.specs.World.{World, link, no_node, start, start_copy, start_node}
+use Rattle.zeus_model.specs.World.{no_node, start, start_copy, start_node}
 use Rattle.zeus_node.specs.FirstNode.{IsFirstLetter, IsIdBelow}
 use Rattle.zeus_world.specs.FirstWorld.{AreLinksOf, AreNodesOf, CanStart, IsFirstWorld, IsNodeOf}
 use Rattle.zeus_world.specs.Links.{LinkState, letters, letters_of, no_link, row_letters}

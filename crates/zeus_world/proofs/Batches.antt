@@ -1,14 +1,14 @@
 -- Letters of one sender put on their links one after another.
-use Rattle.std.proofs.Common.{ℕ, zero, suc, ◌≡◌, ◌<◌, ◌≤◌, ◌+◌, List, [], ◌∷◌, ◌++◌, length, drop, get_or, refl, sym, ap, ◌∙◌, subst, add-one, append_assoc, append-nil, arith}
+use Rattle.std.proofs.Common.{ℕ, zero, suc, ◌≡◌, ◌<◌, ◌≤◌, ◌+◌, List, [], ◌∷◌, ◌++◌, length, drop, get_or, refl, sym, ap, ◌∙◌, add-one, append_assoc, append-nil, arith}
 use Rattle.std.proofs.Math.Seq.{drop-cons}
 use Rattle.zeus_base.specs.TableLaws.{length-put, nth-put_same}
 use Rattle.zeus_packet.specs.declared.letter.Letter.{Letter}
 use Rattle.zeus_packet.specs.declared.letter.Packet.{Packet}
 use Rattle.zeus_model.specs.Tables.{nth}
 use Rattle.zeus_model.specs.World.{all_posted, link, packets, posted}
-use Rattle.zeus_world.specs.Links.{LinkState, letters, no_link, room, row_letters, letters_of, HasRoom, IsLink}
+use Rattle.zeus_world.specs.Links.{LinkState, letters, room, row_letters, HasRoom, IsLink}
 use Rattle.zeus_world.specs.Posting.{AreFrom, CanPost}
-use Rattle.zeus_world.proofs.Sending.{letters-nth, row_letters-nth}
+use Rattle.zeus_world.proofs.Sending.{letters-nth}
 
 pub length-letters : (rows : List (List LinkState)) → length (letters rows) ≡ length rows
 unfolding letters

@@ -1,11 +1,11 @@
 -- The nodes of the first range while one of them acts.
-use Rattle.std.proofs.Common.{ℕ, zero, suc, ◌≡◌, ◌<◌, ◌≤◌, List, [], ◌∷◌, length, map, refl, sym, ap, ◌∙◌, arith}
-use Rattle.std.proofs.Math.ListN.{get_or, set}
+use Rattle.std.proofs.Common.{ℕ, zero, suc, ◌<◌, List, [], ◌∷◌, length, ◌∙◌, arith}
+use Rattle.std.proofs.Math.ListN.{set}
 use Rattle.zeus_base.specs.declared.config.Config.{Config}
-use Rattle.zeus_model.specs.State.{Node, slot}
+use Rattle.zeus_model.specs.State.{Node}
 use Rattle.zeus_model.specs.Tables.{nth}
 use Rattle.zeus_model.specs.World.{no_node}
-use Rattle.zeus_node.specs.FirstNode.{BeginsFrame, IsIdBelow, KeepsFrame}
+use Rattle.zeus_node.specs.FirstNode.{BeginsFrame, KeepsFrame}
 use Rattle.zeus_world.specs.FirstWorld.{AreNodesOf, IsNodeOf}
 use Rattle.zeus_world.proofs.Sending.{length-set}
 

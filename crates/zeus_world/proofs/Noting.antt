@@ -1,9 +1,9 @@
 -- What a try's answer does to the book, by the words of the machine.
-use Rattle.std.proofs.Common.{ℕ, suc, ◌≡◌, ◌≢◌, ◌<◌, ◌++◌, Bool, true, false, List, [], ◌∷◌, Option, Some, None, length, refl, sym, ap, ◌∙◌, append-nil}
+use Rattle.std.proofs.Common.{ℕ, ◌≡◌, ◌≢◌, ◌<◌, ◌++◌, true, List, Option, Some, None, length, refl, sym, ◌∙◌, append-nil}
 use Rattle.zeus_base.specs.TableLaws.{length-put}
 use Rattle.zeus_base.specs.declared.order.Stream.{Stream}
 use Rattle.zeus_txn.specs.declared.reply.Reply.{Reply}
-use Rattle.zeus_model.specs.Book.{Book, BookChange, book_ack, book_commit, book_point, book_read, book_refuse, book_reply, book_tried, change_then, no_record}
+use Rattle.zeus_model.specs.Book.{Book, BookChange, book_commit, book_point, book_read, book_refuse, book_reply, book_tried, change_then, no_record}
 use Rattle.zeus_model.specs.declared.answer.Tried.{Tried}
 use Rattle.zeus_model.specs.declared.answer.Tried.TheVariants.{Stopped, Nothing, NoCopy, NotValid, Read, PipeFull, NotOwner, Held, WornOut, Committed}
 use Rattle.zeus_world.specs.Books.{listed}

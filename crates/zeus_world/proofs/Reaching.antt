@@ -1,5 +1,5 @@
 -- Steps from world to world.
-use Rattle.std.proofs.Common.{ℕ, zero, suc, ◌≡◌, ◌<◌, ◌++◌, Bool, true, false, List, [], ◌∷◌, Option, Some, None, length, take, refl, sym, ap, ◌∙◌, subst, arith}
+use Rattle.std.proofs.Common.{ℕ, zero, suc, ◌≡◌, ◌++◌, true, List, [], ◌∷◌, Option, Some, None, length, take, refl, sym, ap, ◌∙◌, arith}
 use Rattle.std.specs.List.{All}
 use Rattle.std.proofs.lemmas.List.Elements.{All-append}
 use Rattle.std.proofs.Math.Seq.{take-length}
@@ -14,7 +14,7 @@ use Rattle.zeus_model.specs.FirstRange.{is_first_step}
 use Rattle.zeus_model.specs.Local.{try_slot}
 use Rattle.zeus_model.specs.Scripts.{FitsStep, FitsTxs}
 use Rattle.zeus_model.specs.Sound.{Sound}
-use Rattle.zeus_model.specs.World.{World, begin_or_not, begin_refused, begun_at, deliver_or_not, happens, link, node, nth_letter, received_at, run, start, step_begin, stepped, tried_at}
+use Rattle.zeus_model.specs.World.{World, begin_or_not, begin_refused, deliver_or_not, happens, link, node, nth_letter, received_at, run, start, step_begin, stepped, tried_at}
 use Rattle.std.specs.Prelude.{Result, Ok, Err, IfOk, OnErr}
 use Rattle.zeus_base.specs.declared.step.NoMemory.{NoMemory}
 use Rattle.zeus_report.specs.declared.machine.Report.{Report}

@@ -4,13 +4,12 @@ use Rattle.std.specs.Prelude.{if◌then◌else◌}
 use Rattle.zeus_txn.specs.Ops.{named, written, is_write}
 use Rattle.zeus_txn.specs.declared.ops.Op.{Op}
 use Rattle.zeus_txn.specs.declared.reply.Ran.{Ran}
-use Rattle.zeus_packet.specs.declared.write.Write.{Write}
 use Rattle.zeus_model.specs.declared.answer.Tried.{Tried}
 use Rattle.zeus_model.specs.declared.answer.Tried.TheVariants.{Stopped, Nothing, NoCopy, NotValid, Read, PipeFull, NotOwner, Held, WornOut, Committed}
 use Rattle.zeus_model.specs.declared.state.Current.{Current}
 use Rattle.zeus_model.specs.Act.{Did, just}
 use Rattle.zeus_model.specs.Local.{Hindrance, Missing, Unready, commit, commit_entry, full_cause, held_elsewhere, hindrance, holder_cause, owner_cause, read_missing, read_row, run_here, try_current, try_slot, worn_cause, write_cause, write_row}
-use Rattle.zeus_model.specs.State.{Node, Slot, slot}
+use Rattle.zeus_model.specs.State.{Node, slot}
 use Rattle.zeus_model.specs.Tables.{first_of, or_else, where_true}
 use Rattle.zeus_node.specs.FirstNode.{IsIdBelow}
 use Rattle.zeus_world.specs.Tries.{IsOfBelow}

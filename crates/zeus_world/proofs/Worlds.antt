@@ -1,5 +1,5 @@
 -- What steps make of a world, by the words of the machine.
-use Rattle.std.proofs.Common.{ℕ, zero, suc, ◌≡◌, ◌≢◌, ◌<◌, ◌≤◌, ◌+◌, ◌^◌, ◌++◌, Bool, true, false, List, [], ◌∷◌, Option, Some, None, is_some, length, map, take, refl, sym, ap, ◌∙◌, subst, arith}
+use Rattle.std.proofs.Common.{ℕ, ◌≡◌, ◌≢◌, ◌<◌, ◌^◌, true, false, List, [], Some, None, is_some, length, take, refl, ap, ◌∙◌, subst}
 use Rattle.std.proofs.Math.ListN.{get_or, set}
 use Rattle.zeus_base.specs.TableLaws.{length-put}
 use Rattle.zeus_base.specs.declared.config.Config.{Config}
@@ -20,11 +20,10 @@ use Rattle.zeus_model.specs.FirstRange.{is_first_step}
 use Rattle.zeus_model.specs.Scripts.{FitsStep}
 use Rattle.zeus_node.specs.FirstNode.{AreFirstLettersFrom, IsFirstTx}
 use Rattle.zeus_world.specs.Books.{BookState, IdsState, so_far}
-use Rattle.zeus_model.specs.Book.{Book, BookChange, book_begin, book_passes, book_tried, change_then, counted, in_stream_order, no_record, record_of, unchanged}
+use Rattle.zeus_model.specs.Book.{Book, BookChange, book_passes, book_tried, change_then, counted, in_stream_order, no_record, record_of, unchanged}
 use Rattle.zeus_model.specs.State.{Node}
-use Rattle.zeus_model.specs.Tables.{nth, or_else, put, where_true}
-use Rattle.zeus_model.specs.World.{Event, World, acted, all_posted, begin_or_not, begin_refused, begun_at, book_begun, cut, deliver_or_not, happens, node, no_node, no_tx, link, nth_letter, packets, received_at, refuse_step, step_begin, tried_at, tx_decl, waits_for}
-use Rattle.zeus_report.specs.Machines.{Reports}
+use Rattle.zeus_model.specs.Tables.{or_else, where_true}
+use Rattle.zeus_model.specs.World.{World, acted, all_posted, begin_or_not, begin_refused, begun_at, book_begun, deliver_or_not, happens, node, no_node, no_tx, link, nth_letter, packets, received_at, refuse_step, step_begin, tried_at, tx_decl, waits_for}
 use Rattle.zeus_report.specs.declared.machine.Report.{Report}
 use Rattle.zeus_world.specs.FirstWorld.{AreLinksOf, IsFirstWorld, IsNodeOf, IsTxOf}
 use Rattle.zeus_world.specs.Steps.{IsTaken}
@@ -43,7 +42,6 @@ node_read w n m h e = nth_read no_node w.nodes n m h e
 -- there is a node of each number
 pub node_there : (w : World) (n : ℕ) → IsFirstWorld w → n < w.config.nodes → n < length w.nodes
 node_there w n f h = rw (f.nodes.count) h
-
 
 -- ---- a begin that does not come to a node
 
@@ -132,7 +130,7 @@ pub begun_taken :
     → begun ≡ (begin m t.slot k t.tx).answer → after ≡ (begin m t.slot k t.tx).node → book ≡ counted (book_begun w.book k begun).book
     → r.answer ≡ BeginAnswer begun → r.points.items ≡ [] → r.acked.items ≡ [] → r.sent.items ≡ []
     → IsTaken r (left_by w t.node after w.links book)
-      (begun_at w k (tx_decl w k).node (begin (node w (tx_decl w k).node) (tx_decl w k).slot k (tx_decl w k).tx))
+    (begun_at w k (tx_decl w k).node (begin (node w (tx_decl w k).node) (tx_decl w k).slot k (tx_decl w k).tx))
 begun_taken w k t m after begun book r f h e g answers becomes books answer points acks packed =
     let tx = tx_of w k t f h e in
     let there = node_there w t.node f tx.node in

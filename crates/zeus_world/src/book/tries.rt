@@ -26,7 +26,14 @@ impl Book {
 
     /// The slot of the stream was tried with this answer: a committed transaction is an entry of the stream, one that was
     /// read has its point and its acknowledgement, and one without a copy is refused where there is no degree.
-    pub fn note_tried(&mut self, stream: &Stream, degree: Option<u8>, tried: &Tried, points: &mut IdList, acked: &mut IdList)
+    pub fn note_tried(
+        &mut self,
+        stream: &Stream,
+        degree: Option<u8>,
+        tried: &Tried,
+        points: &mut IdList,
+        acked: &mut IdList,
+    )
         requires id { IsOfBelow (length self.old.book.records) tried.now }
         requires room { 0 < self.old.room }
         requires points { 0 < points.old.room }
@@ -39,7 +46,12 @@ impl Book {
         ensures acked { acked.old.room ≤ acked.new.room + 1 }
     {
         match tried {
-            Tried::Committed(id, number, reply) => self.commit(stream, *id, *number, reply.duplicate()),
+            Tried::Committed(id, number, reply) => self.commit(
+                stream,
+                *id,
+                *number,
+                reply.duplicate(),
+            ),
             Tried::Read(id, reply) => {
                 self.read(*id, reply.duplicate());
                 points.push_where(true, *id);

@@ -18,7 +18,11 @@ impl<'a> Cluster<'a> {
     ///
     /// # Errors
     /// `NoMemory` where the memory for it is not there.
-    pub(crate) fn start(alloc: Global, config: &'a Config, txs: &'a TxList) -> Result<Self, NoMemory>
+    pub(crate) fn start(
+        alloc: Global,
+        config: &'a Config,
+        txs: &'a TxList,
+    ) -> Result<Self, NoMemory>
         requires { CanStart config.now txs.now }
         ensures { IfOk result (λ cluster. cluster ≡ start config.now txs.now) }
     {

@@ -107,8 +107,14 @@ impl<'a> Cluster<'a> {
         let tried = node.try_slot(slot, &mut self.effect);
         let stream = Stream { node: at, slot };
         let degree = self.config.degree;
-        self.book.note_tried(&stream, degree, &tried, &mut made.points, &mut made.acked);
-        self.book.pass_all(at, self.effect.passed.as_slice(), &mut made.points, &mut made.acked);
+        self.book
+            .note_tried(&stream, degree, &tried, &mut made.points, &mut made.acked);
+        self.book.pass_all(
+            at,
+            self.effect.passed.as_slice(),
+            &mut made.points,
+            &mut made.acked,
+        );
         post_all(&mut self.links, self.effect.sent.as_slice(), &mut made.sent);
         self.book.count();
         Ok(made.into_report(Answer::Try(tried)))
@@ -118,7 +124,12 @@ impl<'a> Cluster<'a> {
     ///
     /// # Errors
     /// `NoMemory` where the room for what a step makes is not there; nothing has changed then.
-    pub(crate) fn deliver(&mut self, from: NodeId, to: NodeId, number: u32) -> Result<Report, NoMemory>
+    pub(crate) fn deliver(
+        &mut self,
+        from: NodeId,
+        to: NodeId,
+        number: u32,
+    ) -> Result<Report, NoMemory>
         requires from { from < self.old.config.nodes }
         requires to { to < self.old.config.nodes }
         requires counted { self.old.book.steps + 1 < 2 ^ 64 }
@@ -135,7 +146,12 @@ impl<'a> Cluster<'a> {
         self.effect.clear();
         let node = &mut self.nodes[node_place(to)];
         let outcome = node.receive(letter, &mut self.effect);
-        self.book.pass_all(to, self.effect.passed.as_slice(), &mut made.points, &mut made.acked);
+        self.book.pass_all(
+            to,
+            self.effect.passed.as_slice(),
+            &mut made.points,
+            &mut made.acked,
+        );
         post_all(&mut self.links, self.effect.sent.as_slice(), &mut made.sent);
         self.book.count();
         Ok(made.into_report(Answer::Receive(outcome)))

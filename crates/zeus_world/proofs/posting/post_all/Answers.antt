@@ -1,5 +1,5 @@
-use Rattle.std.proofs.Common.{◌≡◌, ◌≤◌, ◌+◌, ◌∷◌, ◌++◌, ◌∙◌, sym, ap, length, drop, vec_len, vec_capacity, arith}
-use Rattle.zeus_model.specs.World.{all_posted, packets}
+use Rattle.std.proofs.Common.{◌+◌, ◌∙◌, ap, drop, arith}
+use Rattle.zeus_model.specs.World.{all_posted}
 use Rattle.zeus_world.specs.Links.{letters}
 use Rattle.zeus_world.proofs.Batches.{drop-here, drop-end, first_link, first_room, later_post, posted_first, posted_none, noted_first, noted_none}
 use Rattle.zeus_world.proofs.posting.post_all.Goals as goal

@@ -1,4 +1,4 @@
-use Rattle.std.proofs.Common.{ap, ◌≡◌, ◌∙◌, length, refl, arith}
+use Rattle.std.proofs.Common.{ap, ◌∙◌, length, refl, arith}
 use Rattle.zeus_base.specs.TableLaws.{length-put}
 use Rattle.zeus_model.specs.Book.{no_record}
 use Rattle.zeus_world.specs.Books.{BookState}

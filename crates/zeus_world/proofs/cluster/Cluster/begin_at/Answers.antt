@@ -1,4 +1,4 @@
-use Rattle.std.proofs.Common.{sym, ap, ◌∙◌, ◌≡◌, ◌<◌, ◌+◌, length, arith}
+use Rattle.std.proofs.Common.{ap, ◌∙◌, ◌<◌, length, arith}
 use Rattle.zeus_model.specs.Book.{counted}
 use Rattle.zeus_world.specs.Books.{BookState}
 use Rattle.zeus_world.proofs.FirstNodes.{node_begins}
@@ -39,8 +39,8 @@ invariant_of-self c =
     let at = rw c.node_place.ensures at c.index_mut-node.ensures.value in
     let known : c.args.id < length c.self.inside.book.book.records = rw (c.self.invariant.records) there in
     let size =
-        ap (λ (s : BookState). length s.book.records) c.count.ensures ∙ ap (λ (s : BookState). length s.book.records) c.note_begun.ensures
-        ∙ begun_size c.self.inside.book.book c.args.id c.begin-begun.result known in
+    ap (λ (s : BookState). length s.book.records) c.count.ensures ∙ ap (λ (s : BookState). length s.book.records) c.note_begun.ensures
+    ∙ begun_size c.self.inside.book.book c.args.id c.begin-begun.result known in
     rw c.node_place.ensures
     (first_after _ _ _ _ _ c.self.invariant
     (node_begins _ _ _ _ _ _ there (node_of _ _ _ c.self.invariant tx.node at) c.begin-begun.ensures.frame) c.self.invariant.links size)

@@ -1,6 +1,4 @@
-use Rattle.std.proofs.Common.{sym, ap, ◌∙◌, ◌≡◌, ◌<◌, length}
-use Rattle.zeus_model.specs.State.{Node}
-use Rattle.zeus_model.specs.World.{node, tx_decl}
+use Rattle.std.proofs.Common.{sym, ◌∙◌}
 use Rattle.zeus_world.proofs.Worlds.{refused_twice, refused_stopped, refused_else, node_stopped}
 use Rattle.zeus_world.proofs.cluster.Cluster.begin_refused.Goals as goal
 

@@ -1,7 +1,5 @@
-use Rattle.std.proofs.Common.{sym, ap, ◌∙◌, ◌≡◌, ◌<◌, ◌≤◌, ◌+◌, length, arith}
+use Rattle.std.proofs.Common.{sym, ap, ◌∙◌, length, arith}
 use Rattle.zeus_world.specs.Books.{BookState}
-use Rattle.zeus_world.specs.FirstWorld.{AreLinksOf}
-use Rattle.zeus_world.specs.Links.{letters}
 use Rattle.zeus_world.proofs.FirstLinks.{can_post, few_letters, letter_first, link_there, links_posted, links_there}
 use Rattle.zeus_world.proofs.FirstNodes.{node_kept}
 use Rattle.zeus_world.proofs.Worlds.{at_start, first_after, node_of, node_there, nothing_there, received_taken, sent_first}
@@ -52,8 +50,8 @@ invariant_of-self-2 c =
     let here = rw (← c.self.view_is) at c.requires.to in
     let node = node_of _ _ _ c.self.invariant here (rw c.node_place.ensures at c.index_mut-node.ensures.value) in
     let size =
-        ap (λ (s : BookState). length s.book.records) c.count.ensures ∙ c.pass_all.ensures.size
-        ∙ ap length (ap (λ b. b.records) c.reserve-2.ensures.book) in
+    ap (λ (s : BookState). length s.book.records) c.count.ensures ∙ c.pass_all.ensures.size
+    ∙ ap length (ap (λ b. b.records) c.reserve-2.ensures.book) in
     let links = rw (c.as_slice-2.ensures, c.reserve.ensures.letters) at c.post_all.ensures.links in
     rw (c.node_place.ensures)
     (first_after _ _ _ _ _ c.self.invariant (node_kept _ _ _ _ _ node c.receive-outcome.ensures.frame)

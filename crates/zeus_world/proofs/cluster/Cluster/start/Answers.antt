@@ -1,4 +1,3 @@
-use Rattle.std.proofs.Common.{◌≡◌}
 use Rattle.zeus_world.proofs.AtStart.{first_start, same_start}
 use Rattle.zeus_world.proofs.cluster.Cluster.start.Goals as goal
 

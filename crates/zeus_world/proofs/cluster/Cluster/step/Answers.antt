@@ -1,4 +1,4 @@
-use Rattle.std.proofs.Common.{◌≡◌, ◌<◌, arith}
+use Rattle.std.proofs.Common.{arith}
 use Rattle.zeus_world.proofs.Worlds.{begin_happens, deliver_happens, fits_begin, fits_deliver, fits_try, no_other_step, try_happens}
 use Rattle.zeus_world.proofs.cluster.Cluster.step.Goals as goal
 

@@ -1,10 +1,5 @@
-use Rattle.std.proofs.Common.{sym, ap, ◌∙◌, ◌≡◌, ◌<◌, ◌≤◌, ◌+◌, length, arith}
-use Rattle.zeus_model.specs.Book.{counted, unchanged}
-use Rattle.zeus_node.specs.FirstNode.{AreFirstLettersFrom}
-use Rattle.zeus_world.specs.Books.{BookState, so_far}
-use Rattle.zeus_world.specs.FirstWorld.{AreLinksOf}
-use Rattle.zeus_world.specs.Links.{letters}
-use Rattle.zeus_world.specs.Tries.{IsOfBelow}
+use Rattle.std.proofs.Common.{ap, ◌∙◌, length, arith}
+use Rattle.zeus_world.specs.Books.{BookState}
 use Rattle.zeus_world.proofs.FirstLinks.{can_post, few_letters, links_posted, links_there}
 use Rattle.zeus_world.proofs.FirstNodes.{node_kept}
 use Rattle.zeus_world.proofs.Trying.{try_of_first}
@@ -39,8 +34,8 @@ invariant_of-self-2 c =
     let here = rw (← c.self.view_is) at c.requires.node in
     let node = node_of _ _ _ c.self.invariant here (rw c.node_place.ensures at c.index_mut-node.ensures.value) in
     let size =
-        ap (λ (s : BookState). length s.book.records) c.count.ensures ∙ c.pass_all.ensures.size ∙ c.note_tried.ensures.size
-        ∙ ap length (ap (λ b. b.records) c.reserve-2.ensures.book) in
+    ap (λ (s : BookState). length s.book.records) c.count.ensures ∙ c.pass_all.ensures.size ∙ c.note_tried.ensures.size
+    ∙ ap length (ap (λ b. b.records) c.reserve-2.ensures.book) in
     let links = rw (c.as_slice-2.ensures, c.reserve.ensures.letters) at c.post_all.ensures.links in
     rw (c.node_place.ensures)
     (first_after _ _ _ _ _ c.self.invariant (node_kept _ _ _ _ _ node c.try_slot-tried.ensures.frame)
