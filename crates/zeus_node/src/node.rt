@@ -12,13 +12,12 @@ ghost use Rattle.zeus_node.specs.Effect.{IsCleared};
 mod local;
 mod start;
 
-pub use start::all_nodes;
-
 use crate::copies::{Change, Copies};
 use crate::effect::Effect;
 use crate::pipeline::Pipeline;
 use crate::places::{node_place, slot_place};
 use crate::stored::NodeLogs;
+pub use start::all_nodes;
 use std::marker::Model;
 use zeus_base::{NodeId, NodeSet, Passed, SlotId, Stream};
 use zeus_model::{Entry, Gather, Outcome};
