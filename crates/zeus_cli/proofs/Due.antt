@@ -9,7 +9,7 @@ use Rattle.zeus_model.specs.FirstRange.{IsFirstRange}
 use Rattle.zeus_model.specs.Scripts.{IsScript}
 use Rattle.zeus_model.specs.Spelling.{spelling}
 use Rattle.zeus_cli.specs.declared.output.Output.{Output}
-use Rattle.zeus_cli.specs.declared.output.Output.TheVariants.{Usage, NoScript, Report}
+use Rattle.zeus_cli.specs.declared.output.Output.TheVariants.{Usage, Refusal, Report}
 use Rattle.zeus_cli.specs.Top.{AreNoScript, TakesNoScript, IsDue}
 use Rattle.zeus_cli.specs.Output.{Fits, text_of, status_of}
 
@@ -17,13 +17,13 @@ use Rattle.zeus_cli.specs.Output.{Fits, text_of, status_of}
 pub output_is_due : {A : Type 0} (words : List (String A)) (before after : Option (List ℕ)) (o : Output) → Fits words before after o → IsDue words before after (text_of o)
 unfolding IsDue
 output_is_due words before after Usage h = inl (h, refl)
-output_is_due words before after NoScript h = inr (inl (h.0, h.1, refl))
+output_is_due words before after (Refusal line) h = inr (inl h)
 output_is_due words before after (Report text) h = inr (inr (h.0, h.1))
 
 -- an output's status is that of a text that was written
 pub status_of_text : (o : Output) → WriteFault ≡ status_of o → ⊥
 status_of_text Usage e = cc
-status_of_text NoScript e = cc
+status_of_text (Refusal line) e = cc
 status_of_text (Report text) e = cc
 
 -- bytes that make no script are not all of the text of one

@@ -1,2 +1,4 @@
 pub mod Top
 pub mod Output
+pub mod Refusal
+pub mod Inputs

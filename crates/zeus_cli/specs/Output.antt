@@ -6,23 +6,23 @@ use Rattle.zeus_io.specs.Faults.{Rose}
 use Rattle.zeus_io.specs.declared.status.Status.{Status}
 use Rattle.zeus_io.specs.declared.status.Status.TheVariants.{Done, Usage as UsageStatus, Script, WriteFault}
 use Rattle.zeus_cli.specs.declared.output.Output.{Output}
-use Rattle.zeus_cli.specs.declared.output.Output.TheVariants.{Usage, NoScript, Report}
-use Rattle.zeus_cli.specs.Top.{usage_line, no_script_line, AsksRun, TakesNoScript, IsReport}
+use Rattle.zeus_cli.specs.declared.output.Output.TheVariants.{Usage, Refusal, Report}
+use Rattle.zeus_cli.specs.Top.{usage_line, AsksRun, IsRefusal, IsReport}
 
 abbrev pub text_of : Output → List ℕ
 text_of Usage = usage_line
-text_of NoScript = no_script_line
+text_of (Refusal line) = line.items
 text_of (Report text) = text.items
 
 abbrev pub status_of : Output → Status
 status_of Usage = UsageStatus
-status_of NoScript = Script
+status_of (Refusal line) = Script
 status_of (Report text) = Done
 
 -- the output that the words and the bytes taken ask for
 abbrev pub Fits : {A : Type 0} → List (String A) → Option (List ℕ) → Option (List ℕ) → Output → Type 0
 Fits words before after Usage = ¬ AsksRun words
-Fits words before after NoScript = AsksRun words × TakesNoScript before after
+Fits words before after (Refusal line) = AsksRun words × IsRefusal before after line.items
 Fits words before after (Report text) = AsksRun words × IsReport before after text.items
 
 -- the output was written whole, or a front of it before the sink failed

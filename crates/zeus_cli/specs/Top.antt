@@ -6,14 +6,11 @@ use Rattle.zeus_model.specs.declared.script.Script.{Script}
 use Rattle.zeus_model.specs.FirstRange.{IsFirstRange}
 use Rattle.zeus_model.specs.ReportText.{report}
 use Rattle.zeus_model.specs.Scripts.{IsSpelled}
+use Rattle.zeus_cli.specs.Refusal.{refusal_line}
 
 -- the line for words that the program does not know
 abbrev pub usage_line : List ℕ
 usage_line = codes "usage\n"
-
--- the line for bytes that are no script that the program runs
-abbrev pub no_script_line : List ℕ
-no_script_line = codes "script 0 not yet\n"
 
 -- the longest script, in bytes
 abbrev pub longest : ℕ
@@ -45,6 +42,14 @@ pub record AreNoScript (after : Option (List ℕ)) (taken : List ℕ) : Type 0 w
 abbrev pub TakesNoScript : Option (List ℕ) → Option (List ℕ) → Type 0
 TakesNoScript before after = Takes before after (AreNoScript after)
 
+-- such bytes were taken, and this text is the line for them
+pub record IsRefused (after : Option (List ℕ)) (text taken : List ℕ) : Type 0 where
+  pub no_script : AreNoScript after taken
+  pub text_is : text ≡ refusal_line taken
+
+abbrev pub IsRefusal : Option (List ℕ) → Option (List ℕ) → List ℕ → Type 0
+IsRefusal before after text = Takes before after (IsRefused after text)
+
 -- a script was taken, and its report is this text
 pub record IsReport (before after : Option (List ℕ)) (text : List ℕ) : Type 0 where
   pub script : Script
@@ -55,7 +60,7 @@ pub record IsReport (before after : Option (List ℕ)) (text : List ℕ) : Type 
 unfoldable pub IsDue : {A : Type 0} → List (String A) → Option (List ℕ) → Option (List ℕ) → List ℕ → Type 0
 IsDue words before after text =
     ((¬ AsksRun words) × (text ≡ usage_line))
-    ⊎ (AsksRun words × TakesNoScript before after × (text ≡ no_script_line))
+    ⊎ (AsksRun words × IsRefusal before after text)
     ⊎ (AsksRun words × IsReport before after text)
 
 -- a text was written whole, behind what the sink held

@@ -1,6 +1,7 @@
 //! `zeus`: runs a script of the protocol and prints the report of the run.
 #![tactic(auto)]
 
+mod fault;
 mod first_range;
 mod output;
 mod top;

@@ -1,6 +1,6 @@
 //! What the program writes, and the status that goes with it.
 ghost use Rattle.std.specs.Prelude.{◌≡◌};
-ghost use Rattle.zeus_cli.specs.Top.{usage_line, no_script_line};
+ghost use Rattle.zeus_cli.specs.Top.{usage_line};
 ghost use Rattle.zeus_cli.specs.Output.{text_of, status_of};
 
 use zeus_io::Status;
@@ -8,16 +8,16 @@ use zeus_io::Status;
 /// The line for words that the program does not know.
 pub(crate) const USAGE: &[u8] = b"usage\n";
 
-/// The line for bytes that are no script that the program runs.
-pub(crate) const NO_SCRIPT: &[u8] = b"script 0 not yet\n";
+/// The line for a script that is not of the range which the program runs.
+pub(crate) const NOT_YET: &[u8] = b"script 0 not yet\n";
 
 /// What is to be written.
 #[derive(Debug, Drop)]
 pub(crate) enum Output {
     /// The words are none that the program knows.
     Usage,
-    /// The bytes read are no script that the program runs.
-    NoScript,
+    /// The bytes read are no script that the program runs: the line that says why.
+    Refusal(Vec<u8>),
     /// The report of the script that was read.
     Report(Vec<u8>),
 }
@@ -28,7 +28,7 @@ impl Output {
     {
         match self {
             Output::Usage => USAGE,
-            Output::NoScript => NO_SCRIPT,
+            Output::Refusal(line) => line.as_slice(),
             Output::Report(text) => text.as_slice(),
         }
     }
@@ -38,7 +38,7 @@ impl Output {
     {
         match self {
             Output::Usage => Status::Usage,
-            Output::NoScript => Status::Script,
+            Output::Refusal(_) => Status::Script,
             Output::Report(_) => Status::Done,
         }
     }

@@ -1,5 +1,5 @@
 //! From the words of the command line and the bytes of a source to the bytes of a sink.
-ghost use Rattle.std.specs.Prelude.{◌≡◌, ◌≤◌, ◌⊎◌, ◌↔◌, ℕ, IsTrue, IfOk, IsErr, IsErrOf, MatchOption, Some, Ok, take};
+ghost use Rattle.std.specs.Prelude.{◌≡◌, ◌<◌, ◌≤◌, ◌⊎◌, ◌↔◌, ℕ, List, IsTrue, IfOk, IsErr, IsErrOf, Some, Ok, length, take};
 ghost use Rattle.std.specs.Io.KnownBytes.{Appends};
 ghost use Rattle.zeus_io.specs.Bytes.{AppendsFront};
 ghost use Rattle.zeus_io.specs.Faults.{Rose};
@@ -10,17 +10,19 @@ ghost use Rattle.zeus_model.specs.Sound.{Sound};
 ghost use Rattle.zeus_model.specs.Spelling.{spelling};
 ghost use Rattle.zeus_model.specs.World.{run};
 ghost use Rattle.zeus_model.specs.declared.script.Script.{Script as ScriptData};
-ghost use Rattle.zeus_cli.specs.Top.{AsksRun, TakesScript, TakesNoScript, IsNoFirstScript, IsFirstScript, IsReport, IsDue, Writes, WritesFront, usage_line, no_script_line};
+ghost use Rattle.zeus_cli.specs.Top.{AsksRun, TakesScript, IsRefusal, IsReport, IsDue, Writes, WritesFront, longest, usage_line};
+ghost use Rattle.zeus_cli.specs.Inputs.{IsInput, TakesInput};
 ghost use Rattle.zeus_cli.specs.Output.{Fits, IsWritten};
 
+use crate::fault::fault_line;
 use crate::first_range::is_first_range;
-use crate::output::Output;
+use crate::output::{NOT_YET, Output};
 use script_lang::{ReadScript, read_script};
 use soundness::every_run_is_sound;
-use std::alloc::Global;
+use std::alloc::{AllocError, Global};
 use zeus_base::NoMemory;
 use zeus_io::{ReadEnd, Sink, Source, Status, WriteFault, read_all, write_all};
-use zeus_model::Script;
+use zeus_model::{Kind, Script, ScriptFault};
 use zeus_report::report;
 use zeus_world::World;
 
@@ -32,6 +34,16 @@ const LONGEST: usize = 4_194_304;
 enum Halt {
     ReadFault,
     NoMemory,
+}
+
+impl From<AllocError> for Halt {
+    ghost use Rattle.zeus_cli.specs.declared.top.Halt.TheVariants.{NoMemory as OutOfMemory};
+
+    ghost from_gives = { λ _ e. e ≡ OutOfMemory };
+
+    fn from(_: AllocError) -> Self {
+        Halt::NoMemory
+    }
 }
 
 impl From<NoMemory> for Halt {
@@ -53,27 +65,45 @@ fn asks_run(words: &[String]) -> bool
     }
 }
 
-// The script of the first range that these bytes spell, if they do.
-fn first_script(alloc: Global, bytes: &[u8]) -> Result<Option<Script>, NoMemory>
-    ensures { IfOk result (λ script. MatchOption script (IsNoFirstScript bytes.now) (IsFirstScript bytes.now)) }
+// What bytes give: a script of the first range, or the line that says why they give none.
+#[derive(Drop)]
+enum Input {
+    Script(Script),
+    Refusal(Vec<u8>),
+}
+
+// The script of the first range that these bytes spell, or the line for bytes that spell none.
+fn first_script(alloc: Global, bytes: &[u8]) -> Result<Input, AllocError>
+    ensures { IfOk result (IsInput bytes.now) }
 {
     match read_script(alloc, bytes, false) {
-        Ok(script) if is_first_range(&script) => Ok(Some(script)),
-        Ok(_) => Ok(None),
-        Err(ReadScript::Fault(_)) => Ok(None),
-        Err(ReadScript::NoMemory) => Err(NoMemory),
+        Ok(script) if is_first_range(&script) => Ok(Input::Script(script)),
+        Ok(_) => Ok(Input::Refusal(Vec::from_slice(alloc, NOT_YET)?)),
+        Err(ReadScript::Fault(fault)) => Ok(Input::Refusal(fault_line(alloc, &fault)?)),
+        Err(ReadScript::NoMemory) => Err(AllocError),
     }
 }
 
-// The script of the first range that the source gives, if it gives one.
-fn read<S: Source>(alloc: Global, source: &mut S) -> Result<Option<Script>, Halt>
-    ensures script { IfOk result (λ script. MatchOption script (TakesNoScript (S.left source.old) (S.left source.new)) (TakesScript (S.left source.old) (S.left source.new))) }
+// The line for more bytes than a script may have.
+fn too_long(alloc: Global) -> Result<Input, AllocError>
+    ensures { (bytes : List ℕ) → longest < length bytes → IfOk result (IsInput bytes) }
+{
+    let size = ScriptFault {
+        line: 0,
+        kind: Kind::Size,
+    };
+    Ok(Input::Refusal(fault_line(alloc, &size)?))
+}
+
+// What the source gives.
+fn read<S: Source>(alloc: Global, source: &mut S) -> Result<Input, Halt>
+    ensures input { IfOk result (TakesInput (S.left source.old) (S.left source.new)) }
     ensures fault { IsErrOf result Halt.ReadFault → Rose (S.faults source.old) (S.faults source.new) }
     ensures later { S.faults source.old ≤ S.faults source.new }
 {
     match read_all(alloc, source, LONGEST) {
         Ok(bytes) => Ok(first_script(alloc, &bytes)?),
-        Err(ReadEnd::TooLong) => Ok(None),
+        Err(ReadEnd::TooLong) => Ok(too_long(alloc)?),
         Err(ReadEnd::ReadFault) => Err(Halt::ReadFault),
         Err(ReadEnd::NoMemory) => Err(Halt::NoMemory),
     }
@@ -101,8 +131,8 @@ fn answer<S: Source>(alloc: Global, words: &[String], source: &mut S) -> Result<
         return Ok(Output::Usage);
     }
     match read(alloc, source)? {
-        None => Ok(Output::NoScript),
-        Some(script) => {
+        Input::Refusal(line) => Ok(Output::Refusal(line)),
+        Input::Script(script) => {
             let text = report_of(alloc, &script)?;
             Ok(Output::Report(text))
         }
@@ -119,7 +149,8 @@ fn write<K: Sink>(sink: &mut K, output: &Output) -> Status
 }
 
 /// The program `zeus`. With the one word `run` it reads a script from the source and writes the report of its run to the
-/// sink; other words give the line `usage`, and bytes that are no script of the first range the line `script 0 not yet`.
+/// sink; other words give the line `usage`, bytes that are no script the line `script LINE KIND` of their first fault, and a script
+/// that is not of the first range the line `script 0 not yet`.
 /// The text is made whole before it is written, and writing takes no memory.
 ///
 /// The source is read to its end, or past 4,194,304 bytes. Where memory ran out nothing is written; nothing says when.
@@ -135,7 +166,7 @@ pub fn zeus_top<S: Source, K: Sink>(
     ensures sound { result ≡ Status.Done → (s : ScriptData) → TakesScript (S.left source.old) (S.left source.new) s → (k : ℕ) → Sound (run (start_of s) (take k s.steps)) }
 
     // Other bytes and other words.
-    ensures script { result ≡ Status.Script → AsksRun words.now.items × TakesNoScript (S.left source.old) (S.left source.new) × Appends (K.held sink.old) (K.held sink.new) no_script_line }
+    ensures script { result ≡ Status.Script → AsksRun words.now.items × Writes (K.held sink.old) (K.held sink.new) (IsRefusal (S.left source.old) (S.left source.new)) }
     ensures usage { result ≡ Status.Usage → (¬ AsksRun words.now.items) × Appends (K.held sink.old) (K.held sink.new) usage_line }
     ensures unfinished { ¬ (result ≡ Status.Unfinished) }
 

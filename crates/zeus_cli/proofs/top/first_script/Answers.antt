@@ -1,5 +1,6 @@
-use Rattle.std.proofs.Common.{sym}
+use Rattle.std.proofs.Common.{ap, sym, ◌∙◌}
 use Rattle.zeus_model.specs.FirstRange.{is_first_range-Decides}
+use Rattle.zeus_cli.specs.Refusal.{refusal}
 use Rattle.zeus_cli.proofs.Reading.{is_opened, same_script}
 use Rattle.zeus_cli.proofs.top.first_script.Goals as goal
 
@@ -11,8 +12,11 @@ returns-in-Ok c =
     }
 
 -- no other script has the same text
-pub returns-in-Ok-2 : goal.returns-in-Ok-2
-returns-in-Ok-2 c s h =
-    let same = same_script s c.in-Ok.script (c.in-Ok.ensures.only s h.spelled (is_opened s h.in_range)) in
-    let first = (is_first_range-Decides s).1 h.in_range in
-    cc (same, first)
+pub returns-in_ok-from_slice-in-Ok-2 : goal.returns-in_ok-from_slice-in-Ok-2
+returns-in_ok-from_slice-in-Ok-2 c = (
+  λ s h.
+      let same = same_script s c.in-Ok.script (c.in-Ok.ensures.only s h.spelled (is_opened s h.in_range)) in
+      let first = (is_first_range-Decides s).1 h.in_range in
+      cc (same, first),
+  c.in_ok-from_slice-in-Ok-2.ensures.items ∙ sym (ap refusal c.in-Ok.ensures.fault),
+)

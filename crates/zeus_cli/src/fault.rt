@@ -1,0 +1,41 @@
+//! The line for bytes that are no script: where their first fault is, and what it is.
+ghost use Rattle.std.specs.Prelude.{◌≡◌, IfOk};
+ghost use Rattle.zeus_cli.specs.Refusal.{fault_line, kind_text};
+
+use itoa::Buffer;
+use std::alloc::{AllocError, Global};
+use zeus_model::{Kind, ScriptFault};
+
+/// The words for a kind of fault.
+fn kind_text(kind: Kind) -> &'static [u8]
+    ensures { result.now ≡ kind_text kind }
+{
+    match kind {
+        Kind::Missing => b"missing",
+        Kind::LineEnd => b"line end",
+        Kind::Word => b"word",
+        Kind::Text => b"text",
+        Kind::Number => b"number",
+        Kind::Range => b"range",
+        Kind::Name => b"name",
+        Kind::Twice => b"twice",
+        Kind::Unknown => b"unknown",
+        Kind::Long => b"long",
+        Kind::Extra => b"extra",
+        Kind::Live => b"live",
+        Kind::Size => b"size",
+    }
+}
+
+/// The line `script LINE KIND` of a fault.
+pub(crate) fn fault_line(alloc: Global, fault: &ScriptFault) -> Result<Vec<u8>, AllocError>
+    ensures { IfOk result (λ line. line.items ≡ fault_line fault.now) }
+{
+    let mut number = Buffer::new();
+    let mut line = Vec::from_slice(alloc, b"script ")?;
+    line.extend_from_slice(number.format(fault.line).as_bytes())?;
+    line.extend_from_slice(b" ")?;
+    line.extend_from_slice(kind_text(fault.kind))?;
+    line.extend_from_slice(b"\n")?;
+    Ok(line)
+}
