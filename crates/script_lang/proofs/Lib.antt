@@ -22,3 +22,6 @@ pub mod ReadSound
 pub mod TextComplete
 pub mod ReadComplete
 pub mod Gathering
+pub mod FirstLines
+pub mod FaultShared
+pub mod FaultFirst

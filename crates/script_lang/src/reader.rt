@@ -1,9 +1,11 @@
 //! Reading a script line by line.
-ghost use Rattle.std.specs.Prelude.{◌≡◌, ◌≤◌, Ok, IfOk, length};
+ghost use Rattle.std.specs.Prelude.{◌≡◌, ◌≢◌, ◌≤◌, Ok, IfOk, IsErrOf, length};
 ghost use Rattle.script_lang.specs.Cut.{cut};
 ghost use Rattle.script_lang.specs.Drafts.{state_of, line_taken};
+ghost use Rattle.zeus_model.specs.declared.fault.ScriptFault.{ScriptFault as ScriptFaultData};
 ghost use Rattle.zeus_model.specs.declared.script.Script.{Script};
 ghost use Rattle.zeus_model.specs.Scripts.{IsSpelled};
+ghost use Rattle.script_lang.specs.FirstFault.{BeginsScript};
 ghost use Rattle.script_lang.specs.Opened.{IsOpened};
 ghost use Rattle.script_lang.specs.Reading.{ReadsScript, TakesAll, TakesNumbered, is_last, unended, lines_taken, script_of, script_read};
 
@@ -130,6 +132,8 @@ pub fn read_script(alloc: Global, bytes: &[u8], live: bool) -> Result<Script, Re
     ensures only { (s : Script) → IsSpelled bytes.now s → IsOpened live s → ReadsScript result (Ok s) }
     // A fault is that of the first line that reading line by line does not take.
     ensures fault { ReadsScript result (script_read live bytes.now) }
+    // The lines up to a faulty one begin no script; line 0 stands for too many bytes.
+    ensures not_begun { (f : ScriptFaultData) → IsErrOf result (ReadScript.Fault f) → f.line ≢ 0 → BeginsScript live bytes.now f.line → ⊥ }
 {
     script_of_bytes(alloc, bytes, live)
 }
