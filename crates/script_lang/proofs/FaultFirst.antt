@@ -8,9 +8,9 @@ use Rattle.script_lang.specs.declared.reading.ReadScript.{ReadScript}
 use Rattle.script_lang.specs.declared.reading.ReadScript.TheVariants as errors
 use Rattle.script_lang.specs.Cut.{cut}
 use Rattle.script_lang.specs.Drafts.{State}
-use Rattle.script_lang.specs.FirstFault.{BeginsScript}
+use Rattle.script_lang.specs.FirstFault.{IsFirstFault}
 use Rattle.script_lang.specs.Reading.{start, fault_at, lines_taken, scripted, script_read, ReadsScript}
-use Rattle.script_lang.proofs.FaultShared.{none_begins}
+use Rattle.script_lang.proofs.FaultReached.{first_fault}
 
 -- a fault but that of the size is one of the lines
 line_fault : (live : Bool) (bytes : List ℕ) (f : ScriptFault) → script_read live bytes ≡ Err f → f.line ≢ 0 → lines_taken live start 1 (cut 10 bytes) ≡ Err f
@@ -30,5 +30,6 @@ returned (Ok s) read f h e = absurd cc
 returned (Err (errors.Fault g)) read f h e = let same : g ≡ f = cc in h ∙ rw same refl
 returned (Err errors.NoMemory) read f h e = absurd cc
 
-pub not_begun : (live : Bool) (bytes : List ℕ) (r : Result Script ReadScript) → ReadsScript r (script_read live bytes) → (f : ScriptFault) → IsErrOf r (errors.Fault f) → f.line ≢ 0 → BeginsScript live bytes f.line → ⊥
-not_begun live bytes r h f e some = none_begins live bytes f (line_fault live bytes f (returned r (script_read live bytes) f h e) some)
+-- so of what was returned
+pub returned_first : (live : Bool) (bytes : List ℕ) (r : Result Script ReadScript) → ReadsScript r (script_read live bytes) → (f : ScriptFault) → IsErrOf r (errors.Fault f) → f.line ≢ 0 → IsFirstFault live bytes f.line
+returned_first live bytes r h f e some = first_fault live bytes f (line_fault live bytes f (returned r (script_read live bytes) f h e) some)

@@ -50,7 +50,7 @@ is_last-shown n (b ∷ q) (p ∷ ps) = refl
 abbrev failed : ScriptFault → Result State ScriptFault
 failed f = Err f
 
-at_line : (n : ℕ) (k : Kind) (f : ScriptFault) → failed (fault_at n k) ≡ failed f → n ≡ f.line
+pub at_line : (n : ℕ) (k : Kind) (f : ScriptFault) → failed (fault_at n k) ≡ failed f → n ≡ f.line
 at_line n k f e = let same : fault_at n k ≡ f = cc in ap (λ (g : ScriptFault). g.line) same
 
 from_line : (live : Bool) (s : State) (m : ℕ) (ps : List (List ℕ)) (f : ScriptFault) → lines_taken live s m ps ≡ Err f → m ≤ f.line

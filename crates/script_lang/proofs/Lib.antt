@@ -24,4 +24,6 @@ pub mod ReadComplete
 pub mod Gathering
 pub mod FirstLines
 pub mod FaultShared
+pub mod Completing
+pub mod FaultReached
 pub mod FaultFirst
