@@ -11,6 +11,7 @@ use Rattle.script_lang.specs.Drafts.{State}
 use Rattle.script_lang.specs.FirstFault.{IsFirstFault}
 use Rattle.script_lang.specs.Reading.{start, fault_at, lines_taken, scripted, script_read, ReadsScript}
 use Rattle.script_lang.proofs.FaultReached.{first_fault}
+use Rattle.script_lang.proofs.WordKinds.{line_blames}
 
 -- a fault but that of the size is one of the lines
 line_fault : (live : Bool) (bytes : List ℕ) (f : ScriptFault) → script_read live bytes ≡ Err f → f.line ≢ 0 → lines_taken live start 1 (cut 10 bytes) ≡ Err f

@@ -26,4 +26,5 @@ pub mod FirstLines
 pub mod FaultShared
 pub mod Completing
 pub mod FaultReached
+pub mod WordKinds
 pub mod FaultFirst
