@@ -22,3 +22,9 @@ pub mod ReadSound
 pub mod TextComplete
 pub mod ReadComplete
 pub mod Gathering
+pub mod FirstLines
+pub mod FaultShared
+pub mod Completing
+pub mod FaultReached
+pub mod WordKinds
+pub mod FaultFirst

@@ -28,6 +28,7 @@ use Rattle.script_lang.specs.Drafts.{State, version_of, version_taken, nodes_tak
 use Rattle.script_lang.specs.Names.{find}
 use Rattle.script_lang.specs.NodeLists.{nodes_after}
 use Rattle.script_lang.specs.Opened.{IsOpened}
+use Rattle.script_lang.specs.FirstFault.{IsOpenedScript}
 use Rattle.script_lang.specs.Reads.{word_at, keyword_at, ended}
 use Rattle.script_lang.specs.Reading.{start, is_last, line_done, lines_taken, script_of, scripted, script_read, ReadsScript}
 use Rattle.script_lang.proofs.FindLaws.{find-none}
@@ -402,6 +403,28 @@ read_at live bytes n k ns names objects txs steps spelled opened =
 as_parts : (s : Script) → s.config.version ≡ 1 → s.config.degree ≡ None → s ≡ script_at s.config.nodes s.config.slots s.config.directory s.names s.config.objects s.txs s.steps
 as_parts s version degree =
     ap (λ (v : ℕ). record s { config = record s.config { version = v } }) version ∙ ap (λ (d : Option ℕ). record s { config = record s.config { version = 1; degree = d } }) degree
+
+-- the text of a script is cut into its lines, and they are taken, however long it is
+pub record IsTaken (live : Bool) (s : Script) : Type 0 where
+  pub after : State
+  pub parts : cut 10 (spelling s) ≡ map words_text (script_lines s) ++ [] ∷ []
+  pub taken : lines_taken live start 1 (cut 10 (spelling s)) ≡ Ok after
+
+taken_at : (live : Bool) (n k : ℕ) (ns : List ℕ) (names : List (List ℕ)) (objects : List ObjectDecl) (txs : List TxDecl) (steps : List Step)
+    → IsOpenedScript live (script_at n k ns names objects txs steps) → IsTaken live (script_at n k ns names objects txs steps)
+unfolding spelling
+taken_at live n k ns names objects txs steps opened =
+    let parts : cut 10 (spelling (script_at n k ns names objects txs steps)) ≡ parts_of (script_lines (script_at n k ns names objects txs steps)) = cut-lines_text (script_lines (script_at n k ns names objects txs steps)) (lines_are n k ns names objects txs steps opened.fits) in
+    record {
+      after = at_stage stages.Steps (with_directory 1 n k ns) names objects txs steps;
+      parts = parts;
+      taken = rw parts (all_read live n k ns names objects txs steps opened.fits opened.opened opened.few_steps);
+    }
+
+pub text_taken : (live : Bool) (s : Script) → IsOpenedScript live s → IsTaken live s
+text_taken live s opened =
+    let same = as_parts s opened.opened.version opened.opened.degree in
+    subst (IsTaken live) (sym same) (taken_at live s.config.nodes s.config.slots s.config.directory s.names s.config.objects s.txs s.steps (subst (IsOpenedScript live) same opened))
 
 -- what is spelled so is read
 pub script_read-complete : (live : Bool) (bytes : List ℕ) (s : Script) → IsSpelled bytes s → IsOpened live s → script_read live bytes ≡ Ok s

@@ -30,7 +30,7 @@ pub record Reached (live : Bool) (s : State) (parts : List (List ℕ)) (t : Stat
   pub fits : Fits live stages.Steps t
   pub lines : lines_at stages.Steps t ++ (codes "end" ∷ []) ∷ [] ≡ lines_at s.stage s ++ ls
 
-last_is : (rest : List (List ℕ)) → is_last rest ≡ true → rest ≡ [] ∷ []
+pub last_is : (rest : List (List ℕ)) → is_last rest ≡ true → rest ≡ [] ∷ []
 unfolding is_last
 last_is [] h = absurd cc
 last_is ([] ∷ []) h = refl
@@ -89,7 +89,7 @@ lines_taken-sound live s t n (p ∷ q ∷ ps) fits h =
 
 -- ---- the whole script
 
-start_fits : (live : Bool) → Fits live start.stage start
+pub start_fits : (live : Bool) → Fits live start.stage start
 unfolding start HeadFits BodyFits
 start_fits live = record { head = refl; body = record { names = refl; objects = refl; txs = refl; steps = refl } }
 
@@ -104,7 +104,7 @@ no_degree (Some k) h = absurd (false_true h.0)
     false_true : false ≡ true → ⊥
     false_true e = cc
 
-script_fits : (live : Bool) (t : State) → Fits live stages.Steps t → FitsScript (script_of t)
+pub script_fits : (live : Bool) (t : State) → Fits live stages.Steps t → FitsScript (script_of t)
 unfolding HeadFits BodyFits script_of
 script_fits live t fits =
     let are = fits.body.0 in
@@ -127,7 +127,7 @@ script_fits live t fits =
       steps = All-from_recursion (FitsStep (config_of t) (length t.txs)) t.steps fits.body.2.fit;
     }
 
-script_opened : (live : Bool) (t : State) → Fits live stages.Steps t → IsOpened live (script_of t)
+pub script_opened : (live : Bool) (t : State) → Fits live stages.Steps t → IsOpened live (script_of t)
 unfolding HeadFits BodyFits script_of
 script_opened live t fits = record {
   version = omega (arith, fits.head.0.0, fits.head.0.1);
@@ -136,15 +136,15 @@ script_opened live t fits = record {
   live_steps = fits.body.2.live_none;
 }
 
-steps_fit : (live : Bool) (t : State) → Fits live stages.Steps t → length (script_of t).steps ≤ 50000
+pub steps_fit : (live : Bool) (t : State) → Fits live stages.Steps t → length (script_of t).steps ≤ 50000
 unfolding BodyFits script_of
 steps_fit live t fits = fits.body.2.few
 
-script_lines-lines : (t : State) → script_lines (script_of t) ≡ lines_at stages.Steps t ++ (codes "end" ∷ []) ∷ []
+pub script_lines-lines : (t : State) → script_lines (script_of t) ≡ lines_at stages.Steps t ++ (codes "end" ∷ []) ∷ []
 unfolding script_lines script_of lines_at
 script_lines-lines t = refl
 
-no_lines : lines_at start.stage start ≡ []
+pub no_lines : lines_at start.stage start ≡ []
 unfolding start lines_at
 no_lines = refl
 

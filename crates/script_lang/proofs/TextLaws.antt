@@ -58,7 +58,7 @@ joined-cut d (b ∷ bs) = go (b == d) refl (joined-cut d bs)
         joined-front d [] (cut d bs) some ∙ ap (λ (w : List ℕ). d ∷ w) rest ∙ ap (λ (x : ℕ). x ∷ bs) (sym (eqb-true b d e))
     go false e rest = joined-with_byte d b (cut d bs) ∙ ap (λ (w : List ℕ). b ∷ w) rest
 
-ended_lines : (ls : List (List (List ℕ))) → map words_text ls ++ [] ∷ [] ≡ [] → ⊥
+pub ended_lines : (ls : List (List (List ℕ))) → map words_text ls ++ [] ∷ [] ≡ [] → ⊥
 ended_lines [] none = cc
 ended_lines (l ∷ ls) none = cc
 

@@ -1,0 +1,119 @@
+-- The lines before a fault are those of a script's text.
+use Rattle.std.proofs.Common.{◌≡◌, ℕ, suc, ◌+◌, ◌<◌, ◌≤◌, Bool, true, false, cond, List, [], ◌∷◌, ◌++◌, length, Result, Ok, Err, refl, sym, ap, ◌∙◌, arith, append_assoc, subst}
+use Rattle.std.specs.Prelude.{codes, map}
+use Rattle.zeus_model.specs.declared.fault.Kind.{Kind}
+use Rattle.zeus_model.specs.declared.fault.Kind.TheVariants as kinds
+use Rattle.zeus_model.specs.declared.fault.ScriptFault.{ScriptFault}
+use Rattle.zeus_model.specs.Spelling.{words_text, lines_text, script_lines, spelling}
+use Rattle.script_lang.specs.declared.stage.Stage.{Stage}
+use Rattle.script_lang.specs.declared.stage.Stage.TheVariants as stages
+use Rattle.script_lang.specs.Cut.{cut}
+use Rattle.script_lang.specs.Drafts.{State, line_taken}
+use Rattle.script_lang.specs.FirstFault.{IsOpenedScript, first_lines, BeginsScript, IsFirstFault}
+use Rattle.script_lang.specs.Reading.{start, fault_at, is_last, unended, line_done, lines_taken, script_of}
+use Rattle.script_lang.proofs.BodySound.{Goes, line_taken-sound}
+use Rattle.script_lang.proofs.Completing.{completes}
+use Rattle.script_lang.proofs.DraftFits.{Fits, lines_at, Adds}
+use Rattle.script_lang.proofs.FaultShared.{at_line, none_begins}
+use Rattle.script_lang.proofs.FirstLines.{shown, shown-front, first_lines-shown, first_lines-fewer}
+use Rattle.script_lang.proofs.ReadComplete.{text_taken}
+use Rattle.script_lang.proofs.ReadSound.{start_fits, script_fits, script_opened, steps_fit, script_lines-lines, no_lines}
+use Rattle.script_lang.proofs.Sound.{read_is}
+use Rattle.script_lang.proofs.TextLaws.{words_text-cut, ended_lines}
+
+-- the lines before the fault, with which a whole script begins
+record Before (live : Bool) (s : State) (n : ℕ) (parts : List (List ℕ)) (f : ScriptFault) : Type 0 where
+  ls : List (List (List ℕ))
+  rest : List (List (List ℕ))
+  whole : State
+  at : length ls + n ≡ f.line
+  texts : shown (length ls) parts ≡ lines_text ls
+  fits : Fits live stages.Steps whole
+  lines : lines_at stages.Steps whole ++ (codes "end" ∷ []) ∷ [] ≡ lines_at s.stage s ++ (ls ++ rest)
+
+before_none : (live : Bool) (s : State) (n : ℕ) (parts : List (List ℕ)) (f : ScriptFault) → Fits live s.stage s → n ≡ f.line → Before live s n parts f
+unfolding shown lines_text
+before_none live s n parts f fits at =
+    let done = completes live s.stage s refl fits in
+    record { ls = []; rest = done.ls; whole = done.whole; at = omega (arith, at); texts = refl; fits = done.fits; lines = done.lines }
+
+text_front : (p xs : List ℕ) → p ++ 10 ∷ xs ≡ words_text (cut 32 p) ++ 10 ∷ [] ++ xs
+text_front p xs = rw words_text-cut (sym (append_assoc p (10 ∷ []) xs))
+
+before_more : (live : Bool) (s u : State) (n : ℕ) (p q : List ℕ) (ps : List (List ℕ)) (f : ScriptFault) → Adds live s.stage s (cut 32 p) u → Before live u (suc n) (q ∷ ps) f → Before live s n (p ∷ q ∷ ps) f
+unfolding shown lines_text
+before_more live s u n p q ps f adds before = record {
+  ls = cut 32 p ∷ before.ls;
+  rest = before.rest;
+  whole = before.whole;
+  at = omega (arith, before.at);
+  texts = ap (λ (xs : List ℕ). p ++ 10 ∷ xs) before.texts ∙ text_front p (lines_text before.ls);
+  fits = before.fits;
+  lines = before.lines ∙ ap (λ (front : List (List (List ℕ))). front ++ (before.ls ++ before.rest)) adds.lines ∙ append_assoc (lines_at s.stage s) (cut 32 p ∷ []) (before.ls ++ before.rest);
+}
+
+before_extra : (live : Bool) (s : State) (stage : Stage) (n : ℕ) (p q : List ℕ) (ps : List (List ℕ)) (f : ScriptFault) → s.stage ≡ stage → Fits live stage s → stage ≡ stages.Steps → cut 32 p ≡ (codes "end") ∷ [] → suc n ≡ f.line → Before live s n (p ∷ q ∷ ps) f
+unfolding shown lines_text
+before_extra live s stage n p q ps f at fits is words line = record {
+  ls = cut 32 p ∷ [];
+  rest = [];
+  whole = s;
+  at = omega (arith, line);
+  texts = text_front p [];
+  fits = subst (λ (k : Stage). Fits live k s) is fits;
+  lines = rw words (ap (λ (k : Stage). lines_at k s ++ (codes "end" ∷ []) ∷ []) (sym (at ∙ is)));
+}
+
+before_fault : (live : Bool) (s : State) (n : ℕ) (parts : List (List ℕ)) (f : ScriptFault) → Fits live s.stage s → lines_taken live s n parts ≡ Err f → Before live s n parts f
+unfolding lines_taken line_done
+before_fault live s n [] f fits h = before_none live s n [] f fits (at_line n kinds.Missing f h)
+before_fault live s n (p ∷ []) f fits h = before_none live s n (p ∷ []) f fits (at_line n (unended p) f h)
+before_fault live s n (p ∷ q ∷ ps) f fits h =
+    go (line_taken live s s.stage (cut 32 p)) refl h (λ u after g. before_fault live u (suc n) (q ∷ ps) f after g)
+  where
+    go : (r : Result (Bool × State) Kind) → line_taken live s s.stage (cut 32 p) ≡ r → line_done r n (q ∷ ps) (λ u. lines_taken live u (suc n) (q ∷ ps)) ≡ Err f
+        → ((u : State) → Fits live u.stage u → lines_taken live u (suc n) (q ∷ ps) ≡ Err f → Before live u (suc n) (q ∷ ps) f) → Before live s n (p ∷ q ∷ ps) f
+    go (Err k) e g rest = before_none live s n (p ∷ q ∷ ps) f fits (at_line n k f g)
+    go (Ok (true, u)) e g rest =
+        let goes = read_is (line_taken live s s.stage (cut 32 p)) (true, u) (Goes live s.stage s (cut 32 p)) e (line_taken-sound live s.stage s (cut 32 p) refl fits) in
+        before_extra live s s.stage n p q ps f refl fits goes.1 goes.2 (choose (is_last (q ∷ ps)) g)
+      where
+        choose : (b : Bool) → cond b (Ok u) (Err (fault_at (suc n) kinds.Extra)) ≡ Err f → suc n ≡ f.line
+        choose true i = absurd cc
+        choose false i = at_line (suc n) kinds.Extra f i
+    go (Ok (false, u)) e g rest =
+        let adds = read_is (line_taken live s s.stage (cut 32 p)) (false, u) (Goes live s.stage s (cut 32 p)) e (line_taken-sound live s.stage s (cut 32 p) refl fits) in
+        before_more live s u n p q ps f adds (rest u adds.fits g)
+
+-- ---- the script that goes on so
+
+shown-lines : (ls rest : List (List (List ℕ))) → shown (length ls) (map words_text (ls ++ rest) ++ [] ∷ []) ≡ lines_text ls
+unfolding shown lines_text
+shown-lines [] rest = refl
+shown-lines (l ∷ ls) rest =
+    shown-front (length ls) (words_text l) (map words_text (ls ++ rest) ++ [] ∷ []) (ended_lines (ls ++ rest)) ∙ rw (shown-lines ls rest) (sym (append_assoc (words_text l) (10 ∷ []) (lines_text ls)))
+
+before_begins : (live : Bool) (bytes : List ℕ) (f : ScriptFault) (before : Before live start 1 (cut 10 bytes) f) → BeginsScript live bytes (length before.ls)
+before_begins live bytes f before =
+    let s = script_of before.whole in
+    let opened : IsOpenedScript live s = record { fits = script_fits live before.whole before.fits; few_steps = steps_fit live before.whole before.fits; opened = script_opened live before.whole before.fits } in
+    let lines : script_lines s ≡ before.ls ++ before.rest = script_lines-lines before.whole ∙ before.lines ∙ ap (λ (front : List (List (List ℕ))). front ++ (before.ls ++ before.rest)) no_lines in
+    let parts : cut 10 (spelling s) ≡ map words_text (before.ls ++ before.rest) ++ [] ∷ [] = (text_taken live s opened).parts ∙ ap (λ (ls : List (List (List ℕ))). map words_text ls ++ [] ∷ []) lines in
+    let n = length before.ls in
+    record {
+      script = s;
+      opened = opened;
+      same = first_lines-shown n (spelling s) ∙ ap (shown n) parts ∙ shown-lines before.ls before.rest ∙ sym before.texts ∙ sym (first_lines-shown n bytes);
+    }
+
+fewer_begin : (live : Bool) (bytes : List ℕ) (k n : ℕ) → k ≤ n → BeginsScript live bytes n → BeginsScript live bytes k
+fewer_begin live bytes k n le begins = record { script = begins.script; opened = begins.opened; same = first_lines-fewer k n (spelling begins.script) bytes le begins.same }
+
+-- a fault of a line is the first one
+pub first_fault : (live : Bool) (bytes : List ℕ) (f : ScriptFault) → lines_taken live start 1 (cut 10 bytes) ≡ Err f → IsFirstFault live bytes f.line
+first_fault live bytes f h =
+    let before = before_fault live start 1 (cut 10 bytes) f (start_fits live) h in
+    record {
+      before = λ k lt. fewer_begin live bytes k (length before.ls) (omega (arith, before.at)) (before_begins live bytes f before);
+      faulty = none_begins live bytes f h;
+    }
