@@ -22,3 +22,4 @@ pub mod ReadSound
 pub mod TextComplete
 pub mod ReadComplete
 pub mod Gathering
+pub mod Printing

@@ -12,3 +12,4 @@ pub mod Drafts
 pub mod Reading
 pub mod Opened
 pub mod Gathered
+pub mod Lines
