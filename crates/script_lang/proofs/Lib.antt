@@ -1,30 +1,31 @@
-pub mod Cutting
-pub mod Naming
-pub mod Digits
-pub mod NodeSteps
-pub mod OpSteps
-pub mod LineSteps
-pub mod Sound
-pub mod NumberLaws
-pub mod ValueLaws
-pub mod NodeLaws
-pub mod ObjectLaws
-pub mod FindLaws
-pub mod OpLaws
-pub mod OpsLaws
-pub mod TxLaws
-pub mod StepLaws
-pub mod DraftFits
-pub mod DraftSound
-pub mod BodySound
-pub mod TextLaws
-pub mod ReadSound
-pub mod TextComplete
-pub mod ReadComplete
-pub mod Gathering
-pub mod FirstLines
-pub mod FaultShared
-pub mod Completing
-pub mod FaultReached
-pub mod WordKinds
-pub mod FaultFirst
+mod BodySound
+mod Completing
+mod Cutting
+mod Digits
+mod DraftFits
+mod DraftSound
+mod FaultFirst
+mod FaultReached
+mod FaultShared
+mod FindLaws
+mod FirstLines
+mod Gathering
+mod LineSteps
+mod Naming
+mod NodeLaws
+mod NodeSteps
+mod NumberLaws
+mod ObjectLaws
+mod OpLaws
+mod OpSteps
+mod OpsLaws
+mod Printing
+mod ReadComplete
+mod ReadSound
+mod Sound
+mod StepLaws
+mod TextComplete
+mod TextLaws
+mod TxLaws
+mod ValueLaws
+mod WordKinds

@@ -1,4 +1,4 @@
-//! Scripts as text: reading them, with the first fault of what is no script.
+//! Scripts as text: reading them, with the first fault of what is no script, and printing them.
 #![tactic(auto)]
 
 mod builder;
@@ -9,6 +9,7 @@ mod names;
 mod objects;
 mod opened;
 mod parts;
+mod print;
 mod reader;
 mod reading;
 mod stage;
@@ -18,6 +19,7 @@ mod tests;
 mod transactions;
 mod words;
 
+pub use print::print_script;
 pub use reader::read_script;
 pub use reading::ReadScript;
 pub use zeus_model::{Kind, Name, Names, Script, ScriptFault};

@@ -1,19 +1,7 @@
--- Tables by index that pad, where the place is in range and where it is past the end.
-use Rattle.std.proofs.Common.{ℕ, zero, suc, ◌≡◌, ◌<◌, ◌≤◌, List, [], ◌∷◌, length, get_or, Some, arith, refl}
+-- Tables by index that pad, where the place is in range.
+use Rattle.std.proofs.Common.{ℕ, zero, suc, ◌≡◌, ◌<◌, List, [], ◌∷◌, length, get_or, Some, arith, refl}
 use Rattle.std.specs.List.{slice_get}
 use Rattle.zeus_base.specs.Tables.{nth}
-
-pub nth-get_or : {A : Type 0} (d : A) (xs : List A) (i : ℕ) → nth d xs i ≡ get_or xs i d
-unfolding nth
-nth-get_or d [] i = refl
-nth-get_or d (x ∷ xs) zero = refl
-nth-get_or d (x ∷ xs) (suc i) = nth-get_or d xs i
-
-pub nth_past : {A : Type 0} (d : A) (xs : List A) (i : ℕ) → length xs ≤ i → nth d xs i ≡ d
-unfolding nth
-nth_past d [] i h = refl
-nth_past d (x ∷ xs) zero h = absurd (omega arith)
-nth_past d (x ∷ xs) (suc i) h = nth_past d xs i (omega arith)
 
 pub nth_is_here : {A : Type 0} (d : A) (xs : List A) (i : ℕ) → i < length xs → nth d xs i ≡ get_or xs i (nth d xs i)
 unfolding nth

@@ -3,11 +3,10 @@ ghost use Rattle.std.specs.Prelude.{◌≡◌, ◌++◌, OnOk};
 ghost use Rattle.zeus_model.specs.ReportWords.{begin_text, tried_text, received_text, ticked_text, stopped_text, made_text, installed_text, answer_text, tx_state_text};
 
 use crate::letters::write_cause;
-use crate::words::{
-    append, state_text, write_counted, write_number, write_object, write_stamped, write_word,
-};
+use crate::words::{state_text, write_stamped};
 use zeus_base::NoMemory;
 use zeus_model::{Answer, Begin, Install, Made, Name, Outcome, Stop, Ticked, Tried, TxState};
+use zeus_text::{append, write_counted, write_number, write_object, write_word};
 
 #[tactic(auto, unfolding(zeus_model::specs::ReportWords::begin_text))]
 fn write_begin(out: &mut Vec<u8>, answer: &Begin) -> Result<(), NoMemory>

@@ -5,13 +5,13 @@ ghost use Rattle.zeus_model.specs.ReportWords.{number, named_object, stream_text
 ghost use Rattle.zeus_model.specs.Spelling.{word};
 ghost use Rattle.zeus_report.specs.Lines.{packet_line, write_text};
 
-use crate::words::{
-    append, state_text, write_counted, write_line_end, write_nodes, write_number, write_object,
-    write_stamp, write_stamped, write_stream, write_value, write_word,
-};
+use crate::words::{state_text, write_nodes, write_stamp, write_stamped, write_stream};
 use zeus_base::{NoMemory, Stream};
 use zeus_model::Name;
 use zeus_packet::{Body, Cause, Content, Packet, Place, Proposal, RInv, Want, Write};
+use zeus_text::{
+    append, write_counted, write_line_end, write_number, write_object, write_value, write_word,
+};
 
 /// Writes a space and why a letter was refused.
 #[tactic(auto, unfolding(zeus_model::specs::ReportWords::cause_text))]

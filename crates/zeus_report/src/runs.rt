@@ -11,11 +11,12 @@ use crate::answers::write_answer;
 use crate::letters::write_packets;
 use crate::machine::Machine;
 use crate::standing::write_final;
-use crate::steps::{write_acked, write_step};
-use crate::words::{append, write_counted, write_decimal, write_line_end, write_reply};
+use crate::steps::write_acked;
+use crate::words::write_reply;
 use std::alloc::Global;
 use zeus_base::{NoMemory, Step, TxId};
 use zeus_model::{Answer, Name, Script};
+use zeus_text::{append, write_counted, write_decimal, write_line_end, write_step};
 use zeus_txn::Reply;
 
 fn write_answer_line(
@@ -28,6 +29,7 @@ fn write_answer_line(
     ensures { OnOk result (out.new.items ≡ out.old.items ++ step_answer names.now place step.now answer.now) }
 {
     write_decimal(out, place)?;
+    append(out, b" ")?;
     write_step(out, step)?;
     append(out, b" = ")?;
     write_answer(out, names, answer)?;

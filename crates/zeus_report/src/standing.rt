@@ -8,12 +8,10 @@ ghost use Rattle.zeus_report.specs.Lines.{tx_state_line, live_copy, point_at};
 
 use crate::answers::tx_state_text;
 use crate::machine::Machine;
-use crate::words::{
-    append, state_text, write_line_end, write_nodes, write_number, write_object,
-    write_optional_node, write_value, write_word,
-};
+use crate::words::{state_text, write_nodes, write_optional_node};
 use zeus_base::{NoMemory, NodeId, NodeSet, ObjId, TxId};
 use zeus_model::{Copy, Name};
+use zeus_text::{append, write_line_end, write_number, write_object, write_value, write_word};
 
 fn write_point_id<M: Machine>(out: &mut Vec<u8>, machine: &M, place: u32) -> Result<(), NoMemory>
     requires { place < length (M.world machine.now).book.points }

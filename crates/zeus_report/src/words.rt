@@ -1,57 +1,12 @@
-//! The words of a report: numbers, names, stamps, sets of nodes, values and replies.
-ghost use Rattle.std.specs.Prelude.{◌≡◌, ◌++◌, decimal, OnOk};
-ghost use Rattle.zeus_model.specs.ReportText.{line_end};
-ghost use Rattle.zeus_model.specs.ReportWords.{number, named_object, stream_text, stamp_text, nodes_text, optional_node, state_text, values_text, reply_text};
-ghost use Rattle.zeus_model.specs.Spelling.{word, value_text, name_of};
+//! The words of a report alone: stamps, sets of nodes and replies.
+ghost use Rattle.std.specs.Prelude.{◌≡◌, ◌++◌, OnOk};
+ghost use Rattle.zeus_model.specs.ReportWords.{stream_text, stamp_text, nodes_text, optional_node, state_text, values_text, reply_text};
+ghost use Rattle.zeus_model.specs.Spelling.{word};
 
-use itoa::Buffer;
-use zeus_base::{NoMemory, NodeId, NodeSet, ObjId, Stamp, Stream, Value};
-use zeus_model::Name;
+use zeus_base::{NoMemory, NodeId, NodeSet, Stamp, Stream, Value};
 use zeus_packet::State;
+use zeus_text::{append, write_counted, write_decimal, write_number, write_value};
 use zeus_txn::Reply;
-
-/// Adds the bytes at the end.
-pub(crate) fn append(out: &mut Vec<u8>, bytes: &[u8]) -> Result<(), NoMemory>
-    ensures { OnOk result (out.new.items ≡ out.old.items ++ bytes.now) }
-{
-    out.extend_from_slice(bytes).map_err(|_| NoMemory)
-}
-
-pub(crate) fn write_decimal(out: &mut Vec<u8>, n: u64) -> Result<(), NoMemory>
-    ensures { OnOk result (out.new.items ≡ out.old.items ++ decimal n) }
-{
-    let mut buffer = Buffer::new();
-    append(out, buffer.format(n).as_bytes())
-}
-
-pub(crate) fn write_number(out: &mut Vec<u8>, n: u64) -> Result<(), NoMemory>
-    ensures { OnOk result (out.new.items ≡ out.old.items ++ number n) }
-{
-    append(out, b" ")?;
-    write_decimal(out, n)
-}
-
-/// Ends a line.
-pub(crate) fn write_line_end(out: &mut Vec<u8>) -> Result<(), NoMemory>
-    ensures { OnOk result (out.new.items ≡ out.old.items ++ line_end) }
-{
-    append(out, b"\n")
-}
-
-pub(crate) fn write_word(out: &mut Vec<u8>, bytes: &[u8]) -> Result<(), NoMemory>
-    ensures { OnOk result (out.new.items ≡ out.old.items ++ word bytes.now) }
-{
-    append(out, b" ")?;
-    append(out, bytes)
-}
-
-/// Writes a text, and then a number behind a space.
-pub(crate) fn write_counted(out: &mut Vec<u8>, text: &[u8], n: u64) -> Result<(), NoMemory>
-    ensures { OnOk result (out.new.items ≡ out.old.items ++ text.now ++ number n) }
-{
-    append(out, text)?;
-    write_number(out, n)
-}
 
 /// Writes a space and the stream as `node.slot`.
 pub(crate) fn write_stream(out: &mut Vec<u8>, stream: &Stream) -> Result<(), NoMemory>
@@ -77,23 +32,6 @@ pub(crate) fn write_stamped(out: &mut Vec<u8>, text: &[u8], stamp: &Stamp) -> Re
 {
     append(out, text)?;
     write_stamp(out, stamp)
-}
-
-// The bytes of the name of an object; none where no object has this number.
-fn name_of(names: &[Name], obj: ObjId) -> &[u8]
-    ensures { result.now ≡ name_of names.now obj }
-{
-    match names.get(usize::from(obj.0)) {
-        Some(name) => name.as_bytes(),
-        None => b"",
-    }
-}
-
-/// Writes a space and the name of the object.
-pub(crate) fn write_object(out: &mut Vec<u8>, names: &[Name], obj: ObjId) -> Result<(), NoMemory>
-    ensures { OnOk result (out.new.items ≡ out.old.items ++ named_object names.now obj) }
-{
-    write_word(out, name_of(names, obj))
 }
 
 /// Writes a space and the numbers of the nodes with commas between, or `-` where there is none.
@@ -123,20 +61,6 @@ pub(crate) fn write_optional_node(out: &mut Vec<u8>, node: Option<NodeId>) -> Re
     match node {
         Some(node) => write_number(out, u64::from(node.0)),
         None => append(out, b" -"),
-    }
-}
-
-/// Writes a space and the value.
-#[tactic(auto, unfolding(zeus_model::specs::Spelling::value_text))]
-pub(crate) fn write_value(out: &mut Vec<u8>, value: &Value) -> Result<(), NoMemory>
-    ensures { OnOk result (out.new.items ≡ out.old.items ++ word (value_text value.now)) }
-{
-    match value {
-        Value::Num(n) => write_number(out, *n),
-        Value::Text(text) => {
-            append(out, b" '")?;
-            append(out, text.as_bytes())
-        }
     }
 }
 

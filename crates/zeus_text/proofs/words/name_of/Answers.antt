@@ -1,6 +1,6 @@
 use Rattle.std.proofs.Common.{[]}
-use Rattle.zeus_report.proofs.Names.{nth-get_or, nth_past}
-use Rattle.zeus_report.proofs.words.name_of.Goals as goal
+use Rattle.zeus_text.proofs.Names.{nth-get_or, nth_past}
+use Rattle.zeus_text.proofs.words.name_of.Goals as goal
 
 pub returns-in-Some : goal.returns-in-Some
 returns-in-Some c =

@@ -1,0 +1,118 @@
+//! Numbers, names and values.
+ghost use Rattle.std.specs.Prelude.{◌≡◌, ◌++◌, decimal, OnOk};
+ghost use Rattle.zeus_model.specs.ReportText.{line_end};
+ghost use Rattle.zeus_model.specs.ReportWords.{number, named_object};
+ghost use Rattle.zeus_model.specs.Spelling.{word, value_text, name_of};
+
+use itoa::Buffer;
+use zeus_base::{NoMemory, ObjId, Value};
+use zeus_model::Name;
+
+/// Adds the bytes at the end.
+///
+/// # Errors
+///
+/// Memory ran out.
+pub fn append(out: &mut Vec<u8>, bytes: &[u8]) -> Result<(), NoMemory>
+    ensures { OnOk result (out.new.items ≡ out.old.items ++ bytes.now) }
+{
+    out.extend_from_slice(bytes).map_err(|_| NoMemory)
+}
+
+/// Writes the digits of a number.
+///
+/// # Errors
+///
+/// Memory ran out.
+pub fn write_decimal(out: &mut Vec<u8>, n: u64) -> Result<(), NoMemory>
+    ensures { OnOk result (out.new.items ≡ out.old.items ++ decimal n) }
+{
+    let mut buffer = Buffer::new();
+    append(out, buffer.format(n).as_bytes())
+}
+
+/// Writes a space and the number.
+///
+/// # Errors
+///
+/// Memory ran out.
+pub fn write_number(out: &mut Vec<u8>, n: u64) -> Result<(), NoMemory>
+    ensures { OnOk result (out.new.items ≡ out.old.items ++ number n) }
+{
+    append(out, b" ")?;
+    write_decimal(out, n)
+}
+
+/// Ends a line.
+///
+/// # Errors
+///
+/// Memory ran out.
+pub fn write_line_end(out: &mut Vec<u8>) -> Result<(), NoMemory>
+    ensures { OnOk result (out.new.items ≡ out.old.items ++ line_end) }
+{
+    append(out, b"\n")
+}
+
+/// Writes a space and the bytes.
+///
+/// # Errors
+///
+/// Memory ran out.
+pub fn write_word(out: &mut Vec<u8>, bytes: &[u8]) -> Result<(), NoMemory>
+    ensures { OnOk result (out.new.items ≡ out.old.items ++ word bytes.now) }
+{
+    append(out, b" ")?;
+    append(out, bytes)
+}
+
+/// Writes a text, and then a number behind a space.
+///
+/// # Errors
+///
+/// Memory ran out.
+pub fn write_counted(out: &mut Vec<u8>, text: &[u8], n: u64) -> Result<(), NoMemory>
+    ensures { OnOk result (out.new.items ≡ out.old.items ++ text.now ++ number n) }
+{
+    append(out, text)?;
+    write_number(out, n)
+}
+
+// The bytes of the name of an object; none where no object has this number.
+fn name_of(names: &[Name], obj: ObjId) -> &[u8]
+    ensures { result.now ≡ name_of names.now obj }
+{
+    match names.get(usize::from(obj.0)) {
+        Some(name) => name.as_bytes(),
+        None => b"",
+    }
+}
+
+/// Writes a space and the name of the object; the space alone where no object has this number.
+///
+/// # Errors
+///
+/// Memory ran out.
+pub fn write_object(out: &mut Vec<u8>, names: &[Name], obj: ObjId) -> Result<(), NoMemory>
+    ensures { OnOk result (out.new.items ≡ out.old.items ++ named_object names.now obj) }
+{
+    write_word(out, name_of(names, obj))
+}
+
+/// Writes a space and the value.
+///
+/// # Errors
+///
+/// Memory ran out.
+#[tactic(auto, unfolding(zeus_model::specs::Spelling::value_text))]
+pub fn write_value(out: &mut Vec<u8>, value: &Value) -> Result<(), NoMemory>
+    ensures { OnOk result (out.new.items ≡ out.old.items ++ word (value_text value.now)) }
+{
+    match value {
+        Value::Num(n) => write_number(out, *n),
+        Value::Text(text) => {
+            append(out, b" '")?;
+            append(out, text.as_bytes())
+        }
+    }
+}
