@@ -1,31 +1,31 @@
-mod BodySound
-mod Completing
-mod Cutting
-mod Digits
-mod DraftFits
-mod DraftSound
-mod FaultFirst
-mod FaultReached
-mod FaultShared
-mod FindLaws
-mod FirstLines
-mod Gathering
-mod LineSteps
-mod Naming
-mod NodeLaws
-mod NodeSteps
-mod NumberLaws
-mod ObjectLaws
-mod OpLaws
-mod OpSteps
-mod OpsLaws
-mod Printing
-mod ReadComplete
-mod ReadSound
-mod Sound
-mod StepLaws
-mod TextComplete
-mod TextLaws
-mod TxLaws
-mod ValueLaws
-mod WordKinds
+pub mod BodySound
+pub mod Completing
+pub mod Cutting
+pub mod Digits
+pub mod DraftFits
+pub mod DraftSound
+pub mod FaultFirst
+pub mod FaultReached
+pub mod FaultShared
+pub mod FindLaws
+pub mod FirstLines
+pub mod Gathering
+pub mod LineSteps
+pub mod Naming
+pub mod NodeLaws
+pub mod NodeSteps
+pub mod NumberLaws
+pub mod ObjectLaws
+pub mod OpLaws
+pub mod OpSteps
+pub mod OpsLaws
+pub mod Printing
+pub mod ReadComplete
+pub mod ReadSound
+pub mod Sound
+pub mod StepLaws
+pub mod TextComplete
+pub mod TextLaws
+pub mod TxLaws
+pub mod ValueLaws
+pub mod WordKinds
