@@ -1,3 +1,2 @@
 pub mod Top
 pub mod Output
-pub mod Pending

@@ -3,7 +3,6 @@
 
 mod first_range;
 mod output;
-mod pending;
 mod top;
 
 use std::env;

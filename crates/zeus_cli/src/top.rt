@@ -15,7 +15,6 @@ ghost use Rattle.zeus_cli.specs.Output.{Fits, IsWritten};
 
 use crate::first_range::is_first_range;
 use crate::output::Output;
-use crate::pending::World;
 use script_lang::{ReadScript, read_script};
 use soundness::every_run_is_sound;
 use std::alloc::Global;
@@ -23,6 +22,7 @@ use zeus_base::NoMemory;
 use zeus_io::{ReadEnd, Sink, Source, Status, WriteFault, read_all, write_all};
 use zeus_model::Script;
 use zeus_report::report;
+use zeus_world::World;
 
 // The most bytes that a script may have.
 const LONGEST: usize = 4_194_304;
