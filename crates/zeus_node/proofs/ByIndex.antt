@@ -1,5 +1,5 @@
 -- Tables by index where the index is in range.
-use Rattle.std.proofs.Common.{ℕ, zero, suc, ◌≡◌, ◌<◌, List, [], ◌∷◌, Some, None, length, refl, ap, arith}
+use Rattle.std.proofs.Common.{ℕ, zero, suc, ◌≡◌, ◌<◌, ◌≤◌, List, [], ◌∷◌, Some, None, length, refl, ap, arith}
 use Rattle.std.specs.List.{slice_get}
 use Rattle.std.proofs.Math.ListN.{get_or, set}
 use Rattle.zeus_base.specs.Tables.{nth, put}
@@ -27,3 +27,9 @@ unfolding nth
 nth_past d [] i e = refl
 nth_past d (y ∷ ys) zero e = cc
 nth_past d (y ∷ ys) (suc i) e = nth_past d ys i e
+
+pub nth_out : {A : Type 0} (d : A) (xs : List A) (i : ℕ) → length xs ≤ i → d ≡ nth d xs i
+unfolding nth
+nth_out d [] i h = refl
+nth_out d (x ∷ xs) zero h = absurd (omega arith)
+nth_out d (x ∷ xs) (suc i) h = nth_out d xs i (omega arith)

@@ -32,7 +32,7 @@ use Rattle.zeus_model.specs.Receive.{row}
 use Rattle.zeus_node.specs.declared.effect.Effect.{Effect}
 use Rattle.zeus_node.specs.Copies.{IsWithin}
 use Rattle.zeus_node.specs.Done.{Adds}
-use Rattle.zeus_node.specs.FirstNode.{AreFew, AreFirstLetters, IsFirstBody, IsFirstCurrent, IsFirstNode, IsFirstTx, IsIdBelow, IsStream, BeginsFrame, KeepsFrame}
+use Rattle.zeus_node.specs.FirstNode.{AreFew, AreFirstLettersFrom, IsFirstBody, IsFirstCurrent, IsFirstNode, IsFirstTx, IsIdBelow, IsStream, BeginsFrame, KeepsFrame}
 use Rattle.zeus_node.specs.Tries.{AreNew, worn_at}
 use Rattle.zeus_node.proofs.Sent.{letters-append, letters-take, letters-none, letters-one, letters-each, below-without, below-meet, below-members}
 use Rattle.zeus_node.proofs.Beginning.{slot_current}
@@ -42,10 +42,10 @@ use Rattle.zeus_node.proofs.Logs.{raise-first}
 use Rattle.zeus_node.proofs.OwnSlots.{pass_own-first}
 use Rattle.zeus_node.proofs.Within.{IsWithin-take, length-each_write}
 
--- the frame is kept, and the letters are commit letters between nodes that there are
+-- the frame is kept, and the letters are commit letters from it to nodes that there are
 pub record IsFine (n node : Node) (sent : List Letter) : Type 0 where
   pub frame : KeepsFrame n node
-  pub letters : AreFirstLetters (length n.logs) (length n.copies) sent
+  pub letters : AreFirstLettersFrom n.me (length n.logs) (length n.copies) sent
 
 cond_each : {A : Type 0} (P : A → Type 0) (b : Bool) (x y : A) → P x → P y → P (if b then x else y)
 cond_each P true x y p q = p
@@ -58,19 +58,22 @@ keeps-both : (a b c : Node) → KeepsFrame a b → KeepsFrame b c → KeepsFrame
 keeps-both a b c f g =
     record { current = λ bound h. g.current bound (f.current bound h); me = g.me ∙ f.me; entries = g.entries ∙ f.entries; copies = g.copies ∙ f.copies; logs = g.logs ∙ f.logs }
 
+-- what a node sends is also what the node sends whose frame it keeps
+letters-kept : (n m : Node) (ls : List Letter) → KeepsFrame n m → AreFirstLettersFrom m.me (length m.logs) (length m.copies) ls → AreFirstLettersFrom n.me (length n.logs) (length n.copies) ls
+letters-kept n m ls f h = rw (f.me, f.logs, f.copies) at h
+
 fine-still : (n : Node) → IsFine n n []
-fine-still n = record { frame = keeps-same n; letters = letters-none _ _ }
+fine-still n = record { frame = keeps-same n; letters = letters-none _ _ _ }
 
 fine-quiet : (n m : Node) → KeepsFrame n m → IsFine n m []
-fine-quiet n m f = record { frame = f; letters = letters-none _ _ }
+fine-quiet n m f = record { frame = f; letters = letters-none _ _ _ }
 
 fine-both : (a b c : Node) (xs ys : List Letter) → IsFine a b xs → IsFine b c ys → IsFine a c (xs ++ ys)
 fine-both a b c xs ys f g =
     record {
       frame = keeps-both a b c f.frame g.frame;
       letters =
-          letters-append _ _ xs ys f.letters
-          (let k = g.letters in rw (f.frame.logs, f.frame.copies) at k);
+          letters-append _ _ _ xs ys f.letters (letters-kept a b ys f.frame g.letters);
     }
 
 keeps-with_log : (n : Node) (s : Stream) (l : StreamLog) → IsStream n s → KeepsFrame n (with_log n s l)
@@ -126,9 +129,9 @@ unfolding IsIdBelow
 id-none bound = tt
 
 -- the rules of commit letters
-acknowledges : (n : Node) (from number : ℕ) (s : Stream) → IsFirstNode n → from < length n.logs → IsStream n s → AreFirstLetters (length n.logs) (length n.copies) (letter n from (RAck s number) ∷ [])
+acknowledges : (n : Node) (from number : ℕ) (s : Stream) → IsFirstNode n → from < length n.logs → IsStream n s → AreFirstLettersFrom n.me (length n.logs) (length n.copies) (letter n from (RAck s number) ∷ [])
 unfolding IsFirstBody
-acknowledges n from number s f h k = letters-one _ _ _ record { from = f.here; to = h; body = k }
+acknowledges n from number s f h k = letters-one _ _ _ _ refl record { from = f.here; to = h; body = k }
 
 stored-fine : (n : Node) (from : ℕ) (r : Invalidation) → IsFirstNode n → from < length n.logs → IsStream n r.stream → IsWithin (length n.copies) r.writes → IsFine n (stored_rinv n from r).node (stored_rinv n from r).sent
 unfolding stored_rinv
@@ -191,7 +194,7 @@ own-body : (n : Node) (s d : ℕ) → IsFirstNode n → s < 1 → IsFirstBody (l
 unfolding IsFirstBody
 own-body n s d f h = record { node = f.here; slot = h }
 
-told-fine : (n : Node) (s first : ℕ) (ks : List Kept) → IsFirstNode n → s < 1 → AreFirstLetters (length n.logs) (length n.copies) (told n (own_stream n s) first ks).sent
+told-fine : (n : Node) (s first : ℕ) (ks : List Kept) → IsFirstNode n → s < 1 → AreFirstLettersFrom n.me (length n.logs) (length n.copies) (told n (own_stream n s) first ks).sent
 told-fine n s first ks f h =
     letters-each _ _ n _ _ f.here (below-without _ n.me _ (below-meet _ (followers_of ks) n.members (below-members n f))) (own-body n s _ f h)
 
@@ -218,24 +221,23 @@ unfolding advance_own
 advance_own-fine n s f h = advance_by-fine n s _ f h
 
 -- what is added to commit letters
-pub adds-letters : (nodes objects : ℕ) (sent : List Letter) (passed : List Passed) (a b : Effect) → AreFirstLetters nodes objects a.sent → AreFirstLetters nodes objects sent → Adds sent passed a b → AreFirstLetters nodes objects b.sent
-adds-letters nodes objects sent passed a b h k f = rw f.letters (letters-take nodes objects 64 (a.sent ++ sent) (letters-append nodes objects a.sent sent h k))
+pub adds-letters : (sender nodes objects : ℕ) (sent : List Letter) (passed : List Passed) (a b : Effect) → AreFirstLettersFrom sender nodes objects a.sent → AreFirstLettersFrom sender nodes objects sent → Adds sent passed a b → AreFirstLettersFrom sender nodes objects b.sent
+adds-letters sender nodes objects sent passed a b h k f = rw f.letters (letters-take sender nodes objects 64 (a.sent ++ sent) (letters-append sender nodes objects a.sent sent h k))
 
-pub cleared-letters : (nodes objects : ℕ) (a : Effect) → a.sent ≡ [] → AreFirstLetters nodes objects a.sent
-cleared-letters nodes objects a e = rw e (letters-none nodes objects)
+pub cleared-letters : (sender nodes objects : ℕ) (a : Effect) → a.sent ≡ [] → AreFirstLettersFrom sender nodes objects a.sent
+cleared-letters sender nodes objects a e = rw e (letters-none sender nodes objects)
 
 -- a letter and then the own stream
 pub received-frame : (n m k : Node) (from s : ℕ) (b : Body) → IsFirstNode n → from < length n.logs → IsFirstBody (length n.logs) (length n.copies) b → m ≡ (row n from b).node → IsFirstNode m → s < 1 → k ≡ (advance_own m s).node → KeepsFrame n k
 received-frame n m k from s b f h g e i j z =
     keeps-both n m k (rw e (row-fine n from b f h g).frame) (rw z (advance_own-fine m s i j).frame)
 
-pub received-letters : (n m : Node) (from s : ℕ) (b : Body) (x y z : Effect) (ps qs : List Passed) → IsFirstNode n → from < length n.logs → IsFirstBody (length n.logs) (length n.copies) b → m ≡ (row n from b).node → IsFirstNode m → s < 1 → x.sent ≡ [] → Adds (row n from b).sent ps x y → Adds (advance_own m s).sent qs y z → AreFirstLetters (length n.logs) (length n.copies) z.sent
+pub received-letters : (n m : Node) (from s : ℕ) (b : Body) (x y z : Effect) (ps qs : List Passed) → IsFirstNode n → from < length n.logs → IsFirstBody (length n.logs) (length n.copies) b → m ≡ (row n from b).node → IsFirstNode m → s < 1 → x.sent ≡ [] → Adds (row n from b).sent ps x y → Adds (advance_own m s).sent qs y z → AreFirstLettersFrom n.me (length n.logs) (length n.copies) z.sent
 received-letters n m from s b x y z ps qs f h g e i j c p q =
     let first = row-fine n from b f h g in
     let frame : KeepsFrame n m = rw e first.frame in
-    let there = adds-letters _ _ _ ps x y (cleared-letters _ _ x c) first.letters p in
-    let more = (advance_own-fine m s i j).letters in
-    adds-letters _ _ _ qs y z there (rw (frame.logs, frame.copies) at more) q
+    let there = adds-letters _ _ _ _ ps x y (cleared-letters _ _ _ x c) first.letters p in
+    adds-letters _ _ _ _ qs y z there (letters-kept n m _ frame (advance_own-fine m s i j).letters) q
 
 begins-same : (id : ℕ) (n : Node) → BeginsFrame id n n
 begins-same id n = record { current = λ bound k q. q; me = refl; entries = refl; copies = refl; logs = refl }
@@ -327,8 +329,8 @@ try-fine n s f h =
     cond_each (λ (d : Did Tried). IsFine n d.node d.sent) n.stopped _ _ (fine-still n)
     (try_current-fine n s (slot n s).current f h (slot_current n s f h))
 
-pub try-letters : (n : Node) (s : ℕ) → IsFirstNode n → s < 1 → AreFirstLetters (length n.logs) (length n.copies) (take 64 (try_slot n s).sent)
-try-letters n s f h = letters-take _ _ 64 _ (try-fine n s f h).letters
+pub try-letters : (n : Node) (s : ℕ) → IsFirstNode n → s < 1 → AreFirstLettersFrom n.me (length n.logs) (length n.copies) (take 64 (try_slot n s).sent)
+try-letters n s f h = letters-take _ _ _ 64 _ (try-fine n s f h).letters
 
 pub few_none : (ps : List Passed) → ps ≡ [] → AreFew ps
 unfolding AreFew

@@ -8,37 +8,37 @@ use Rattle.zeus_packet.specs.declared.letter.Letter.{Letter}
 use Rattle.zeus_model.specs.Tables.{numbers_from}
 use Rattle.zeus_model.specs.Act.{to_each}
 use Rattle.zeus_model.specs.State.{Node}
-use Rattle.zeus_node.specs.FirstNode.{IsFirstNode, IsFirstBody, IsFirstLetter, AreFirstLetters}
+use Rattle.zeus_node.specs.FirstNode.{IsFirstNode, IsFirstBody, IsFirstLetter, AreFirstLettersFrom}
 
 -- lists of such letters
-pub letters-append : (nodes objects : ℕ) (xs ys : List Letter) → AreFirstLetters nodes objects xs → AreFirstLetters nodes objects ys → AreFirstLetters nodes objects (xs ++ ys)
-unfolding AreFirstLetters
-letters-append nodes objects [] ys h k = k
-letters-append nodes objects (x ∷ xs) ys h k = (h.0, letters-append nodes objects xs ys h.1 k)
+pub letters-append : (sender nodes objects : ℕ) (xs ys : List Letter) → AreFirstLettersFrom sender nodes objects xs → AreFirstLettersFrom sender nodes objects ys → AreFirstLettersFrom sender nodes objects (xs ++ ys)
+unfolding AreFirstLettersFrom
+letters-append sender nodes objects [] ys h k = k
+letters-append sender nodes objects (x ∷ xs) ys h k = (h.0, h.1, letters-append sender nodes objects xs ys h.2 k)
 
-pub letters-take : (nodes objects k : ℕ) (xs : List Letter) → AreFirstLetters nodes objects xs → AreFirstLetters nodes objects (take k xs)
-unfolding AreFirstLetters
-letters-take nodes objects zero xs h = tt
-letters-take nodes objects (suc k) [] h = tt
-letters-take nodes objects (suc k) (x ∷ xs) h = (h.0, letters-take nodes objects k xs h.1)
+pub letters-take : (sender nodes objects k : ℕ) (xs : List Letter) → AreFirstLettersFrom sender nodes objects xs → AreFirstLettersFrom sender nodes objects (take k xs)
+unfolding AreFirstLettersFrom
+letters-take sender nodes objects zero xs h = tt
+letters-take sender nodes objects (suc k) [] h = tt
+letters-take sender nodes objects (suc k) (x ∷ xs) h = (h.0, h.1, letters-take sender nodes objects k xs h.2)
 
-pub letters-none : (nodes objects : ℕ) → AreFirstLetters nodes objects []
-unfolding AreFirstLetters
-letters-none nodes objects = tt
+pub letters-none : (sender nodes objects : ℕ) → AreFirstLettersFrom sender nodes objects []
+unfolding AreFirstLettersFrom
+letters-none sender nodes objects = tt
 
-pub letters-one : (nodes objects : ℕ) (l : Letter) → IsFirstLetter nodes objects l → AreFirstLetters nodes objects (l ∷ [])
-unfolding AreFirstLetters
-letters-one nodes objects l h = (h, tt)
+pub letters-one : (sender nodes objects : ℕ) (l : Letter) → l.from ≡ sender → IsFirstLetter nodes objects l → AreFirstLettersFrom sender nodes objects (l ∷ [])
+unfolding AreFirstLettersFrom
+letters-one sender nodes objects l e h = (e, h, tt)
 
 -- each node of a list is one that there is
 unfoldable pub AreBelow : ℕ → List ℕ → Type 0
 AreBelow n [] = Unit {0}
 AreBelow n (m ∷ ms) = (m < n) × AreBelow n ms
 
-pub letters-each : (nodes objects : ℕ) (n : Node) (tos : List ℕ) (body : Body) → n.me < nodes → AreBelow nodes tos → IsFirstBody nodes objects body → AreFirstLetters nodes objects (to_each n tos body)
-unfolding AreFirstLetters AreBelow to_each
+pub letters-each : (nodes objects : ℕ) (n : Node) (tos : List ℕ) (body : Body) → n.me < nodes → AreBelow nodes tos → IsFirstBody nodes objects body → AreFirstLettersFrom n.me nodes objects (to_each n tos body)
+unfolding AreFirstLettersFrom AreBelow to_each
 letters-each nodes objects n [] body h k b = tt
-letters-each nodes objects n (t ∷ ts) body h k b = (record { from = h; to = k.0; body = b }, letters-each nodes objects n ts body h k.1 b)
+letters-each nodes objects n (t ∷ ts) body h k b = (refl, record { from = h; to = k.0; body = b }, letters-each nodes objects n ts body h k.1 b)
 
 pub below-numbers : (n i k : ℕ) → i + k ≤ n → AreBelow n (numbers_from i k)
 unfolding AreBelow numbers_from

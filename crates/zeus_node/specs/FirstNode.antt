@@ -73,9 +73,10 @@ pub record IsFirstLetter (nodes objects : ℕ) (l : Letter) : Type 0 where
   pub to : l.to < nodes
   pub body : IsFirstBody nodes objects l.body
 
-unfoldable pub AreFirstLetters : ℕ → ℕ → List Letter → Type 0
-AreFirstLetters nodes objects [] = Unit {0}
-AreFirstLetters nodes objects (l ∷ ls) = IsFirstLetter nodes objects l × AreFirstLetters nodes objects ls
+-- such letters, all of them from this node
+unfoldable pub AreFirstLettersFrom : ℕ → ℕ → ℕ → List Letter → Type 0
+AreFirstLettersFrom sender nodes objects [] = Unit {0}
+AreFirstLettersFrom sender nodes objects (l ∷ ls) = (l.from ≡ sender) × IsFirstLetter nodes objects l × AreFirstLettersFrom sender nodes objects ls
 
 -- a configuration of the first range
 pub record IsFirstConfig (c : Config) : Type 0 where

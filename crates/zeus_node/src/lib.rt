@@ -9,4 +9,4 @@ mod places;
 mod stored;
 
 pub use effect::{Effect, Letters, PassedList};
-pub use node::Node;
+pub use node::{Node, all_nodes};

@@ -4,7 +4,7 @@ ghost use Rattle.zeus_model.specs.Act.{letter, to_each};
 ghost use Rattle.zeus_model.specs.Commit.{advance_own, as_kept, followers_of, next_kept, on_kept_rack, on_own_rack, on_rack, on_rinv, on_rval, pass_own, passing, raise, store, stored_rinv};
 ghost use Rattle.zeus_model.specs.State.{is_open, log, own_stream, slot as slot_of};
 ghost use Rattle.zeus_model.specs.Receive.{receive, row, untaken};
-ghost use Rattle.zeus_node.specs.FirstNode.{AreFew, AreFirstLetters, IsFirstBody, IsFirstLetter, IsFirstNode, IsStream, KeepsFrame};
+ghost use Rattle.zeus_node.specs.FirstNode.{AreFew, AreFirstLettersFrom, IsFirstBody, IsFirstLetter, IsFirstNode, IsStream, KeepsFrame};
 ghost use Rattle.zeus_node.specs.Copies.{IsWithin};
 ghost use Rattle.zeus_node.specs.Done.{Adds, IsActed, IsDone, IsQuiet};
 ghost use Rattle.zeus_node.specs.Effect.{IsCleared};
@@ -17,6 +17,7 @@ use crate::effect::Effect;
 use crate::pipeline::Pipeline;
 use crate::places::{node_place, slot_place};
 use crate::stored::NodeLogs;
+pub use start::all_nodes;
 use std::marker::Model;
 use zeus_base::{NodeId, NodeSet, Passed, SlotId, Stream};
 use zeus_model::{Entry, Gather, Outcome};
@@ -348,7 +349,7 @@ impl Node {
         ensures passed { out.new.passed ≡ (receive self.old letter.now).passed }
         ensures frame { KeepsFrame self.old self.new }
         ensures few { AreFew out.new.passed }
-        ensures letters { AreFirstLetters (length self.old.logs) (length self.old.copies) out.new.sent }
+        ensures letters { AreFirstLettersFrom self.old.me (length self.old.logs) (length self.old.copies) out.new.sent }
     {
         if let Some(outcome) = self.untaken(letter) {
             return outcome;

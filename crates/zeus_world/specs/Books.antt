@@ -26,3 +26,12 @@ pub record IsChange (pointed acked : Bool) (id : ℕ) (after : Book) (c : BookCh
   pub book : after ≡ c.book
   pub points : listed pointed id ≡ c.points
   pub acks : listed acked id ≡ c.acked
+
+-- transactions in order, and how many more there is room for
+pub record IdsState : Type 0 where
+  pub ids : List ℕ
+  pub room : ℕ
+
+-- what was done to the book so far, and the points and acknowledgements in it
+abbrev pub so_far : BookState → IdsState → IdsState → BookChange
+so_far b points acked = record { book = b.book; points = points.ids; acked = acked.ids }

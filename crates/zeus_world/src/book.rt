@@ -1,22 +1,23 @@
 //! The log of a run: when each transaction was begun, had its point and was acknowledged, and with which reply.
-ghost use Rattle.std.specs.Prelude.{◌≡◌, ◌==◌, ◌&&◌, ◌<◌, ◌≤◌, ◌+◌, ◌^◌, [], None, Some, true, false, is_some, length, IfOk, OnOk, replicate, option_copied};
+ghost use Rattle.std.specs.Prelude.{◌≡◌, ◌==◌, ◌&&◌, ◌<◌, ◌≤◌, ◌+◌, ◌^◌, [], None, Some, true, false, is_some, length, IfOk, OnOk, replicate, option_copied, slice_get};
 ghost use Rattle.zeus_base.specs.Order.{same_stream};
 ghost use Rattle.zeus_model.specs.Book.{book_ack, book_begin, book_commit, book_point, book_refuse, book_read, book_reply, ack_once, counted, is_entry, no_record, pass_tx, point_once, record_of, reply_or, tx_of};
+ghost use Rattle.zeus_model.specs.Readers.{state_of};
 ghost use Rattle.zeus_world.specs.Books.{IsChange};
 
+mod passes;
+mod readers;
+mod tries;
+
+use crate::places::tx_place;
 use std::alloc::Global;
 use std::marker::Model;
 use zeus_base::{NoMemory, Stream, TxId};
+use zeus_model::TxState;
 use zeus_txn::{Reply, Values};
 
 /// How many points a book has at most, so that they are counted by 32 bits.
 const MOST: usize = 0xffff_ffff;
-
-fn place(id: TxId) -> usize
-    ensures { result ≡ id }
-{
-    id.0 as usize
-}
 
 /// An entry of a stream, by its number.
 #[derive(Clone, Copy, Debug, PartialEq, Eq)]
@@ -79,6 +80,12 @@ impl Record {
             None => false,
             Some(entry) => entry.is(stream, number),
         }
+    }
+
+    fn is_begun(&self) -> bool
+        ensures { result ≡ is_some self.now.begun }
+    {
+        self.begun.is_some()
     }
 
     fn has_point(&self) -> bool
@@ -165,6 +172,26 @@ impl Record {
     {
         self.reply.as_ref()
     }
+
+    /// How far the transaction has come.
+    #[tactic(auto, unfolding(zeus_model::specs::Readers::state_of))]
+    fn state(&self) -> TxState
+        ensures { result ≡ state_of self.now }
+    {
+        if self.refused {
+            TxState::Refused
+        } else if self.acked.is_some() {
+            TxState::Acked
+        } else if self.point.is_some() {
+            TxState::Passed
+        } else if self.entry.is_some() {
+            TxState::Pending
+        } else if self.begun.is_some() {
+            TxState::Current
+        } else {
+            TxState::New
+        }
+    }
 }
 
 /// The place of a transaction in the history, with its reply.
@@ -191,12 +218,14 @@ pub struct Book {
 }
 
 impl Model for Book {
-    ghost use Rattle.std.specs.Prelude.{◌-◌, min, vec_capacity, vec_len};
+    ghost use Rattle.std.specs.Prelude.{◌-◌, ◌≤◌, min, vec_capacity, vec_len};
     ghost use Rattle.zeus_world.specs.Books.{BookState};
 
     ghost Value = { BookState };
 
     ghost view = { λ b. record { book = record { steps = b.steps; points = b.points.items; records = b.records.items }; room = min 4294967295 (vec_capacity b.points) - vec_len b.points } };
+
+    ghost invariant = { λ b. vec_len b.points ≤ 4294967295 };
 }
 
 impl Book {
@@ -245,7 +274,7 @@ impl Book {
         ensures { self.new ≡ record { book = book_begin self.old.book id; room = self.old.room } }
     {
         let step = self.steps;
-        let record = &mut self.records[place(id)];
+        let record = &mut self.records[tx_place(id)];
         record.begin(step);
     }
 
@@ -254,7 +283,7 @@ impl Book {
         requires { id < length self.old.book.records }
         ensures { self.new ≡ record { book = book_commit self.old.book stream.now id number reply; room = self.old.room } }
     {
-        let record = &mut self.records[place(id)];
+        let record = &mut self.records[tx_place(id)];
         record.commit(stream, number, reply);
     }
 
@@ -263,7 +292,7 @@ impl Book {
         requires { id < length self.old.book.records }
         ensures { self.new ≡ record { book = book_reply self.old.book id reply; room = self.old.room } }
     {
-        let record = &mut self.records[place(id)];
+        let record = &mut self.records[tx_place(id)];
         record.set_reply(reply);
     }
 
@@ -272,7 +301,7 @@ impl Book {
         requires { id < length self.old.book.records }
         ensures { self.new ≡ record { book = book_refuse self.old.book id; room = self.old.room } }
     {
-        let record = &mut self.records[place(id)];
+        let record = &mut self.records[tx_place(id)];
         record.refuse();
     }
 
@@ -282,12 +311,12 @@ impl Book {
         ensures { self.new ≡ record { book = book_ack self.old.book id; room = self.old.room } }
     {
         let step = self.steps;
-        let record = &mut self.records[place(id)];
+        let record = &mut self.records[tx_place(id)];
         record.acknowledge(step);
     }
 
     /// The transaction has its point at this step, behind those of the history.
-    fn point(&mut self, id: TxId)
+    fn add_point(&mut self, id: TxId)
         requires there { id < length self.old.book.records }
         requires room { 0 < self.old.room }
         ensures book { self.new.book ≡ book_point self.old.book id }
@@ -295,7 +324,7 @@ impl Book {
     {
         let step = self.steps;
         let alloc = *self.points.allocator();
-        let record = &mut self.records[place(id)];
+        let record = &mut self.records[tx_place(id)];
         let reply = record.reply_or_none(alloc);
         record.point(step);
         self.points.push_reserved(Point { id, reply });
@@ -309,8 +338,15 @@ impl Book {
         ensures room { self.new.room + 1 ≡ self.old.room }
     {
         self.set_reply(id, reply);
-        self.point(id);
+        self.add_point(id);
         self.acknowledge(id);
+    }
+
+    /// The record of the transaction, where there is one.
+    fn record(&self, id: TxId) -> Option<&Record>
+        ensures { option_copied result ≡ slice_get self.now.book.records id }
+    {
+        self.records.get(tx_place(id))
     }
 
     /// The transaction of an entry: the one that was committed with this stream and number.
@@ -332,17 +368,8 @@ impl Book {
         requires { id < length self.now.book.records }
         ensures { result ≡ is_some (record_of self.now.book id).point }
     {
-        let record = &self.records[place(id)];
+        let record = &self.records[tx_place(id)];
         record.has_point()
-    }
-
-    /// Whether the transaction has been acknowledged.
-    fn is_acknowledged(&self, id: TxId) -> bool
-        requires { id < length self.now.book.records }
-        ensures { result ≡ is_some (record_of self.now.book id).acked }
-    {
-        let record = &self.records[place(id)];
-        record.is_acknowledged()
     }
 
     /// The first pass of the transaction's entry is its point; answers whether this one is the first.
@@ -356,7 +383,7 @@ impl Book {
         if self.has_point(id) {
             return false;
         }
-        self.point(id);
+        self.add_point(id);
         true
     }
 

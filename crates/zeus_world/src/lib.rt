@@ -1,8 +1,16 @@
-//! What a run of the machine leaves behind: the letters on its links, and its book of transactions.
+//! A run of the machine: its nodes, the letters on its links, and its book of transactions.
 #![tactic(auto)]
 
 mod book;
+mod cluster;
+mod ids;
 mod links;
+mod made;
+mod places;
+mod posting;
+mod world;
 
 pub use book::Book;
+pub use ids::IdList;
 pub use links::Links;
+pub use world::World;

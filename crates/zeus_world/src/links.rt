@@ -4,6 +4,7 @@ ghost use Rattle.zeus_model.specs.Tables.{nth, put};
 ghost use Rattle.zeus_model.specs.World.{link, nth_letter, posted};
 ghost use Rattle.zeus_world.specs.Links.{HasRoom, IsLink, letters, no_link, room, row_letters};
 
+use crate::places::node_place;
 use std::alloc::Global;
 use std::marker::Model;
 use zeus_base::{NoMemory, NodeId};
@@ -11,12 +12,6 @@ use zeus_packet::Letter;
 
 /// How many letters a link has at most, so that each has its number.
 const MOST: usize = 0xffff_ffff;
-
-fn place(node: NodeId) -> usize
-    ensures { result ≡ node }
-{
-    node.0 as usize
-}
 
 /// One link, seen as its letters and the room for more.
 #[derive(Debug, Drop)]
@@ -110,7 +105,7 @@ impl Row {
         requires { to < length self.now }
         ensures { option_copied result ≡ slice_get (nth no_link self.now to).letters number }
     {
-        let link = &self.links[place(to)];
+        let link = &self.links[node_place(to)];
         link.get(number)
     }
 
@@ -118,7 +113,7 @@ impl Row {
         requires { to < length self.now }
         ensures { result ≡ length (nth no_link self.now to).letters }
     {
-        let link = &self.links[place(to)];
+        let link = &self.links[node_place(to)];
         link.count()
     }
 
@@ -142,7 +137,7 @@ impl Row {
         ensures size { length self.new ≡ length self.old }
         ensures number { result ≡ length (nth [] (row_letters self.old) letter.to) }
     {
-        let link = &mut self.links[place(letter.to)];
+        let link = &mut self.links[node_place(letter.to)];
         link.push(letter)
     }
 }
@@ -182,7 +177,7 @@ impl Links {
         requires { IsLink self.now from to }
         ensures { option_copied result ≡ nth_letter (link (letters self.now) from to) number }
     {
-        let row = &self.rows[place(from)];
+        let row = &self.rows[node_place(from)];
         row.get(to, number)
     }
 
@@ -191,7 +186,7 @@ impl Links {
         requires { IsLink self.now from to }
         ensures { result ≡ length (link (letters self.now) from to) }
     {
-        let row = &self.rows[place(from)];
+        let row = &self.rows[node_place(from)];
         row.count(to)
     }
 
@@ -204,7 +199,7 @@ impl Links {
         ensures letters { letters self.new ≡ letters self.old }
         ensures room { OnOk result (HasRoom count (nth [] self.new from)) }
     {
-        let row = &mut self.rows[place(from)];
+        let row = &mut self.rows[node_place(from)];
         row.reserve(count)
     }
 
@@ -216,7 +211,7 @@ impl Links {
         ensures room { (from to : ℕ) → room self.old from to ≤ room self.new from to + 1 }
         ensures number { result ≡ length (link (letters self.old) letter.from letter.to) }
     {
-        let row = &mut self.rows[place(letter.from)];
+        let row = &mut self.rows[node_place(letter.from)];
         row.push(letter)
     }
 }

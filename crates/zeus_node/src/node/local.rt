@@ -1,23 +1,23 @@
 //! Transactions at a node: begun, read from the copies, or committed at their owner.
 ghost use Rattle.std.specs.Prelude.{◌≡◌, ◌==◌, ◌<◌, ◌≤◌, ◌+◌, ◌^◌, ◌-◌, ◌||◌, true, [], None, Some, List, length, map, take};
 ghost use Rattle.zeus_model.specs.Local.{begin, commit, hindrance, new_writes, read_row, replicas_of, run_here, try_current, try_slot, with_current, write_cause, write_row};
-ghost use Rattle.zeus_model.specs.State.{copy, entry, next_number, slot as slot_of, value_of, version_of};
+ghost use Rattle.zeus_model.specs.State.{copy, entry, next_number, no_entry, owns, slot as slot_of, value_of, version_of};
 ghost use Rattle.std.specs.List.{list_any};
 ghost use Rattle.zeus_txn.specs.Ops.{is_write, named};
 ghost use Rattle.zeus_txn.specs.declared.ops.Op.{Op};
 ghost use Rattle.zeus_node.specs.Copies.{IsWithin};
 ghost use Rattle.zeus_node.specs.Done.{IsDone, IsQuiet};
 ghost use Rattle.zeus_node.specs.Effect.{IsCleared};
-ghost use Rattle.zeus_node.specs.FirstNode.{AreFew, AreFirstLetters, BeginsFrame, IsFirstCurrent, IsFirstTx, KeepsFrame};
+ghost use Rattle.zeus_node.specs.FirstNode.{AreFew, AreFirstLettersFrom, BeginsFrame, IsFirstCurrent, IsFirstTx, KeepsFrame};
 ghost use Rattle.zeus_node.specs.Tries.{AreNew, current_id, pushed, told_hindrance, worn_at};
 
 use super::Node;
 use crate::copies::Change;
 use crate::effect::Effect;
 use crate::places::{object_place, slot_place};
-use zeus_base::{NodeSet, ObjId, SlotId, TxId, Value};
+use zeus_base::{NodeId, NodeSet, ObjId, SlotId, Stamp, TxId, Value};
 use zeus_model::{Begin, Copy, Current, Entry, Pending, Tried};
-use zeus_packet::{Body, RInv, State, Write, Writes};
+use zeus_packet::{Body, Place, RInv, State, Write, Writes};
 use zeus_txn::{NewValues, Op, Ran, Tx, Values, run_ops};
 
 /// What hinders a read.
@@ -27,6 +27,23 @@ pub(crate) enum Hindrance {
     Missing(ObjId),
     /// The copy of the object is not valid.
     Unready(ObjId, State),
+}
+
+/// The entry of an object that there is not.
+fn no_entry() -> Entry
+    ensures { result ≡ no_entry }
+{
+    Entry {
+        stamp: Stamp {
+            ver: 0,
+            driver: NodeId(0),
+        },
+        place: Place {
+            owner: NodeId(0),
+            replicas: NodeSet::empty(),
+        },
+        proposal: None,
+    }
 }
 
 impl Node {
@@ -48,6 +65,25 @@ impl Node {
         ensures { result.now ≡ entry self.now object }
     {
         &self.entries[object_place(object)]
+    }
+
+    /// What the node knows of the object's placement, and of no object the placement at no node.
+    pub fn known_entry(&self, object: ObjId) -> Entry
+        ensures { result ≡ entry self.now object }
+    {
+        match self.entries.get(object_place(object)) {
+            None => no_entry(),
+            Some(entry) => *entry,
+        }
+    }
+
+    /// Whether the node owns the object: its settled placement says so, and it holds no proposal.
+    #[tactic(auto, unfolding(zeus_model::specs::State::owns))]
+    pub fn owns(&self, object: ObjId) -> bool
+        ensures { result ≡ owns self.now object }
+    {
+        let entry = self.known_entry(object);
+        entry.place.owner == self.me && entry.proposal.is_none()
     }
 
     /// The node's copy of the object, where it has one.
@@ -344,7 +380,7 @@ impl Node {
         ensures passed { out.new.passed ≡ (try_slot self.old slot).passed }
         ensures frame { KeepsFrame self.old self.new }
         ensures few { AreFew out.new.passed }
-        ensures letters { AreFirstLetters (length self.old.logs) (length self.old.copies) out.new.sent }
+        ensures letters { AreFirstLettersFrom self.old.me (length self.old.logs) (length self.old.copies) out.new.sent }
     {
         if self.stopped {
             return Tried::Stopped;

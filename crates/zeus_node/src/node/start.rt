@@ -169,8 +169,8 @@ fn start_copy(me: NodeId, object: &ObjectDecl) -> Option<Copy>
     }
 }
 
-/// The set of the nodes below this number.
-fn all_nodes(nodes: u8) -> NodeSet
+/// The set of the nodes below this number, at most 8.
+pub fn all_nodes(nodes: u8) -> NodeSet
     requires { nodes ≤ 8 }
     ensures { result ≡ below nodes }
 {

@@ -14,7 +14,7 @@ returns-in-Some c =
       passed = rw e c.requires.cleared.unpassed;
       frame = keeps-same _;
       few = few_none _ c.requires.cleared.unpassed;
-      letters = cleared-letters _ _ c.args.out.now c.requires.cleared.unsent;
+      letters = cleared-letters _ _ _ c.args.out.now c.requires.cleared.unsent;
     }
 
 pub row-outcome-requires-clause-known : goal.row-outcome-requires-clause-known

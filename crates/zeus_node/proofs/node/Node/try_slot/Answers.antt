@@ -10,13 +10,13 @@ pub returns-then-self : goal.returns-then-self
 returns-then-self c =
     let stopped = sym (ap (λ (n : Node). n.stopped) c.self.view_is) ∙ c.if-self.true in
     let e = try-stopped c.args.self.now c.args.slot stopped in
-    record { answer = rw e refl; after = rw e refl; sent = rw e c.requires.cleared.unsent; passed = rw e c.requires.cleared.unpassed; frame = keeps-same _; few = few_none _ c.requires.cleared.unpassed; letters = cleared-letters _ _ c.args.out.now c.requires.cleared.unsent }
+    record { answer = rw e refl; after = rw e refl; sent = rw e c.requires.cleared.unsent; passed = rw e c.requires.cleared.unpassed; frame = keeps-same _; few = few_none _ c.requires.cleared.unpassed; letters = cleared-letters _ _ _ c.args.out.now c.requires.cleared.unsent }
 
 pub returns-in-None : goal.returns-in-None
 returns-in-None c =
     let running = sym (ap (λ (n : Node). n.stopped) c.self.view_is) ∙ c.if-self.false in
     let e = try-nothing c.args.self.now c.args.slot running c.in-None.ensures.value in
-    record { answer = rw e refl; after = rw e refl; sent = rw e c.requires.cleared.unsent; passed = rw e c.requires.cleared.unpassed; frame = keeps-same _; few = few_none _ c.requires.cleared.unpassed; letters = cleared-letters _ _ c.args.out.now c.requires.cleared.unsent }
+    record { answer = rw e refl; after = rw e refl; sent = rw e c.requires.cleared.unsent; passed = rw e c.requires.cleared.unpassed; frame = keeps-same _; few = few_none _ c.requires.cleared.unpassed; letters = cleared-letters _ _ _ c.args.out.now c.requires.cleared.unsent }
 
 pub try_current-requires-clause-first : goal.try_current-requires-clause-first
 try_current-requires-clause-first c = first_tx _ _ _ c.in-Some.ensures.first

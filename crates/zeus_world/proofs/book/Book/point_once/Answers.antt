@@ -8,7 +8,7 @@ pub returns-then-has_point-clause-change : goal.returns-then-has_point-clause-ch
 returns-then-has_point-clause-change c = pointed_before _ _ _ (sym c.has_point.ensures ∙ c.if-has_point.true)
 
 pub returns-clause-change : goal.returns-clause-change
-returns-clause-change c = pointed_first _ _ _ _ (sym c.has_point.ensures ∙ c.if-has_point.false) c.point.ensures.book
+returns-clause-change c = pointed_first _ _ _ _ (sym c.has_point.ensures ∙ c.if-has_point.false) c.add_point.ensures.book
 
 pub returns-clause-size : goal.returns-clause-size
-returns-clause-size c = rw (c.point.ensures.book, length-put no_record c.args.self.now.book.records c.args.id _ c.requires.there) refl
+returns-clause-size c = rw (c.add_point.ensures.book, length-put no_record c.args.self.now.book.records c.args.id _ c.requires.there) refl

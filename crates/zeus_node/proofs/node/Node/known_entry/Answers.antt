@@ -1,0 +1,15 @@
+use Rattle.std.proofs.Common.{◌≡◌, ◌∙◌, sym}
+use Rattle.zeus_model.specs.State.{no_entry}
+use Rattle.zeus_node.proofs.Acks.{nth_read}
+use Rattle.zeus_node.proofs.ByIndex.{nth_out}
+use Rattle.zeus_node.proofs.node.Node.known_entry.Goals as goal
+
+pub returns-in-Some : goal.returns-in-Some
+returns-in-Some c =
+    let found = rw (c.object_place.ensures, c.deref.ensures.value) at c.in-Some.ensures.lookup in
+    rw (← c.self.view_is) (sym (nth_read no_entry _ _ _ found.3.0 found.1))
+
+pub returns-in-None : goal.returns-in-None
+returns-in-None c =
+    let past = rw (c.object_place.ensures, c.deref.ensures.value) at c.in-None.ensures.lookup in
+    rw (← c.self.view_is) (c.no_entry.ensures ∙ nth_out no_entry _ _ past.3)
