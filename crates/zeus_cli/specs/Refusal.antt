@@ -1,5 +1,8 @@
 -- The lines for bytes that the program does not run.
-use Rattle.std.specs.Prelude.{ℕ, false, List, ◌++◌, Result, Ok, Err, codes, decimal}
+use Rattle.std.specs.Prelude.{ℕ, false, List, ◌++◌, Result, Ok, Err, codes}
+use Rattle.zeus_model.specs.ReportText.{line_end}
+use Rattle.zeus_model.specs.ReportWords.{number}
+use Rattle.zeus_model.specs.Spelling.{word}
 use Rattle.script_lang.specs.Reading.{script_read}
 use Rattle.zeus_model.specs.declared.fault.Kind.{Kind}
 use Rattle.zeus_model.specs.declared.fault.Kind.TheVariants.{Missing, LineEnd, Word, Text, Number, Range, Name, Twice, Unknown, Long, Extra, Live, Size}
@@ -23,7 +26,7 @@ kind_text Size = codes "size"
 
 -- `script LINE KIND`
 abbrev pub fault_line : ScriptFault → List ℕ
-fault_line f = codes "script " ++ decimal f.line ++ codes " " ++ kind_text f.kind ++ codes "\n"
+fault_line f = codes "script" ++ number f.line ++ word (kind_text f.kind) ++ line_end
 
 -- a script that is not of the range which the program runs
 abbrev pub not_yet_line : List ℕ

@@ -2,9 +2,10 @@
 ghost use Rattle.std.specs.Prelude.{◌≡◌, IfOk};
 ghost use Rattle.zeus_cli.specs.Refusal.{fault_line, kind_text};
 
-use itoa::Buffer;
-use std::alloc::{AllocError, Global};
+use std::alloc::Global;
+use zeus_base::NoMemory;
 use zeus_model::{Kind, ScriptFault};
+use zeus_text::{append, write_line_end, write_number, write_word};
 
 /// The words for a kind of fault.
 fn kind_text(kind: Kind) -> &'static [u8]
@@ -28,14 +29,13 @@ fn kind_text(kind: Kind) -> &'static [u8]
 }
 
 /// The line `script LINE KIND` of a fault.
-pub(crate) fn fault_line(alloc: Global, fault: &ScriptFault) -> Result<Vec<u8>, AllocError>
+pub(crate) fn fault_line(alloc: Global, fault: &ScriptFault) -> Result<Vec<u8>, NoMemory>
     ensures { IfOk result (λ line. line.items ≡ fault_line fault.now) }
 {
-    let mut number = Buffer::new();
-    let mut line = Vec::from_slice(alloc, b"script ")?;
-    line.extend_from_slice(number.format(fault.line).as_bytes())?;
-    line.extend_from_slice(b" ")?;
-    line.extend_from_slice(kind_text(fault.kind))?;
-    line.extend_from_slice(b"\n")?;
+    let mut line = Vec::new(alloc);
+    append(&mut line, b"script")?;
+    write_number(&mut line, u64::from(fault.line))?;
+    write_word(&mut line, kind_text(fault.kind))?;
+    write_line_end(&mut line)?;
     Ok(line)
 }

@@ -1,9 +1,15 @@
+mod runs;
+
 use crate::zeus_top;
+use runs::{
+    NO_STEP, NO_STEP_REPORT, ONE_NODE, ONE_NODE_REPORT, REPEATED_PACKETS, REPEATED_PACKETS_REPORT, TWO_NODES,
+    TWO_NODES_REPORT,
+};
 use std::alloc::{AllocError, Global};
 use std::io;
 use std::io::Read;
 use std::test::Fail;
-use zeus_io::{MemSource, SafeSink, SafeSource, Status, StdSource};
+use zeus_io::{MemSink, MemSource, SafeSink, SafeSource, Status, StdSource};
 
 // A reader that always fails.
 #[derive(Drop)]
@@ -24,6 +30,49 @@ fn words(alloc: Global, texts: &[&str]) -> Result<Vec<String>, AllocError> {
 }
 
 #[test]
+fn worked_runs_are_reported_byte_for_byte(rt: HostRuntime) -> Result<(), Fail> {
+    let alloc = rt.alloc();
+    let run = words(alloc, &["run"])?;
+    for (script, report) in [
+        (ONE_NODE, ONE_NODE_REPORT),
+        (TWO_NODES, TWO_NODES_REPORT),
+        (REPEATED_PACKETS, REPEATED_PACKETS_REPORT),
+        (NO_STEP, NO_STEP_REPORT),
+    ] {
+        let bytes = Vec::from_slice(alloc, script.as_bytes())?;
+        let mut source = MemSource::new(bytes, 7, Vec::new(alloc));
+        let mut sink = MemSink::with_room(alloc, 4096, 7, Vec::new(alloc))?;
+        let status = zeus_top(alloc, &run, &mut source, &mut sink);
+        assert_eq!(rt; status, Status::Done);
+        assert_eq!(rt; sink.bytes(), report.as_bytes());
+    }
+    Ok(())
+}
+
+#[test]
+fn a_fault_in_mid_stream_is_told(rt: HostRuntime) -> Result<(), Fail> {
+    let alloc = rt.alloc();
+    let run = words(alloc, &["run"])?;
+
+    // The second read fails, and nothing is written.
+    let bytes = Vec::from_slice(alloc, TWO_NODES.as_bytes())?;
+    let mut source = MemSource::new(bytes, 50, Vec::from_slice(alloc, &[1])?);
+    let mut sink = MemSink::with_room(alloc, 4096, 10, Vec::new(alloc))?;
+    let status = zeus_top(alloc, &run, &mut source, &mut sink);
+    assert_eq!(rt; status, Status::ReadFault);
+    assert_eq!(rt; sink.bytes(), b"".as_slice());
+
+    // The third write fails, behind what the first two wrote.
+    let bytes = Vec::from_slice(alloc, TWO_NODES.as_bytes())?;
+    let mut source = MemSource::new(bytes, 50, Vec::new(alloc));
+    let mut sink = MemSink::with_room(alloc, 4096, 10, Vec::from_slice(alloc, &[2])?)?;
+    let status = zeus_top(alloc, &run, &mut source, &mut sink);
+    assert_eq!(rt; status, Status::WriteFault);
+    assert_eq!(rt; sink.bytes(), &TWO_NODES_REPORT.as_bytes()[..20]);
+    Ok(())
+}
+
+#[test]
 fn other_words_get_the_line_usage(rt: HostRuntime) -> Result<(), Fail> {
     let alloc = rt.alloc();
     for texts in [["walk"].as_slice(), &["run", "x"], &[]] {
@@ -41,15 +90,31 @@ fn other_bytes_get_the_line_script(rt: HostRuntime) -> Result<(), Fail> {
     let alloc = rt.alloc();
     let run = words(alloc, &["run"])?;
     let head = "zeus 1\nnodes 1\nslots 1\ndirectory 0\n";
-    for rest in [
-        // The line of the object is not there.
-        "",
-        // The last line is not ended.
-        "object x 5 0\nrun\nend",
+    for (text, line) in [
+        ("", "script 1 missing\n"),
+        ("zeus 1\nnodes 2", "script 2 line end\n"),
+        ("zeus 1\nnodes 9\n", "script 2 range\n"),
+        ("zeus 1\nnodes 02\n", "script 2 number\n"),
+        ("zeus 2\n", "script 1 word\n"),
+    ] {
+        let bytes = Vec::from_slice(alloc, text.as_bytes())?;
+        let mut source = MemSource::new(bytes, 7, Vec::new(alloc));
+        let mut sink = SafeSink::with_room(alloc, 100)?;
+        let status = zeus_top(alloc, &run, &mut source, &mut sink);
+        assert_eq!(rt; status, Status::Script, "{text}");
+        assert_eq!(rt; sink.bytes(), line.as_bytes());
+    }
+    for (rest, line) in [
+        ("", "script 5 missing\n"),
+        ("object a23456789012345678 5 0\n", "script 5 name\n"),
+        ("object x 5 0 0\n", "script 5 twice\n"),
+        ("object x 5 0\nrun\nend", "script 7 line end\n"),
+        ("object x 5 0\nrun\nend\n ", "script 8 extra\n"),
+        ("object x 5 0\ntx 0 0 get y\n", "script 6 unknown\n"),
         // A step that is not of the first range.
-        "object x 5 0\nrun\ntick 0\nend\n",
+        ("object x 5 0\nrun\ntick 0\nend\n", "script 0 not yet\n"),
         // Two objects.
-        "object x 5 0\nobject y 6 0\nrun\nend\n",
+        ("object x 5 0\nobject y 6 0\nrun\nend\n", "script 0 not yet\n"),
     ] {
         let text = format!(in alloc; "{head}{rest}")?;
         let bytes = Vec::from_slice(alloc, text.as_bytes())?;
@@ -57,7 +122,7 @@ fn other_bytes_get_the_line_script(rt: HostRuntime) -> Result<(), Fail> {
         let mut sink = SafeSink::with_room(alloc, 100)?;
         let status = zeus_top(alloc, &run, &mut source, &mut sink);
         assert_eq!(rt; status, Status::Script, "{rest}");
-        assert_eq!(rt; sink.bytes(), b"script 0 not yet\n".as_slice());
+        assert_eq!(rt; sink.bytes(), line.as_bytes());
     }
     Ok(())
 }

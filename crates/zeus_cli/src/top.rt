@@ -12,6 +12,7 @@ ghost use Rattle.zeus_model.specs.World.{run};
 ghost use Rattle.zeus_model.specs.declared.script.Script.{Script as ScriptData};
 ghost use Rattle.zeus_cli.specs.Top.{AsksRun, TakesScript, IsRefusal, IsReport, IsDue, Writes, WritesFront, longest, usage_line};
 ghost use Rattle.zeus_cli.specs.Inputs.{IsInput, TakesInput};
+ghost use Rattle.zeus_cli.specs.Refusal.{not_yet_line};
 ghost use Rattle.zeus_cli.specs.Output.{Fits, IsWritten};
 
 use crate::fault::fault_line;
@@ -19,7 +20,7 @@ use crate::first_range::is_first_range;
 use crate::output::{NOT_YET, Output};
 use script_lang::{ReadScript, read_script};
 use soundness::every_run_is_sound;
-use std::alloc::{AllocError, Global};
+use std::alloc::Global;
 use zeus_base::NoMemory;
 use zeus_io::{ReadEnd, Sink, Source, Status, WriteFault, read_all, write_all};
 use zeus_model::{Kind, Script, ScriptFault};
@@ -34,16 +35,6 @@ const LONGEST: usize = 4_194_304;
 enum Halt {
     ReadFault,
     NoMemory,
-}
-
-impl From<AllocError> for Halt {
-    ghost use Rattle.zeus_cli.specs.declared.top.Halt.TheVariants.{NoMemory as OutOfMemory};
-
-    ghost from_gives = { λ _ e. e ≡ OutOfMemory };
-
-    fn from(_: AllocError) -> Self {
-        Halt::NoMemory
-    }
 }
 
 impl From<NoMemory> for Halt {
@@ -72,20 +63,27 @@ enum Input {
     Refusal(Vec<u8>),
 }
 
+// The line for a script that is not of the range which the program runs.
+fn not_yet(alloc: Global) -> Result<Vec<u8>, NoMemory>
+    ensures { IfOk result (λ line. line.items ≡ not_yet_line) }
+{
+    Vec::from_slice(alloc, NOT_YET).map_err(|_| NoMemory)
+}
+
 // The script of the first range that these bytes spell, or the line for bytes that spell none.
-fn first_script(alloc: Global, bytes: &[u8]) -> Result<Input, AllocError>
+fn first_script(alloc: Global, bytes: &[u8]) -> Result<Input, NoMemory>
     ensures { IfOk result (IsInput bytes.now) }
 {
     match read_script(alloc, bytes, false) {
         Ok(script) if is_first_range(&script) => Ok(Input::Script(script)),
-        Ok(_) => Ok(Input::Refusal(Vec::from_slice(alloc, NOT_YET)?)),
+        Ok(_) => Ok(Input::Refusal(not_yet(alloc)?)),
         Err(ReadScript::Fault(fault)) => Ok(Input::Refusal(fault_line(alloc, &fault)?)),
-        Err(ReadScript::NoMemory) => Err(AllocError),
+        Err(ReadScript::NoMemory) => Err(NoMemory),
     }
 }
 
 // The line for more bytes than a script may have.
-fn too_long(alloc: Global) -> Result<Input, AllocError>
+fn too_long(alloc: Global) -> Result<Input, NoMemory>
     ensures { (bytes : List ℕ) → longest < length bytes → IfOk result (IsInput bytes) }
 {
     let size = ScriptFault {

@@ -12,11 +12,11 @@ returns-in-Ok c =
     }
 
 -- no other script has the same text
-pub returns-in_ok-from_slice-in-Ok-2 : goal.returns-in_ok-from_slice-in-Ok-2
-returns-in_ok-from_slice-in-Ok-2 c = (
+pub returns-in_ok-not_yet-in-Ok-2 : goal.returns-in_ok-not_yet-in-Ok-2
+returns-in_ok-not_yet-in-Ok-2 c = (
   λ s h.
       let same = same_script s c.in-Ok.script (c.in-Ok.ensures.only s h.spelled (is_opened s h.in_range)) in
       let first = (is_first_range-Decides s).1 h.in_range in
       cc (same, first),
-  c.in_ok-from_slice-in-Ok-2.ensures.items ∙ sym (ap refusal c.in-Ok.ensures.fault),
+  c.in_ok-not_yet-in-Ok-2.ensures ∙ sym (ap refusal c.in-Ok.ensures.fault),
 )
