@@ -25,6 +25,7 @@ pub mod Gathering
 pub mod FirstLines
 pub mod FaultShared
 pub mod Completing
-pub mod FaultReached
 pub mod WordKinds
+pub mod FaultReached
+pub mod FaultKinds
 pub mod FaultFirst
