@@ -1,14 +1,13 @@
 -- The kinds of faults that lie in a line as a whole, and the fault of too many bytes.
-use Rattle.std.proofs.Common.{◌≡◌, ◌≢◌, ℕ, suc, ◌+◌, ◌-◌, ◌<◌, ◌≤◌, Bool, true, false, cond, List, [], ◌∷◌, ◌++◌, length, Result, Ok, Err, refl, sym, ap, ◌∙◌, arith, append-nil, length-append, subst, inl, inr}
-use Rattle.std.specs.Prelude.{◌==◌, ◌↔◌, map, ◌⊎◌}
+use Rattle.std.proofs.Common.{◌≡◌, ◌≢◌, ℕ, suc, ◌+◌, ◌-◌, ◌<◌, Bool, true, false, cond, List, [], ◌∷◌, ◌++◌, length, Err, refl, sym, ap, ◌∙◌, arith, append-nil, length-append, subst, inl, inr}
+use Rattle.std.specs.Prelude.{◌==◌, ◌↔◌, ◌⊎◌}
 use Rattle.std.specs.List.{AllByRecursion}
 use Rattle.zeus_model.specs.declared.fault.Kind.{Kind}
 use Rattle.zeus_model.specs.declared.fault.Kind.TheVariants as kinds
 use Rattle.zeus_model.specs.declared.fault.ScriptFault.{ScriptFault}
 use Rattle.zeus_model.specs.Spelling.{lines_text, script_lines, spelling}
 use Rattle.script_lang.specs.Cut.{with_byte, cut, joined}
-use Rattle.script_lang.specs.Drafts.{State}
-use Rattle.script_lang.specs.FirstFault.{IsOpenedScript, first_lines, IsScriptText, lines_ended, IsKindOfLine}
+use Rattle.script_lang.specs.FirstFault.{first_lines, IsScriptText, lines_ended, IsKindOfLine}
 use Rattle.script_lang.specs.Reading.{start, unended, lines_taken, script_of}
 use Rattle.script_lang.proofs.Cutting.{Lacks, first_part, other_parts, cut_some, cut_not_none, cut_front}
 use Rattle.script_lang.proofs.FaultReached.{KindAt, Wanted, Before, before_fault}

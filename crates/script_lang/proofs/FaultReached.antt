@@ -1,5 +1,5 @@
 -- The lines before a fault are those of a script's text.
-use Rattle.std.proofs.Common.{◌≡◌, ℕ, suc, ◌+◌, ◌<◌, ◌≤◌, Bool, true, false, cond, List, [], ◌∷◌, ◌++◌, length, Result, Ok, Err, refl, sym, ap, ◌∙◌, arith, append_assoc, subst, inl, inr}
+use Rattle.std.proofs.Common.{◌≡◌, ℕ, suc, ◌+◌, ◌≤◌, Bool, true, false, cond, List, [], ◌∷◌, ◌++◌, length, Result, Ok, Err, refl, sym, ap, ◌∙◌, arith, append_assoc, subst, inl, inr}
 use Rattle.std.specs.Prelude.{codes, map, ◌⊎◌}
 use Rattle.zeus_model.specs.declared.fault.Kind.{Kind}
 use Rattle.zeus_model.specs.declared.fault.Kind.TheVariants as kinds
@@ -9,7 +9,7 @@ use Rattle.script_lang.specs.declared.stage.Stage.{Stage}
 use Rattle.script_lang.specs.declared.stage.Stage.TheVariants as stages
 use Rattle.script_lang.specs.Cut.{cut}
 use Rattle.script_lang.specs.Drafts.{State, line_taken}
-use Rattle.script_lang.specs.FirstFault.{IsOpenedScript, first_lines, BeginsScript, IsFirstFault}
+use Rattle.script_lang.specs.FirstFault.{IsOpenedScript, BeginsScript, IsFirstFault}
 use Rattle.script_lang.specs.Reading.{start, fault_at, is_last, unended, line_done, lines_taken, script_of}
 use Rattle.script_lang.proofs.BodySound.{Goes, line_taken-sound}
 use Rattle.script_lang.proofs.Completing.{completes}

@@ -7,7 +7,7 @@ use Rattle.zeus_model.specs.declared.fault.ScriptFault.{ScriptFault}
 use Rattle.zeus_model.specs.Spelling.{spelling}
 use Rattle.script_lang.specs.Cut.{cut}
 use Rattle.script_lang.specs.Drafts.{State, line_taken}
-use Rattle.script_lang.specs.FirstFault.{first_lines, BeginsScript}
+use Rattle.script_lang.specs.FirstFault.{BeginsScript}
 use Rattle.script_lang.specs.Reading.{start, fault_at, is_last, unended, line_done, lines_taken}
 use Rattle.script_lang.proofs.Cutting.{Lacks}
 use Rattle.script_lang.proofs.FirstLines.{shown, first_lines-shown, parts_lack}

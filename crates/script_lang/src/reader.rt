@@ -2,7 +2,7 @@
 ghost use Rattle.std.specs.Prelude.{◌≡◌, ◌≢◌, ◌≤◌, Ok, IfOk, IsErrOf, length};
 ghost use Rattle.script_lang.specs.Cut.{cut};
 ghost use Rattle.script_lang.specs.Drafts.{state_of, line_taken};
-ghost use Rattle.zeus_model.specs.declared.fault.ScriptFault.{ScriptFault as ScriptFaultData};
+ghost use Rattle.zeus_model.specs.declared.fault.ScriptFault.{ScriptFault};
 ghost use Rattle.zeus_model.specs.declared.script.Script.{Script};
 ghost use Rattle.zeus_model.specs.Scripts.{IsSpelled};
 ghost use Rattle.script_lang.specs.FirstFault.{IsFirstFault, IsKindOfLine, TellsSize};
@@ -133,11 +133,11 @@ pub fn read_script(alloc: Global, bytes: &[u8], live: bool) -> Result<Script, Re
     // A fault is that of the first line that reading line by line does not take.
     ensures fault { ReadsScript result (script_read live bytes.now) }
     // Line 0 and the kind of the size each stand for too many bytes.
-    ensures size { (f : ScriptFaultData) → IsErrOf result (ReadScript.Fault f) → TellsSize bytes.now f }
+    ensures size { (f : ScriptFault) → IsErrOf result (ReadScript.Fault f) → TellsSize bytes.now f }
     // A faulty line is the first one up to which the lines begin no script.
-    ensures first { (f : ScriptFaultData) → IsErrOf result (ReadScript.Fault f) → f.line ≢ 0 → IsFirstFault live bytes.now f.line }
+    ensures first { (f : ScriptFault) → IsErrOf result (ReadScript.Fault f) → f.line ≢ 0 → IsFirstFault live bytes.now f.line }
     // Its kind tells whether it is extra, missing or not ended.
-    ensures kind { (f : ScriptFaultData) → IsErrOf result (ReadScript.Fault f) → f.line ≢ 0 → IsKindOfLine live bytes.now f.line f.kind }
+    ensures kind { (f : ScriptFault) → IsErrOf result (ReadScript.Fault f) → f.line ≢ 0 → IsKindOfLine live bytes.now f.line f.kind }
 {
     script_of_bytes(alloc, bytes, live)
 }
