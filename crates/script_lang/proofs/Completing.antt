@@ -1,7 +1,6 @@
 -- Lines that are taken can always be gone on with to a whole script.
-use Rattle.std.proofs.Common.{◌≡◌, ℕ, zero, suc, ◌<◌, ◌≤◌, Bool, true, false, List, [], ◌∷◌, ◌++◌, length, None, Some, Ok, refl, sym, ap, ◌∙◌, arith, append_assoc, inl, inr}
+use Rattle.std.proofs.Common.{◌≡◌, ℕ, zero, suc, ◌≤◌, Bool, true, false, List, [], ◌∷◌, ◌++◌, length, None, Some, Ok, refl, ap, ◌∙◌, arith, append_assoc, inl, inr}
 use Rattle.std.specs.Prelude.{codes, decimal, map, ◌==◌}
-use Rattle.std.proofs.lemmas.Bool.{ne_eqb}
 use Rattle.std.proofs.lemmas.Bool.Decides.{nat_tests}
 use Rattle.std.proofs.lemmas.List.Elements.{All-from_recursion}
 use Rattle.zeus_base.specs.Limits.{KeepsDeclaration}
@@ -14,7 +13,7 @@ use Rattle.zeus_model.specs.Names.{IsName, IsNameByte}
 use Rattle.zeus_model.specs.Scripts.{FitsValue}
 use Rattle.script_lang.specs.declared.stage.Stage.{Stage}
 use Rattle.script_lang.specs.declared.stage.Stage.TheVariants as stages
-use Rattle.script_lang.specs.Drafts.{State, version_of, version_taken, nodes_taken, slots_taken, some_nodes, directory_taken, object_taken, run_taken, tx_line_taken, object_line_taken, degree_line_taken, more, body_taken, line_taken}
+use Rattle.script_lang.specs.Drafts.{State, version_of, version_taken, nodes_taken, slots_taken, directory_taken, object_taken, run_taken, tx_line_taken, object_line_taken, degree_line_taken, more, body_taken, line_taken}
 use Rattle.script_lang.specs.Names.{find}
 use Rattle.script_lang.specs.NodeLists.{nodes_after}
 use Rattle.script_lang.specs.Reads.{word_at, keyword_at, ended}

@@ -1,6 +1,7 @@
--- The fault that is read is the first one.
-use Rattle.std.proofs.Common.{◌≡◌, ◌≢◌, ℕ, Bool, true, false, cond, List, length, Result, Ok, Err, refl, ◌∙◌}
+-- What is returned as a fault: the first one, its kind, and where there are too many bytes.
+use Rattle.std.proofs.Common.{◌≡◌, ◌≢◌, ℕ, ◌<◌, ◌≤◌, Bool, true, false, cond, List, length, Result, Ok, Err, refl, sym, ap, ◌∙◌, arith}
 use Rattle.std.specs.Prelude.{nat_lt, IsErrOf}
+use Rattle.std.proofs.lemmas.Bool.{ltb-true, ltb-false}
 use Rattle.zeus_model.specs.declared.fault.Kind.TheVariants as kinds
 use Rattle.zeus_model.specs.declared.fault.ScriptFault.{ScriptFault}
 use Rattle.zeus_model.specs.declared.script.Script.{Script}
@@ -8,29 +9,54 @@ use Rattle.script_lang.specs.declared.reading.ReadScript.{ReadScript}
 use Rattle.script_lang.specs.declared.reading.ReadScript.TheVariants as errors
 use Rattle.script_lang.specs.Cut.{cut}
 use Rattle.script_lang.specs.Drafts.{State}
-use Rattle.script_lang.specs.FirstFault.{IsFirstFault}
+use Rattle.script_lang.specs.FirstFault.{IsFirstFault, IsKindOfLine, TellsSize}
 use Rattle.script_lang.specs.Reading.{start, fault_at, lines_taken, scripted, script_read, ReadsScript}
+use Rattle.script_lang.proofs.FaultKinds.{kind_of_line, no_size}
 use Rattle.script_lang.proofs.FaultReached.{first_fault}
-use Rattle.script_lang.proofs.WordKinds.{line_blames}
+use Rattle.script_lang.proofs.FaultShared.{from_line}
+
+scripted_fault : (r : Result State ScriptFault) (f : ScriptFault) → scripted r ≡ Err f → r ≡ Err f
+unfolding scripted
+scripted_fault (Ok t) f h = absurd cc
+scripted_fault (Err k) f h = let same : k ≡ f = cc in rw same refl
 
 -- a fault but that of the size is one of the lines
 line_fault : (live : Bool) (bytes : List ℕ) (f : ScriptFault) → script_read live bytes ≡ Err f → f.line ≢ 0 → lines_taken live start 1 (cut 10 bytes) ≡ Err f
-unfolding script_read scripted
+unfolding script_read
 line_fault live bytes f h some = go (nat_lt 4194304 (length bytes)) h
   where
     go : (b : Bool) → cond b (Err (fault_at 0 kinds.Size)) (scripted (lines_taken live start 1 (cut 10 bytes))) ≡ Err f → lines_taken live start 1 (cut 10 bytes) ≡ Err f
     go true e = let same : fault_at 0 kinds.Size ≡ f = cc in absurd (some (rw (← same) refl))
-    go false e = read (lines_taken live start 1 (cut 10 bytes)) e
-      where
-        read : (r : Result State ScriptFault) → scripted r ≡ Err f → r ≡ Err f
-        read (Ok t) i = absurd cc
-        read (Err k) i = let same : k ≡ f = cc in rw same refl
+    go false e = scripted_fault (lines_taken live start 1 (cut 10 bytes)) f e
+
+told_size : (live : Bool) (bytes : List ℕ) (f : ScriptFault) → script_read live bytes ≡ Err f → TellsSize bytes f
+unfolding script_read
+told_size live bytes f h = go (nat_lt 4194304 (length bytes)) refl h
+  where
+    go : (b : Bool) → nat_lt 4194304 (length bytes) ≡ b → cond b (Err (fault_at 0 kinds.Size)) (scripted (lines_taken live start 1 (cut 10 bytes))) ≡ Err f → TellsSize bytes f
+    go true e g =
+        let same : fault_at 0 kinds.Size ≡ f = cc in
+        let more : 4194304 < length bytes = ltb-true 4194304 (length bytes) e in
+        record { line = (λ _. more, λ _. sym (ap (λ (k : ScriptFault). k.line) same)); kind = (λ _. more, λ _. sym (ap (λ (k : ScriptFault). k.kind) same)) }
+    go false e g =
+        let few : length bytes ≤ 4194304 = ltb-false 4194304 (length bytes) e in
+        let taken = scripted_fault (lines_taken live start 1 (cut 10 bytes)) f g in
+        let low : 1 ≤ f.line = from_line live start 1 (cut 10 bytes) f taken in
+        record { line = (λ zero. absurd (omega arith), λ more. absurd (omega arith)); kind = (λ size. absurd (no_size live bytes f taken size), λ more. absurd (omega arith)) }
+
+-- ---- what was returned
 
 returned : (r : Result Script ReadScript) (read : Result Script ScriptFault) (f : ScriptFault) → ReadsScript r read → IsErrOf r (errors.Fault f) → read ≡ Err f
 returned (Ok s) read f h e = absurd cc
 returned (Err (errors.Fault g)) read f h e = let same : g ≡ f = cc in h ∙ rw same refl
 returned (Err errors.NoMemory) read f h e = absurd cc
 
--- so of what was returned
-pub returned_first : (live : Bool) (bytes : List ℕ) (r : Result Script ReadScript) → ReadsScript r (script_read live bytes) → (f : ScriptFault) → IsErrOf r (errors.Fault f) → f.line ≢ 0 → IsFirstFault live bytes f.line
-returned_first live bytes r h f e some = first_fault live bytes f (line_fault live bytes f (returned r (script_read live bytes) f h e) some)
+module _ (live : Bool) (bytes : List ℕ) (r : Result Script ReadScript) (h : ReadsScript r (script_read live bytes)) (f : ScriptFault) (e : IsErrOf r (errors.Fault f)) where
+  pub returned_size : TellsSize bytes f
+  returned_size = told_size live bytes f (returned r (script_read live bytes) f h e)
+
+  pub returned_first : f.line ≢ 0 → IsFirstFault live bytes f.line
+  returned_first some = first_fault live bytes f (line_fault live bytes f (returned r (script_read live bytes) f h e) some)
+
+  pub returned_kind : f.line ≢ 0 → IsKindOfLine live bytes f.line f.kind
+  returned_kind some = kind_of_line live bytes f (line_fault live bytes f (returned r (script_read live bytes) f h e) some)

@@ -7,7 +7,7 @@ use Rattle.zeus_model.specs.declared.fault.ScriptFault.{ScriptFault}
 use Rattle.zeus_model.specs.Spelling.{spelling}
 use Rattle.script_lang.specs.Cut.{cut}
 use Rattle.script_lang.specs.Drafts.{State, line_taken}
-use Rattle.script_lang.specs.FirstFault.{first_lines, BeginsScript}
+use Rattle.script_lang.specs.FirstFault.{BeginsScript}
 use Rattle.script_lang.specs.Reading.{start, fault_at, is_last, unended, line_done, lines_taken}
 use Rattle.script_lang.proofs.Cutting.{Lacks}
 use Rattle.script_lang.proofs.FirstLines.{shown, first_lines-shown, parts_lack}
@@ -47,13 +47,13 @@ is_last-shown n (b ∷ q) (p ∷ ps) = refl
 
 -- ---- no fault lies before the line where reading begins
 
-abbrev failed : ScriptFault → Result State ScriptFault
+abbrev pub failed : ScriptFault → Result State ScriptFault
 failed f = Err f
 
 pub at_line : (n : ℕ) (k : Kind) (f : ScriptFault) → failed (fault_at n k) ≡ failed f → n ≡ f.line
 at_line n k f e = let same : fault_at n k ≡ f = cc in ap (λ (g : ScriptFault). g.line) same
 
-from_line : (live : Bool) (s : State) (m : ℕ) (ps : List (List ℕ)) (f : ScriptFault) → lines_taken live s m ps ≡ Err f → m ≤ f.line
+pub from_line : (live : Bool) (s : State) (m : ℕ) (ps : List (List ℕ)) (f : ScriptFault) → lines_taken live s m ps ≡ Err f → m ≤ f.line
 unfolding lines_taken line_done
 from_line live s m [] f h = omega (arith, at_line m kinds.Missing f h)
 from_line live s m (p ∷ []) f h = omega (arith, at_line m (unended p) f h)

@@ -5,7 +5,7 @@ use Rattle.std.specs.List.{AllByRecursion}
 use Rattle.std.proofs.lemmas.Bool.{eqb-true, eqb-false}
 use Rattle.script_lang.specs.Cut.{with_byte, cut}
 use Rattle.script_lang.specs.FirstFault.{first_lines}
-use Rattle.script_lang.proofs.Cutting.{Lacks, first_part, other_parts, cut_some, cut_not_none}
+use Rattle.script_lang.proofs.Cutting.{Lacks, cut_not_none}
 
 -- the text of the first n parts, where each but the last is ended
 unfoldable pub shown : ℕ → List (List ℕ) → List ℕ

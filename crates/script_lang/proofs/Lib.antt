@@ -5,6 +5,7 @@ pub mod Digits
 pub mod DraftFits
 pub mod DraftSound
 pub mod FaultFirst
+pub mod FaultKinds
 pub mod FaultReached
 pub mod FaultShared
 pub mod FindLaws

@@ -1,6 +1,6 @@
 -- What is wrong with a line that is ended and wanted is wrong with one of its words.
-use Rattle.std.proofs.Common.{◌≡◌, ℕ, zero, suc, Bool, true, false, cond, List, [], ◌∷◌, ◌++◌, length, Option, Some, None, Result, Ok, Err}
-use Rattle.std.specs.Prelude.{codes, ◌^◌, ◌&&◌, ◌||◌, ◌==◌, nat_lt, nat_le}
+use Rattle.std.proofs.Common.{ℕ, zero, suc, Bool, true, false, cond, List, [], ◌∷◌, ◌++◌, length, Option, Some, None, Result, Ok, Err}
+use Rattle.std.specs.Prelude.{codes, ◌^◌, ◌&&◌, ◌==◌, nat_le}
 use Rattle.std.specs.Str.{bytes_eq}
 use Rattle.zeus_base.specs.Nodes.{with_node}
 use Rattle.zeus_txn.specs.declared.ops.Op.{Op}
@@ -14,16 +14,15 @@ use Rattle.script_lang.specs.declared.opened.TheConstants.{LATEST_VERSION, READS
 use Rattle.script_lang.specs.declared.stage.Stage.{Stage}
 use Rattle.script_lang.specs.declared.stage.Stage.TheVariants as stages
 use Rattle.script_lang.specs.Drafts.{State, version_of, version_taken, nodes_taken, slots_taken, some_nodes, directory_taken, degree_taken, object_taken, tx_taken, run_taken, step_taken, tx_line_taken, object_line_taken, degree_line_taken, more, step_line_taken, body_taken, line_taken}
-use Rattle.script_lang.specs.Gathered.{takes_object}
-use Rattle.script_lang.specs.Names.{find, is_name, name_of_word}
-use Rattle.script_lang.specs.NodeLists.{is_full, is_owner, listed_of, nodes_after}
+use Rattle.script_lang.specs.Names.{find, name_of_word}
+use Rattle.script_lang.specs.NodeLists.{listed_of, nodes_after}
 use Rattle.script_lang.specs.Numbers.{number_of, range_of, number_at, range_at}
 use Rattle.script_lang.specs.Objects.{vacant, new_name_of, object_at}
 use Rattle.script_lang.specs.Operations.{op_word_of, object_of_word, operand_at, op_rest_at, op_at, ops_after, ops_at}
 use Rattle.script_lang.specs.Reads.{◌>>=◌, or_fault, word_at, keyword_at, word_if, ended}
 use Rattle.script_lang.specs.Steps.{step_word_of, step_at}
 use Rattle.script_lang.specs.Transactions.{number_if, after_at, tx_at}
-use Rattle.script_lang.specs.Values.{is_text, text_of, value_of, value_at}
+use Rattle.script_lang.specs.Values.{text_of, value_of, value_at}
 
 -- a kind of fault of a word
 unfoldable pub IsOfWord : Kind → Type 0

@@ -2,10 +2,10 @@
 ghost use Rattle.std.specs.Prelude.{◌≡◌, ◌≢◌, ◌≤◌, Ok, IfOk, IsErrOf, length};
 ghost use Rattle.script_lang.specs.Cut.{cut};
 ghost use Rattle.script_lang.specs.Drafts.{state_of, line_taken};
-ghost use Rattle.zeus_model.specs.declared.fault.ScriptFault.{ScriptFault as ScriptFaultData};
+ghost use Rattle.zeus_model.specs.declared.fault.ScriptFault.{ScriptFault};
 ghost use Rattle.zeus_model.specs.declared.script.Script.{Script};
 ghost use Rattle.zeus_model.specs.Scripts.{IsSpelled};
-ghost use Rattle.script_lang.specs.FirstFault.{IsFirstFault};
+ghost use Rattle.script_lang.specs.FirstFault.{IsFirstFault, IsKindOfLine, TellsSize};
 ghost use Rattle.script_lang.specs.Opened.{IsOpened};
 ghost use Rattle.script_lang.specs.Reading.{ReadsScript, TakesAll, TakesNumbered, is_last, unended, lines_taken, script_of, script_read};
 
@@ -124,7 +124,7 @@ fn script_of_bytes(alloc: Global, bytes: &[u8], live: bool) -> Result<Script, Re
 /// # Errors
 /// `Fault` with the first faulty line, and what is wrong with the first of its words that does not fit; `NoMemory` where
 /// memory was wanting.
-#[tactic(auto, using(crate::proofs::ReadSound::read_found, crate::proofs::ReadComplete::read_only, crate::proofs::FaultFirst::returned_first))]
+#[tactic(auto, using(crate::proofs::ReadSound::read_found, crate::proofs::ReadComplete::read_only))]
 pub fn read_script(alloc: Global, bytes: &[u8], live: bool) -> Result<Script, ReadScript>
     // What is read is spelled so.
     ensures found { IfOk result (λ s. IsSpelled bytes.now s × IsOpened live s) }
@@ -132,8 +132,12 @@ pub fn read_script(alloc: Global, bytes: &[u8], live: bool) -> Result<Script, Re
     ensures only { (s : Script) → IsSpelled bytes.now s → IsOpened live s → ReadsScript result (Ok s) }
     // A fault is that of the first line that reading line by line does not take.
     ensures fault { ReadsScript result (script_read live bytes.now) }
+    // Line 0 and the kind of the size each stand for too many bytes.
+    ensures size { (f : ScriptFault) → IsErrOf result (ReadScript.Fault f) → TellsSize bytes.now f }
     // A faulty line is the first one up to which the lines begin no script.
-    ensures first { (f : ScriptFaultData) → IsErrOf result (ReadScript.Fault f) → f.line ≢ 0 → IsFirstFault live bytes.now f.line }
+    ensures first { (f : ScriptFault) → IsErrOf result (ReadScript.Fault f) → f.line ≢ 0 → IsFirstFault live bytes.now f.line }
+    // Its kind tells whether it is extra, missing or not ended.
+    ensures kind { (f : ScriptFault) → IsErrOf result (ReadScript.Fault f) → f.line ≢ 0 → IsKindOfLine live bytes.now f.line f.kind }
 {
     script_of_bytes(alloc, bytes, live)
 }

@@ -1,0 +1,11 @@
+use Rattle.script_lang.proofs.FaultFirst.{returned_first, returned_kind, returned_size}
+use Rattle.script_lang.proofs.reader.read_script.Goals as goal
+
+pub returns-clause-first : goal.returns-clause-first
+returns-clause-first c = returned_first c.args.live c.args.bytes.now c.script_of_bytes.result c.script_of_bytes.ensures
+
+pub returns-clause-kind : goal.returns-clause-kind
+returns-clause-kind c = returned_kind c.args.live c.args.bytes.now c.script_of_bytes.result c.script_of_bytes.ensures
+
+pub returns-clause-size : goal.returns-clause-size
+returns-clause-size c = returned_size c.args.live c.args.bytes.now c.script_of_bytes.result c.script_of_bytes.ensures
