@@ -17,7 +17,9 @@ use zeus_base::NoMemory;
 use zeus_model::Script;
 use zeus_text::append;
 
-/// The text of a script: the one that `read_script` reads it from, where it is one that can be read.
+/// The text of a script, of either version, with or without a degree.
+///
+/// An operation on an object that has no name gets an empty word for it, and an object without a name gets no line.
 ///
 /// # Errors
 ///

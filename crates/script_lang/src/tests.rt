@@ -2,8 +2,10 @@ use super::*;
 use std::alloc::Global;
 use std::process::Abort;
 use std::test::Fail;
-use zeus_base::{NodeId, NodeSet, ObjId, ObjectDecl, SlotId, Step, TxId, Value};
-use zeus_txn::Op;
+use zeus_base::{
+    Config, NodeId, NodeSet, ObjId, ObjectDecl, ObjectList, SlotId, Step, Steps, Text, TxId, Value,
+};
+use zeus_txn::{Op, Tx, TxDecl, TxList};
 
 // The first lines, with one object.
 const HEAD: &str = "zeus 1\nnodes 2\nslots 1\ndirectory 0\nobject x 5 0 1\n";
@@ -325,5 +327,185 @@ fn a_live_run_takes_no_step_and_1000_transactions(rt: HostRuntime) -> Result<(),
     check(&rt, alloc, txs.as_str(), true, &table)?;
     let whole = format!(in alloc; "{txs}run\nend\n")?;
     assert!(rt; read_script(alloc, whole.as_bytes(), true).is_ok());
+    Ok(())
+}
+
+// Worked scripts of version 1 without a degree.
+static WORKED: [&str; 8] = [
+    "zeus 1\nnodes 1\nslots 1\ndirectory 0\nobject x 5 0\ntx 0 0 add x 3\nrun\nbegin 0\n\
+     try 0 0\nend\n",
+    "zeus 1\nnodes 2\nslots 1\ndirectory 0\nobject x 5 0 1\ntx 0 0 add x 3\ntx 1 0 get x\n\
+     run\nbegin 0\ntry 0 0\ndeliver 0 1 0\ndeliver 1 0 0\ndeliver 0 1 1\nbegin 1\ntry 1 0\n\
+     end\n",
+    "zeus 1\nnodes 2\nslots 1\ndirectory 0\nobject x 5 0 1\ntx 0 0 add x 3\ntx 1 0 get x\n\
+     run\nbegin 0\ntry 0 0\ndeliver 0 1 0\ndeliver 1 0 0\nbegin 1\ntry 1 0\ntick 0\n\
+     deliver 0 1 2\ntry 1 0\nend\n",
+    "zeus 1\nnodes 2\nslots 1\ndirectory 0\nobject x 5 0 1\ntx 0 0 add x 3\ntx 1 0 get x\n\
+     run\nbegin 0\ntry 0 0\ndeliver 0 1 0\ndeliver 0 1 0\ndeliver 0 1 0\ndeliver 1 0 0\n\
+     deliver 1 0 1\nend\n",
+    "zeus 1\nnodes 2\nslots 1\ndirectory 0\nobject x 5 0 1\ntx 0 0 add x 3\n\
+     tx 0 0 add x 1\nrun\nbegin 0\ntry 0 0\nbegin 1\ntry 0 0\ndeliver 0 1 1\n\
+     deliver 0 1 0\ndeliver 0 1 1\ndeliver 1 0 1\ndeliver 1 0 0\nend\n",
+    "zeus 1\nnodes 3\nslots 1\ndirectory 0\nobject x 5 0 1\ntx 2 0 add x 1\ntx 0 0 get x\n\
+     run\nbegin 0\ntry 2 0\ndeliver 2 0 0\ndeliver 0 2 0\nbegin 1\ntry 0 0\ntry 2 0\nend\n",
+    "zeus 1\nnodes 3\nslots 1\ndirectory 0\nobject x 5 0 1 2\ntx 0 0 add x 1\n\
+     tx 1 0 get x\nrun\nbegin 0\ntry 0 0\ndeliver 0 1 0\ndeliver 0 2 0\ndeliver 1 0 0\n\
+     deliver 2 0 0\nstop 0\nview 1 2\ninstall 1 2\ninstall 2 2\ndeliver 0 1 1\ntick 1\n\
+     deliver 1 2 0\ndeliver 2 1 0\ndeliver 1 2 1\nbegin 1\ntry 1 0\nend\n",
+    "zeus 1\nnodes 4\nslots 1\ndirectory 0 1\nobject x 5 3\ntx 0 0 add x 1\n\
+     tx 1 0 add x 2\nrun\nbegin 0\ntry 0 0\nbegin 1\ntry 1 0\ndeliver 0 0 0\n\
+     deliver 1 1 0\ndeliver 0 1 0\ndeliver 1 0 0\ndeliver 1 3 0\ndeliver 0 3 0\n\
+     deliver 1 1 1\ndeliver 0 1 1\ndeliver 3 1 0\ndeliver 1 0 2\ntick 0\ndeliver 0 0 2\n\
+     deliver 0 1 0\nend\n",
+];
+
+// A value that is a text.
+fn text(rt: &impl Abort, bytes: &[u8]) -> Value {
+    Value::Text(Text::new(bytes).expect(rt, "a text"))
+}
+
+// A name.
+fn name(rt: &impl Abort, bytes: &[u8]) -> Name {
+    Name::new(bytes).expect(rt, "a name")
+}
+
+// A transaction of these operations.
+fn tx(rt: &impl Abort, alloc: Global, ops: &[Op]) -> Tx {
+    Tx::new(alloc, ops).expect(rt, "a transaction")
+}
+
+#[test]
+fn what_was_read_prints_back(rt: HostRuntime) -> Result<(), Fail> {
+    let alloc = rt.alloc();
+    for text in &WORKED {
+        let script = script(&rt, alloc, text.as_bytes());
+        let printed = print_script(alloc, &script)?;
+        assert_eq!(rt; printed.as_slice(), text.as_bytes());
+    }
+    Ok(())
+}
+
+#[test]
+fn texts_are_printed(rt: HostRuntime) -> Result<(), Fail> {
+    let alloc = rt.alloc();
+    let x = ObjectDecl {
+        value: text(&rt, b"idle"),
+        owner: NodeId(0),
+        replicas: set(0b11),
+    };
+    let first = [
+        Op::Get(ObjId(0)),
+        Op::Same(ObjId(0), text(&rt, b"idle")),
+        Op::Put(ObjId(0), text(&rt, b"busy")),
+    ];
+    let second = [Op::Add(ObjId(0), 1)];
+    let txs = vec![in alloc;
+        TxDecl {
+            node: NodeId(0),
+            slot: SlotId(0),
+            after: None,
+            tx: tx(&rt, alloc, &first)
+        },
+        TxDecl {
+            node: NodeId(0),
+            slot: SlotId(0),
+            after: None,
+            tx: tx(&rt, alloc, &second)
+        },
+    ]?;
+    let steps = vec![in alloc;
+        Step::Begin(TxId(0)),
+        Step::Try(NodeId(0), SlotId(0)),
+        Step::Begin(TxId(1)),
+        Step::Try(NodeId(0), SlotId(0)),
+        Step::Deliver(NodeId(0), NodeId(1), 0),
+        Step::Deliver(NodeId(1), NodeId(0), 0),
+    ]?;
+    let script = Script {
+        config: Config {
+            version: 2,
+            nodes: 2,
+            slots: 1,
+            directory: set(0b1),
+            degree: None,
+            objects: ObjectList::from_vec(vec![in alloc; x]?),
+        },
+        names: Names::from_vec(vec![in alloc; name(&rt, b"x")]?),
+        txs: TxList::from_vec(txs),
+        steps: Steps::from_vec(steps),
+    };
+    let wanted = "zeus 2\nnodes 2\nslots 1\ndirectory 0\nobject x 'idle 0 1\n\
+        tx 0 0 get x ; same x 'idle ; put x 'busy\ntx 0 0 add x 1\nrun\nbegin 0\ntry 0 0\n\
+        begin 1\ntry 0 0\ndeliver 0 1 0\ndeliver 1 0 0\nend\n";
+    let printed = print_script(alloc, &script)?;
+    assert_eq!(rt; printed.as_slice(), wanted.as_bytes());
+    Ok(())
+}
+
+#[test]
+fn a_degree_each_operation_and_each_step_are_printed(rt: HostRuntime) -> Result<(), Fail> {
+    let alloc = rt.alloc();
+    let x = ObjectDecl {
+        value: text(&rt, b"it's"),
+        owner: NodeId(3),
+        replicas: set(0b1000_1001),
+    };
+    let y = ObjectDecl {
+        value: Value::Num(u64::MAX),
+        owner: NodeId(0),
+        replicas: set(0b1),
+    };
+    let first = [Op::Get(ObjId(0))];
+    let second = [
+        Op::Put(ObjId(1), Value::Num(0)),
+        Op::Add(ObjId(0), 10),
+        Op::Need(ObjId(0), 0),
+        Op::Same(ObjId(1), text(&rt, b"007")),
+        Op::Get(ObjId(1)),
+    ];
+    let txs = vec![in alloc;
+        TxDecl {
+            node: NodeId(0),
+            slot: SlotId(0),
+            after: None,
+            tx: tx(&rt, alloc, &first)
+        },
+        TxDecl {
+            node: NodeId(7),
+            slot: SlotId(1),
+            after: Some(TxId(0)),
+            tx: tx(&rt, alloc, &second),
+        },
+    ]?;
+    let steps = vec![in alloc;
+        Step::Begin(TxId(1)),
+        Step::Try(NodeId(7), SlotId(1)),
+        Step::Deliver(NodeId(7), NodeId(0), 4_294_967_295),
+        Step::Tick(NodeId(2)),
+        Step::Stop(NodeId(0)),
+        Step::View(set(0b1000_0010)),
+        Step::View(set(0)),
+        Step::Install(NodeId(7), 1),
+    ]?;
+    let script = Script {
+        config: Config {
+            version: 2,
+            nodes: 8,
+            slots: 2,
+            directory: set(0b1000_1001),
+            degree: Some(2),
+            objects: ObjectList::from_vec(vec![in alloc; x, y]?),
+        },
+        names: Names::from_vec(vec![in alloc; name(&rt, b"x"), name(&rt, b"y_2")]?),
+        txs: TxList::from_vec(txs),
+        steps: Steps::from_vec(steps),
+    };
+    let wanted = "zeus 2\nnodes 8\nslots 2\ndirectory 0 3 7\ndegree 2\nobject x 'it's 3 0 7\n\
+        object y_2 18446744073709551615 0\ntx 0 0 get x\n\
+        tx 7 1 after 0 put y_2 0 ; add x 10 ; need x 0 ; same y_2 '007 ; get y_2\nrun\n\
+        begin 1\ntry 7 1\ndeliver 7 0 4294967295\ntick 2\nstop 0\nview 1 7\nview\n\
+        install 7 1\nend\n";
+    let printed = print_script(alloc, &script)?;
+    assert_eq!(rt; printed.as_slice(), wanted.as_bytes());
     Ok(())
 }
