@@ -1,0 +1,9 @@
+//! Whether a node may drive a request for an object, and the proposal that it then makes of the request.
+#![tactic(auto)]
+
+mod drive;
+#[cfg(test)]
+mod tests;
+
+pub use drive::{Drive, Drives};
+pub use owner_entry::Dir;

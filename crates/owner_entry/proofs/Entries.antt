@@ -1,0 +1,115 @@
+-- What becomes of an entry: the node's definitions, at a node that has it.
+use Rattle.std.proofs.Common.{ℕ, zero, suc, ◌≡◌, ◌∙◌, ◌<◌, Bool, true, false, ◌&&◌, ◌==◌, List, [], ◌∷◌, Option, Some, None, is_none, if◌then◌else◌, length, refl, sym, ap, arith}
+use Rattle.std.proofs.Math.ListN.{get_or, set}
+use Rattle.zeus_base.specs.Tables.{nth, put}
+use Rattle.zeus_base.specs.TableLaws.{nth-put_same}
+use Rattle.zeus_base.specs.Order.{is_below}
+use Rattle.zeus_base.specs.declared.order.Stamp.{Stamp}
+use Rattle.zeus_packet.specs.declared.letter.Cause.{Cause}
+use Rattle.zeus_packet.specs.declared.letter.Cause.TheVariants.{Proposed}
+use Rattle.zeus_packet.specs.declared.place.Place.{Place}
+use Rattle.zeus_packet.specs.declared.place.Proposal.{Proposal}
+use Rattle.zeus_model.specs.declared.answer.Outcome.TheVariants.{Taken, Again}
+use Rattle.zeus_model.specs.declared.state.Entry.{Entry}
+use Rattle.zeus_model.specs.Ownership.{answer_settled, greater_cause, hold_or_refuse, is_held, refuse_proposal, settle, settled_entry}
+use Rattle.zeus_model.specs.State.{Node, entry, no_entry, owns}
+use Rattle.owner_entry.specs.Acceptance.{on_proposal}
+
+pub owns_known : (n : Node) (x me : ℕ) (e : Entry) → entry n x ≡ e → n.me ≡ me → owns n x ≡ ((e.place.owner == me) && is_none e.proposal)
+unfolding owns
+owns_known n x me e here mine = rw (here, mine) refl
+
+pub settle_above : (n : Node) (x : ℕ) (e : Entry) (stamp : Stamp) (place : Place) → entry n x ≡ e → is_below e.stamp stamp ≡ true → entry (settle n x stamp place) x ≡ settled_entry e stamp place
+unfolding settle
+settle_above n x e stamp place here above = rw (here, above) (nth-put_same no_entry n.entries x (settled_entry e stamp place))
+
+pub settle_below : (n : Node) (x : ℕ) (e : Entry) (stamp : Stamp) (place : Place) → entry n x ≡ e → is_below e.stamp stamp ≡ false → settle n x stamp place ≡ n
+unfolding settle
+settle_below n x e stamp place here above = rw (here, above) refl
+
+settle_entries : (n : Node) (x : ℕ) (stamp : Stamp) (place : Place) → is_below (entry n x).stamp stamp ≡ true → put no_entry n.entries x (settled_entry (entry n x) stamp place) ≡ (settle n x stamp place).entries
+unfolding settle
+settle_entries n x stamp place above = rw above refl
+
+-- a stamp that is not above leaves the entry
+pub settle_same : (n : Node) (x : ℕ) (e : Entry) (stamp : Stamp) (place : Place) → entry n x ≡ e → is_below e.stamp stamp ≡ false → e ≡ entry (settle n x stamp place) x
+settle_same n x e stamp place here above = rw (settle_below n x e stamp place here above) (sym here)
+
+pub on_proposal-settled : (n : Node) (from x : ℕ) (e : Entry) (p : Proposal) → entry n x ≡ e → is_below e.stamp p.stamp ≡ false → on_proposal n from x p ≡ answer_settled n from x
+unfolding on_proposal
+on_proposal-settled n from x e p here above = rw (here, above) refl
+
+pub on_proposal-older : (n : Node) (from x : ℕ) (e : Entry) (p : Proposal) (stamp : Stamp) → entry n x ≡ e → is_below e.stamp p.stamp ≡ true → Some (Proposed stamp) ≡ greater_cause p.stamp e.proposal → on_proposal n from x p ≡ refuse_proposal n x p (Proposed stamp)
+unfolding on_proposal hold_or_refuse
+on_proposal-older n from x e p stamp here above greater = rw (here, above, ← greater) refl
+
+pub on_proposal-held : (n : Node) (from x : ℕ) (e : Entry) (p : Proposal) → entry n x ≡ e → is_below e.stamp p.stamp ≡ true → None ≡ greater_cause p.stamp e.proposal → on_proposal n from x p ≡ hold_or_refuse n from x p None
+unfolding on_proposal
+on_proposal-held n from x e p here above greater = rw (here, above, ← greater) refl
+
+-- the entry with this proposal held
+pub holding_entry : (n : Node) (from x : ℕ) (e : Entry) (p : Proposal) → entry n x ≡ e → entry (hold_or_refuse n from x p None).node x ≡ record { stamp = e.stamp; place = e.place; proposal = Some p }
+unfolding hold_or_refuse
+holding_entry n from x e p here =
+    nth-put_same no_entry n.entries x _ ∙ ap (λ (f : Entry). let g : Entry = record { stamp = f.stamp; place = f.place; proposal = Some p } in g) here
+
+pub holding_answer : (n : Node) (from x : ℕ) (e : Entry) (p : Proposal) (held : Bool) → entry n x ≡ e → held ≡ is_held p e.proposal → (hold_or_refuse n from x p None).answer ≡ (if held then Again else Taken)
+unfolding hold_or_refuse
+holding_answer n from x e p held here is = rw (here, is) refl
+
+get_or_default : {A : Type 0} (xs : List A) (i : ℕ) (d e : A) → i < length xs → get_or xs i d ≡ get_or xs i e
+get_or_default [] i d e h = absurd (omega arith)
+get_or_default (x ∷ xs) zero d e h = refl
+get_or_default (x ∷ xs) (suc i) d e h = get_or_default xs i d e (omega arith)
+
+nth-get_or : {A : Type 0} (d : A) (xs : List A) (i : ℕ) → nth d xs i ≡ get_or xs i d
+unfolding nth
+nth-get_or d [] i = refl
+nth-get_or d (x ∷ xs) zero = refl
+nth-get_or d (x ∷ xs) (suc i) = nth-get_or d xs i
+
+-- the element at a place in range, whatever the default
+pub nth_read : {A : Type 0} (d : A) (xs : List A) (i : ℕ) (x : A) → i < length xs → x ≡ get_or xs i x → nth d xs i ≡ x
+nth_read d xs i x h e = nth-get_or d xs i ∙ get_or_default xs i d x h ∙ sym e
+
+put-set : {A : Type 0} (d : A) (xs : List A) (i : ℕ) (v : A) → i < length xs → put d xs i v ≡ set xs i v
+unfolding put
+put-set d [] i v h = absurd (omega arith)
+put-set d (x ∷ xs) zero v h = refl
+put-set d (x ∷ xs) (suc i) v h = ap (λ l. x ∷ l) (put-set d xs i v (omega arith))
+
+set-nth : {A : Type 0} (d : A) (xs : List A) (i : ℕ) → i < length xs → set xs i (nth d xs i) ≡ xs
+unfolding nth
+set-nth d [] i h = absurd (omega arith)
+set-nth d (x ∷ xs) zero h = refl
+set-nth d (x ∷ xs) (suc i) h = ap (λ l. x ∷ l) (set-nth d xs i (omega arith))
+
+settle_set-by : (n : Node) (x : ℕ) (stamp : Stamp) (place : Place) (b : Bool) → x < length n.entries → is_below (entry n x).stamp stamp ≡ b → set n.entries x (entry (settle n x stamp place) x) ≡ (settle n x stamp place).entries
+settle_set-by n x stamp place true h above =
+    rw (settle_above n x _ stamp place refl above) (sym (put-set no_entry n.entries x _ h) ∙ settle_entries n x stamp place above)
+settle_set-by n x stamp place false h above = rw (settle_below n x _ stamp place refl above) (set-nth no_entry n.entries x h)
+
+-- a settled stamp changes the entry of its object and no other
+pub settle_set : (n : Node) (x : ℕ) (stamp : Stamp) (place : Place) → x < length n.entries → set n.entries x (entry (settle n x stamp place) x) ≡ (settle n x stamp place).entries
+settle_set n x stamp place h = settle_set-by n x stamp place (is_below (entry n x).stamp stamp) h refl
+
+-- so does a proposal
+on_proposal_set-by : (n : Node) (from x : ℕ) (p : Proposal) (b : Bool) (cause : Option Cause) → x < length n.entries → is_below (entry n x).stamp p.stamp ≡ b → greater_cause p.stamp (entry n x).proposal ≡ cause → set n.entries x (entry (on_proposal n from x p).node x) ≡ (on_proposal n from x p).node.entries
+unfolding on_proposal hold_or_refuse
+on_proposal_set-by n from x p false cause h above greater = rw above (set-nth no_entry n.entries x h)
+on_proposal_set-by n from x p true (Some cause) h above greater = rw (above, greater) (set-nth no_entry n.entries x h)
+on_proposal_set-by n from x p true None h above greater =
+    rw (above, greater) (rw (nth-put_same no_entry n.entries x record { stamp = (entry n x).stamp; place = (entry n x).place; proposal = Some p }) (sym (put-set no_entry n.entries x _ h)))
+
+pub on_proposal_set : (n : Node) (from x : ℕ) (p : Proposal) → x < length n.entries → set n.entries x (entry (on_proposal n from x p).node x) ≡ (on_proposal n from x p).node.entries
+on_proposal_set n from x p h = on_proposal_set-by n from x p (is_below (entry n x).stamp p.stamp) (greater_cause p.stamp (entry n x).proposal) h refl refl
+
+-- the entry of a node with these entries
+pub entry_of : (n : Node) (xs : List Entry) (x : ℕ) (e : Entry) → n.entries ≡ xs → x < length xs → e ≡ get_or xs x e → entry n x ≡ e
+entry_of n xs x e same h there = rw same (nth_read no_entry xs x e h there)
+
+pub settle_written : (n : Node) (xs : List Entry) (x : ℕ) (stamp : Stamp) (place : Place) (f : Entry) → n.entries ≡ xs → x < length xs → f ≡ entry (settle n x stamp place) x → set xs x f ≡ (settle n x stamp place).entries
+settle_written n xs x stamp place f same h is = rw (← same, is) (settle_set n x stamp place (rw same h))
+
+pub on_proposal_written : (n : Node) (xs : List Entry) (from x : ℕ) (p : Proposal) (f : Entry) → n.entries ≡ xs → x < length xs → f ≡ entry (on_proposal n from x p).node x → set xs x f ≡ (on_proposal n from x p).node.entries
+on_proposal_written n xs from x p f same h is = rw (← same, is) (on_proposal_set n from x p (rw same h))

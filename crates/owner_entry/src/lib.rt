@@ -1,0 +1,11 @@
+//! What a node knows of the placement of each object: an entry owned, settled, or given a proposal to hold.
+#![tactic(auto)]
+
+mod dir;
+mod entry;
+#[cfg(test)]
+mod tests;
+
+pub use dir::Dir;
+pub use entry::{Accept, OwnerEntry};
+pub use zeus_model::Entry;
