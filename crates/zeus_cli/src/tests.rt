@@ -2,8 +2,8 @@ mod runs;
 
 use crate::zeus_top;
 use runs::{
-    NO_STEP, NO_STEP_REPORT, ONE_NODE, ONE_NODE_REPORT, REPEATED_PACKETS, REPEATED_PACKETS_REPORT, TWO_NODES,
-    TWO_NODES_REPORT,
+    NO_STEP, NO_STEP_REPORT, ONE_NODE, ONE_NODE_REPORT, REPEATED_PACKETS, REPEATED_PACKETS_REPORT,
+    TWO_NODES, TWO_NODES_REPORT,
 };
 use std::alloc::{AllocError, Global};
 use std::io;
@@ -114,7 +114,10 @@ fn other_bytes_get_the_line_script(rt: HostRuntime) -> Result<(), Fail> {
         // A step that is not of the first range.
         ("object x 5 0\nrun\ntick 0\nend\n", "script 0 not yet\n"),
         // Two objects.
-        ("object x 5 0\nobject y 6 0\nrun\nend\n", "script 0 not yet\n"),
+        (
+            "object x 5 0\nobject y 6 0\nrun\nend\n",
+            "script 0 not yet\n",
+        ),
     ] {
         let text = format!(in alloc; "{head}{rest}")?;
         let bytes = Vec::from_slice(alloc, text.as_bytes())?;
