@@ -50,25 +50,59 @@ fn worked_runs_are_reported_byte_for_byte(rt: HostRuntime) -> Result<(), Fail> {
 }
 
 #[test]
-fn a_fault_in_mid_stream_is_told(rt: HostRuntime) -> Result<(), Fail> {
+fn each_read_that_fails_leaves_the_sink_alone(rt: HostRuntime) -> Result<(), Fail> {
     let alloc = rt.alloc();
     let run = words(alloc, &["run"])?;
+    for (call, _piece) in TWO_NODES.as_bytes().chunks(7).enumerate() {
+        let bytes = Vec::from_slice(alloc, TWO_NODES.as_bytes())?;
+        let mut source = MemSource::new(bytes, 7, Vec::from_slice(alloc, &[call as u64])?);
+        let mut sink = MemSink::with_room(alloc, 4096, 7, Vec::new(alloc))?;
+        let status = zeus_top(alloc, &run, &mut source, &mut sink);
+        assert_eq!(rt; status, Status::ReadFault);
+        assert_eq!(rt; sink.bytes(), b"".as_slice());
+    }
+    Ok(())
+}
 
-    // The second read fails, and nothing is written.
-    let bytes = Vec::from_slice(alloc, TWO_NODES.as_bytes())?;
-    let mut source = MemSource::new(bytes, 50, Vec::from_slice(alloc, &[1])?);
-    let mut sink = MemSink::with_room(alloc, 4096, 10, Vec::new(alloc))?;
-    let status = zeus_top(alloc, &run, &mut source, &mut sink);
-    assert_eq!(rt; status, Status::ReadFault);
-    assert_eq!(rt; sink.bytes(), b"".as_slice());
+#[test]
+fn each_write_that_fails_leaves_what_was_written_before(rt: HostRuntime) -> Result<(), Fail> {
+    let alloc = rt.alloc();
+    let run = words(alloc, &["run"])?;
+    let mut written = Vec::new(alloc);
+    for (call, piece) in TWO_NODES_REPORT.as_bytes().chunks(7).enumerate() {
+        let bytes = Vec::from_slice(alloc, TWO_NODES.as_bytes())?;
+        let mut source = MemSource::new(bytes, 7, Vec::new(alloc));
+        let mut sink = MemSink::with_room(alloc, 4096, 7, Vec::from_slice(alloc, &[call as u64])?)?;
+        let status = zeus_top(alloc, &run, &mut source, &mut sink);
+        assert_eq!(rt; status, Status::WriteFault);
+        assert_eq!(rt; sink.bytes(), written.as_slice());
+        written.extend_from_slice(piece)?;
+    }
+    Ok(())
+}
 
-    // The third write fails, behind what the first two wrote.
-    let bytes = Vec::from_slice(alloc, TWO_NODES.as_bytes())?;
-    let mut source = MemSource::new(bytes, 50, Vec::new(alloc));
-    let mut sink = MemSink::with_room(alloc, 4096, 10, Vec::from_slice(alloc, &[2])?)?;
-    let status = zeus_top(alloc, &run, &mut source, &mut sink);
-    assert_eq!(rt; status, Status::WriteFault);
-    assert_eq!(rt; sink.bytes(), &TWO_NODES_REPORT.as_bytes()[..20]);
+#[test]
+fn each_front_of_a_script_wants_a_line_or_its_end(rt: HostRuntime) -> Result<(), Fail> {
+    let alloc = rt.alloc();
+    let run = words(alloc, &["run"])?;
+    let mut front = Vec::new(alloc);
+    let mut line: u32 = 1;
+    let mut kind = "missing";
+    for byte in TWO_NODES.as_bytes() {
+        let mut source = SafeSource::new(Vec::from_slice(alloc, front.as_slice())?);
+        let mut sink = SafeSink::with_room(alloc, 100)?;
+        let status = zeus_top(alloc, &run, &mut source, &mut sink);
+        let expected = format!(in alloc; "script {line} {kind}\n")?;
+        assert_eq!(rt; status, Status::Script);
+        assert_eq!(rt; sink.bytes(), expected.as_bytes());
+        front.push(*byte)?;
+        if *byte == b'\n' {
+            line = line.wrapping_add(1);
+            kind = "missing";
+        } else {
+            kind = "line end";
+        }
+    }
     Ok(())
 }
 
