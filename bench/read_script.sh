@@ -29,14 +29,16 @@ write_script() {
     }'
 }
 
+# The shell script builds the program where that is needed; the program itself is timed.
 "$top/zeus" run </dev/null >/dev/null || true
+program=$top/crates/zeus_cli/out/zeus_cli
 for part in 1 2 4; do
     write_script $((part * 2000)) $((part * 12000)) >"$folder/script"
     size=$(wc -c <"$folder/script")
     best=
     for _ in 1 2 3 4 5; do
         begun=$(date +%s%N)
-        answer=$("$top/zeus" run <"$folder/script" || true)
+        answer=$("$program" run <"$folder/script" || true)
         took=$((($(date +%s%N) - begun) / 1000))
         if [ -z "$best" ] || [ "$took" -lt "$best" ]; then best=$took; fi
     done
