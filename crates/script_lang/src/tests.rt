@@ -1,7 +1,10 @@
+mod worked;
+
 use super::*;
 use std::alloc::Global;
 use std::process::Abort;
 use std::test::Fail;
+use worked::WORKED;
 use zeus_base::{
     Config, NodeId, NodeSet, ObjId, ObjectDecl, ObjectList, SlotId, Step, Steps, Text, TxId, Value,
 };
@@ -329,35 +332,6 @@ fn a_live_run_takes_no_step_and_1000_transactions(rt: HostRuntime) -> Result<(),
     assert!(rt; read_script(alloc, whole.as_bytes(), true).is_ok());
     Ok(())
 }
-
-// Worked scripts of version 1 without a degree.
-static WORKED: [&str; 8] = [
-    "zeus 1\nnodes 1\nslots 1\ndirectory 0\nobject x 5 0\ntx 0 0 add x 3\nrun\nbegin 0\n\
-     try 0 0\nend\n",
-    "zeus 1\nnodes 2\nslots 1\ndirectory 0\nobject x 5 0 1\ntx 0 0 add x 3\ntx 1 0 get x\n\
-     run\nbegin 0\ntry 0 0\ndeliver 0 1 0\ndeliver 1 0 0\ndeliver 0 1 1\nbegin 1\ntry 1 0\n\
-     end\n",
-    "zeus 1\nnodes 2\nslots 1\ndirectory 0\nobject x 5 0 1\ntx 0 0 add x 3\ntx 1 0 get x\n\
-     run\nbegin 0\ntry 0 0\ndeliver 0 1 0\ndeliver 1 0 0\nbegin 1\ntry 1 0\ntick 0\n\
-     deliver 0 1 2\ntry 1 0\nend\n",
-    "zeus 1\nnodes 2\nslots 1\ndirectory 0\nobject x 5 0 1\ntx 0 0 add x 3\ntx 1 0 get x\n\
-     run\nbegin 0\ntry 0 0\ndeliver 0 1 0\ndeliver 0 1 0\ndeliver 0 1 0\ndeliver 1 0 0\n\
-     deliver 1 0 1\nend\n",
-    "zeus 1\nnodes 2\nslots 1\ndirectory 0\nobject x 5 0 1\ntx 0 0 add x 3\n\
-     tx 0 0 add x 1\nrun\nbegin 0\ntry 0 0\nbegin 1\ntry 0 0\ndeliver 0 1 1\n\
-     deliver 0 1 0\ndeliver 0 1 1\ndeliver 1 0 1\ndeliver 1 0 0\nend\n",
-    "zeus 1\nnodes 3\nslots 1\ndirectory 0\nobject x 5 0 1\ntx 2 0 add x 1\ntx 0 0 get x\n\
-     run\nbegin 0\ntry 2 0\ndeliver 2 0 0\ndeliver 0 2 0\nbegin 1\ntry 0 0\ntry 2 0\nend\n",
-    "zeus 1\nnodes 3\nslots 1\ndirectory 0\nobject x 5 0 1 2\ntx 0 0 add x 1\n\
-     tx 1 0 get x\nrun\nbegin 0\ntry 0 0\ndeliver 0 1 0\ndeliver 0 2 0\ndeliver 1 0 0\n\
-     deliver 2 0 0\nstop 0\nview 1 2\ninstall 1 2\ninstall 2 2\ndeliver 0 1 1\ntick 1\n\
-     deliver 1 2 0\ndeliver 2 1 0\ndeliver 1 2 1\nbegin 1\ntry 1 0\nend\n",
-    "zeus 1\nnodes 4\nslots 1\ndirectory 0 1\nobject x 5 3\ntx 0 0 add x 1\n\
-     tx 1 0 add x 2\nrun\nbegin 0\ntry 0 0\nbegin 1\ntry 1 0\ndeliver 0 0 0\n\
-     deliver 1 1 0\ndeliver 0 1 0\ndeliver 1 0 0\ndeliver 1 3 0\ndeliver 0 3 0\n\
-     deliver 1 1 1\ndeliver 0 1 1\ndeliver 3 1 0\ndeliver 1 0 2\ntick 0\ndeliver 0 0 2\n\
-     deliver 0 1 0\nend\n",
-];
 
 // A value that is a text.
 fn text(rt: &impl Abort, bytes: &[u8]) -> Value {
