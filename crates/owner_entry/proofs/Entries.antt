@@ -1,8 +1,8 @@
 -- What becomes of an entry: the node's definitions, at a node that has it.
-use Rattle.std.proofs.Common.{ℕ, zero, suc, ◌≡◌, ◌∙◌, ◌<◌, Bool, true, false, ◌&&◌, ◌==◌, List, [], ◌∷◌, Option, Some, None, is_none, if◌then◌else◌, length, refl, sym, ap, arith}
+use Rattle.std.proofs.Common.{ℕ, ◌≡◌, ◌∙◌, ◌<◌, Bool, true, false, ◌&&◌, ◌==◌, List, Option, Some, None, is_none, if◌then◌else◌, length, refl, sym, ap}
 use Rattle.std.proofs.Math.ListN.{get_or, set}
-use Rattle.zeus_base.specs.Tables.{nth, put}
-use Rattle.zeus_base.specs.TableLaws.{nth-put_same}
+use Rattle.zeus_base.specs.Tables.{put}
+use Rattle.zeus_base.specs.TableLaws.{nth-put_same, nth_read, put-set, set-nth}
 use Rattle.zeus_base.specs.Order.{is_below}
 use Rattle.zeus_base.specs.declared.order.Stamp.{Stamp}
 use Rattle.zeus_packet.specs.declared.letter.Cause.{Cause}
@@ -56,33 +56,6 @@ holding_entry n from x e p here =
 pub holding_answer : (n : Node) (from x : ℕ) (e : Entry) (p : Proposal) (held : Bool) → entry n x ≡ e → held ≡ is_held p e.proposal → (hold_or_refuse n from x p None).answer ≡ (if held then Again else Taken)
 unfolding hold_or_refuse
 holding_answer n from x e p held here is = rw (here, is) refl
-
-get_or_default : {A : Type 0} (xs : List A) (i : ℕ) (d e : A) → i < length xs → get_or xs i d ≡ get_or xs i e
-get_or_default [] i d e h = absurd (omega arith)
-get_or_default (x ∷ xs) zero d e h = refl
-get_or_default (x ∷ xs) (suc i) d e h = get_or_default xs i d e (omega arith)
-
-nth-get_or : {A : Type 0} (d : A) (xs : List A) (i : ℕ) → nth d xs i ≡ get_or xs i d
-unfolding nth
-nth-get_or d [] i = refl
-nth-get_or d (x ∷ xs) zero = refl
-nth-get_or d (x ∷ xs) (suc i) = nth-get_or d xs i
-
--- the element at a place in range, whatever the default
-pub nth_read : {A : Type 0} (d : A) (xs : List A) (i : ℕ) (x : A) → i < length xs → x ≡ get_or xs i x → nth d xs i ≡ x
-nth_read d xs i x h e = nth-get_or d xs i ∙ get_or_default xs i d x h ∙ sym e
-
-put-set : {A : Type 0} (d : A) (xs : List A) (i : ℕ) (v : A) → i < length xs → put d xs i v ≡ set xs i v
-unfolding put
-put-set d [] i v h = absurd (omega arith)
-put-set d (x ∷ xs) zero v h = refl
-put-set d (x ∷ xs) (suc i) v h = ap (λ l. x ∷ l) (put-set d xs i v (omega arith))
-
-set-nth : {A : Type 0} (d : A) (xs : List A) (i : ℕ) → i < length xs → set xs i (nth d xs i) ≡ xs
-unfolding nth
-set-nth d [] i h = absurd (omega arith)
-set-nth d (x ∷ xs) zero h = refl
-set-nth d (x ∷ xs) (suc i) h = ap (λ l. x ∷ l) (set-nth d xs i (omega arith))
 
 settle_set-by : (n : Node) (x : ℕ) (stamp : Stamp) (place : Place) (b : Bool) → x < length n.entries → is_below (entry n x).stamp stamp ≡ b → set n.entries x (entry (settle n x stamp place) x) ≡ (settle n x stamp place).entries
 settle_set-by n x stamp place true h above =

@@ -4,13 +4,8 @@ use Rattle.std.specs.Prelude.{option_map, AllPairs}
 use Rattle.std.specs.Str.{bytes_eq}
 use Rattle.std.proofs.lemmas.Slice.Eq.{bytes_eq-Decides}
 use Rattle.zeus_base.specs.Tables.{nth}
+use Rattle.zeus_base.specs.TableLaws.{nth-get_or}
 use Rattle.script_lang.specs.Names.{find}
-
-pub nth-get_or : {A : Type 0} (d : A) (xs : List A) (i : ℕ) → nth d xs i ≡ get_or xs i d
-unfolding nth
-nth-get_or d [] i = refl
-nth-get_or d (x ∷ xs) zero = refl
-nth-get_or d (x ∷ xs) (suc i) = nth-get_or d xs i
 
 pub bytes_eq-same : (w : List ℕ) → bytes_eq w w ≡ true
 bytes_eq-same w = (bytes_eq-Decides w w).1 refl

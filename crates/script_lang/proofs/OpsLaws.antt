@@ -5,6 +5,7 @@ use Rattle.std.specs.List.{AllByRecursion}
 use Rattle.std.specs.Str.{bytes_eq}
 use Rattle.std.proofs.lemmas.Bool.{ne_eqb, lt-ltb}
 use Rattle.zeus_base.specs.Tables.{nth}
+use Rattle.zeus_base.specs.TableLaws.{nth-get_or}
 use Rattle.zeus_txn.specs.declared.ops.Op.{Op}
 use Rattle.zeus_txn.specs.declared.ops.Op.TheVariants as ops
 use Rattle.script_lang.specs.Gathered.{takes_object}
@@ -19,7 +20,7 @@ use Rattle.script_lang.specs.declared.keywords.OpWord.{OpWord}
 use Rattle.script_lang.specs.declared.keywords.OpWord.TheVariants as words
 use Rattle.script_lang.specs.Operations.{object_of_word, operand_at, op_rest_at, op_at, ops_after, ops_at}
 use Rattle.script_lang.specs.Reads.{word_at}
-use Rattle.script_lang.proofs.FindLaws.{bytes_eq-true, find-nth, nth-get_or}
+use Rattle.script_lang.proofs.FindLaws.{bytes_eq-true, find-nth}
 use Rattle.script_lang.proofs.NumberLaws.{number_at-decimal}
 use Rattle.script_lang.proofs.ValueLaws.{name_of_word-name, value_at-text}
 use Rattle.script_lang.proofs.OpLaws.{op_text, HasWord, op_word_of-text, IsOp, op_at-sound}

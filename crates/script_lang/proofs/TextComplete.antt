@@ -16,6 +16,7 @@ use Rattle.zeus_base.specs.declared.step.Step.{Step}
 use Rattle.zeus_base.specs.declared.step.Step.TheVariants as steps
 use Rattle.zeus_base.specs.declared.value.Value.{Value}
 use Rattle.zeus_base.specs.declared.value.Value.TheVariants.{Num, Text}
+use Rattle.zeus_base.specs.TableLaws.{nth-get_or}
 use Rattle.zeus_txn.specs.Ops.{object_of}
 use Rattle.zeus_txn.specs.declared.ops.Op.{Op}
 use Rattle.zeus_txn.specs.declared.ops.Op.TheVariants as ops
@@ -25,7 +26,6 @@ use Rattle.zeus_model.specs.Scripts.{FitsValue, FitsVersion, FitsOp, FitsTx, Fit
 use Rattle.zeus_model.specs.Spelling.{spaced, words_text, lines_text, value_text, name_of, op_words, more_op_words, tx_op_words, after_words, tx_words, object_words, step_words}
 use Rattle.script_lang.specs.Cut.{cut}
 use Rattle.script_lang.proofs.Cutting.{Lacks, Lacks-append, cut_free, cut_front}
-use Rattle.script_lang.proofs.FindLaws.{nth-get_or}
 use Rattle.script_lang.proofs.NumberLaws.{own}
 
 -- ---- words of printed bytes

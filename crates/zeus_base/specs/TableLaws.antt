@@ -79,6 +79,10 @@ nth-get_or d (x ∷ xs) (suc i) = nth-get_or d xs i
 pub nth_read : {A : Type 0} (d : A) (xs : List A) (i : ℕ) (x : A) → i < length xs → x ≡ get_or xs i x → nth d xs i ≡ x
 nth_read d xs i x h e = nth-get_or d xs i ∙ get_or_default xs i d x h ∙ sym e
 
+-- the element at a place in range is its own default
+pub nth_here : {A : Type 0} (d : A) (xs : List A) (i : ℕ) → i < length xs → nth d xs i ≡ get_or xs i (nth d xs i)
+nth_here d xs i h = nth-get_or d xs i ∙ get_or_default xs i d (nth d xs i) h
+
 -- two reads of one place are one
 pub same_read : {A : Type 0} (xs : List A) (i : ℕ) (x y : A) → i < length xs → x ≡ get_or xs i x → y ≡ get_or xs i y → x ≡ y
 same_read xs i x y h e f = e ∙ get_or_default xs i x y h ∙ sym f

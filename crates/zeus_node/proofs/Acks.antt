@@ -1,26 +1,16 @@
 -- Which acknowledgements count.
-use Rattle.std.proofs.Common.{ℕ, ◌≡◌, ◌<◌, ◌≤◌, ◌+◌, ◌-◌, true, false, List, length, refl, sym, ap, ◌∙◌, arith}
+use Rattle.std.proofs.Common.{ℕ, ◌≡◌, ◌<◌, ◌≤◌, ◌+◌, ◌-◌, true, false, List, length, refl, sym, ap, arith}
 use Rattle.std.proofs.Math.ListN.{get_or, set}
 use Rattle.std.proofs.lemmas.Bool.{lt-ltb, le-ltb}
-use Rattle.std.proofs.lemmas.List.{get_or_default}
 use Rattle.zeus_base.specs.Nodes.{has}
+use Rattle.zeus_base.specs.TableLaws.{nth_read, put-set}
 use Rattle.zeus_model.specs.declared.answer.Outcome.TheVariants.{Taken, Again}
 use Rattle.zeus_model.specs.declared.state.Kept.{Kept}
 use Rattle.zeus_model.specs.declared.state.Pending.{Pending}
 use Rattle.zeus_model.specs.Commit.{is_within, no_pending, no_kept, acked_pending, acked_kept}
 use Rattle.zeus_model.specs.State.{Slot, StreamLog}
-use Rattle.zeus_model.specs.Tables.{nth}
 use Rattle.zeus_node.specs.Slots.{counts, counts_at, IsAcknowledged}
 use Rattle.zeus_node.specs.Stored.{counts_kept, IsKeptAcknowledged}
-use Rattle.zeus_node.proofs.ByIndex.{nth-get_or, put-set}
-
--- the element at a place in range, whatever the default
-pub nth_read : {A : Type 0} (d : A) (xs : List A) (i : ℕ) (x : A) → i < length xs → x ≡ get_or xs i x → nth d xs i ≡ x
-nth_read d xs i x h e = nth-get_or d xs i ∙ get_or_default xs i d x h ∙ sym e
-
--- two reads of one place are one
-pub same_read : {A : Type 0} (xs : List A) (i : ℕ) (x y : A) → i < length xs → x ≡ get_or xs i x → y ≡ get_or xs i y → x ≡ y
-same_read xs i x y h e f = e ∙ get_or_default xs i x y h ∙ sym f
 
 counts-low : (from number done count : ℕ) (acks : List ℕ) → number < done → counts from number done count acks ≡ false
 unfolding counts is_within

@@ -5,6 +5,7 @@ use Rattle.std.proofs.lemmas.Bool.{le-ltb, ne_eqb}
 use Rattle.std.proofs.lemmas.List.{length-replicate, length-map}
 use Rattle.zeus_base.specs.Nodes.{with_node}
 use Rattle.zeus_base.specs.declared.config.Config.{Config}
+use Rattle.zeus_base.specs.TableLaws.{nth-replicate}
 use Rattle.zeus_txn.specs.declared.ops.Op.{Op}
 use Rattle.zeus_model.specs.declared.answer.Begin.TheVariants.{Begun, Stopped, Busy}
 use Rattle.zeus_model.specs.declared.state.Current.{Current}
@@ -23,13 +24,6 @@ use Rattle.zeus_node.specs.Tries.{current_id}
 use Rattle.zeus_node.proofs.Finish.{has-numbers}
 use Rattle.zeus_node.proofs.OwnSlots.{first-with_slot}
 use Rattle.zeus_node.proofs.Within.{IsWithin-none}
-
--- a table of one value many times
-pub nth-replicate : {A : Type 0} (d a : A) (n i : ℕ) → i < n → nth d (replicate n a) i ≡ a
-unfolding nth
-nth-replicate d a zero i h = absurd (omega arith)
-nth-replicate d a (suc n) zero h = refl
-nth-replicate d a (suc n) (suc i) h = nth-replicate d a n i (omega arith)
 
 replicate_each : {A : Type 0} (P : A → Type 0) (d a : A) (n i : ℕ) → P d → P a → P (nth d (replicate n a) i)
 unfolding nth

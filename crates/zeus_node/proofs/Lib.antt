@@ -1,5 +1,4 @@
 pub mod Cut
-pub mod ByIndex
 pub mod Written
 pub mod Within
 pub mod Streams

@@ -3,7 +3,7 @@ use Rattle.std.proofs.Common.{ℕ, zero, suc, ◌≡◌, ◌<◌, ◌-◌, true,
 use Rattle.std.specs.Prelude.{nat_lt, if◌then◌else◌}
 use Rattle.std.proofs.Math.ListN.{get_or, set}
 use Rattle.zeus_base.specs.declared.order.Stream.{Stream}
-use Rattle.zeus_base.specs.TableLaws.{length-put}
+use Rattle.zeus_base.specs.TableLaws.{length-put, nth_read, put-nth, put-set}
 use Rattle.zeus_packet.specs.declared.letter.RInv.{RInv}
 use Rattle.zeus_model.specs.declared.state.Copy.{Copy}
 use Rattle.zeus_model.specs.declared.state.Kept.{Kept}
@@ -13,8 +13,6 @@ use Rattle.zeus_model.specs.Commit.{each_write, validated, applied, writes_of, r
 use Rattle.zeus_node.specs.Copies.{IsWithin}
 use Rattle.zeus_node.specs.FirstNode.{IsFirstNode, IsStream}
 use Rattle.zeus_node.specs.Stored.{raised, stored}
-use Rattle.zeus_node.proofs.Acks.{nth_read}
-use Rattle.zeus_node.proofs.ByIndex.{put-set}
 use Rattle.zeus_node.proofs.Within.{IsWithin-take, IsWithin-drop, IsWithin-append, length-each_write, writes_of-append, within-one}
 
 -- what holds of each element holds of each after a put of another of which it holds
@@ -40,13 +38,6 @@ put_within d P (x ∷ xs) zero v h p zero l = p
 put_within d P (x ∷ xs) zero v h p (suc k) l = h (suc k) l
 put_within d P (x ∷ xs) (suc i) v h p zero l = h 0 l
 put_within d P (x ∷ xs) (suc i) v h p (suc k) l = put_within d P xs i v (λ j m. h (suc j) (omega arith)) p k (omega arith)
-
--- to put what stands there already changes nothing
-pub put-nth : {A : Type 0} (d : A) (xs : List A) (i : ℕ) → i < length xs → put d xs i (nth d xs i) ≡ xs
-unfolding nth put
-put-nth d [] i h = absurd (omega arith)
-put-nth d (x ∷ xs) zero h = refl
-put-nth d (x ∷ xs) (suc i) h = ap (λ l. x ∷ l) (put-nth d xs i (omega arith))
 
 pub row_read : (n : Node) (s : Stream) (row : List StreamLog) → IsStream n s → row ≡ get_or n.logs s.node row → nth [] n.logs s.node ≡ row
 row_read n s row h e = nth_read [] n.logs s.node row h.node e

@@ -6,7 +6,7 @@ use Rattle.std.proofs.lemmas.List.{drop-map, length-take-le}
 use Rattle.zeus_base.specs.Nodes.{has, without, meet}
 use Rattle.zeus_base.specs.declared.order.Stream.{Stream}
 use Rattle.zeus_base.specs.declared.step.Passed.{Passed}
-use Rattle.zeus_base.specs.TableLaws.{nth-put_same, length-put}
+use Rattle.zeus_base.specs.TableLaws.{nth-put_same, length-put, nth_read, put-nth, put-set}
 use Rattle.zeus_packet.specs.declared.letter.Body.TheVariants.{RVal}
 use Rattle.zeus_model.specs.declared.answer.Outcome.{Outcome}
 use Rattle.zeus_model.specs.declared.answer.Outcome.TheVariants.{Taken, Again}
@@ -23,11 +23,9 @@ use Rattle.zeus_node.specs.Done.{Adds, IsActed, IsQuiet}
 use Rattle.zeus_node.specs.FirstNode.{IsFirstCurrent, IsFirstNode, IsStream}
 use Rattle.zeus_node.specs.Slots.{counts, counts_at, passes_at, passed, IsAcknowledged}
 use Rattle.zeus_node.specs.Stored.{counts_kept, IsKeptAcknowledged}
-use Rattle.zeus_node.proofs.Acks.{nth_read}
 use Rattle.zeus_node.proofs.Adding.{adds_nothing, adds_passes}
-use Rattle.zeus_node.proofs.ByIndex.{put-set}
 use Rattle.zeus_node.proofs.Fronts.{length-as_kept}
-use Rattle.zeus_node.proofs.Logs.{put-nth, with_log_same, first-with_log, first-with_copies}
+use Rattle.zeus_node.proofs.Logs.{with_log_same, first-with_log, first-with_copies}
 use Rattle.zeus_node.proofs.Within.{IsWithin-take, IsWithin-drop, length-each_write}
 
 pub slot_read : (n : Node) (s : ℕ) (l : Slot) → IsFirstNode n → s < 1 → l ≡ get_or n.slots s l → slot n s ≡ l

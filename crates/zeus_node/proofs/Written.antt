@@ -2,11 +2,11 @@
 use Rattle.std.proofs.Common.{ℕ, ◌≡◌, ◌<◌, ◌≤◌, ◌+◌, List, [], ◌∷◌, ◌++◌, Option, None, length, drop, refl, sym, ap, ◌∙◌, add-one, drop-cons}
 use Rattle.std.proofs.Math.ListN.{get_or, set}
 use Rattle.std.proofs.lemmas.List.{get_or_default, drop_all}
+use Rattle.zeus_base.specs.TableLaws.{nth-get_or, put-set}
 use Rattle.zeus_packet.specs.declared.write.Write.{Write}
 use Rattle.zeus_model.specs.declared.state.Copy.{Copy}
 use Rattle.zeus_model.specs.Tables.{nth, put}
 use Rattle.zeus_model.specs.Commit.{each_write}
-use Rattle.zeus_node.proofs.ByIndex.{nth-get_or, put-set}
 
 pub each_write-append :
     (f : Write → Option Copy → Option Copy) (copies : List (Option Copy)) (vs ws : List Write)

@@ -1,4 +1,3 @@
-pub mod Names
 pub mod Copies
 pub mod RunSteps
 pub mod Whole

@@ -7,7 +7,6 @@ mod Noting
 mod Passes
 mod Passing
 mod Reaching
-mod Reading
 mod Recording
 mod Sending
 mod Standing

@@ -1,17 +1,11 @@
 -- Records put into the book, by the words of the machine.
-use Rattle.std.proofs.Common.{ℕ, zero, suc, ◌≡◌, ◌<◌, List, [], ◌∷◌, ◌++◌, Some, length, refl, sym, ap, ◌∙◌, arith}
+use Rattle.std.proofs.Common.{ℕ, ◌≡◌, ◌<◌, List, [], ◌∷◌, ◌++◌, Some, length, sym, ap, ◌∙◌}
 use Rattle.std.proofs.Math.ListN.{get_or, set}
+use Rattle.zeus_base.specs.TableLaws.{nth_read, put-set}
 use Rattle.zeus_txn.specs.declared.reply.Reply.{Reply}
 use Rattle.zeus_model.specs.Tables.{nth, put}
 use Rattle.zeus_model.specs.Book.{Book, Point, TxRecord, book_point, no_record, reply_or}
 use Rattle.zeus_world.specs.Books.{BookState}
-use Rattle.zeus_world.proofs.Sending.{nth_read}
-
-pub put-set : {A : Type 0} (d : A) (xs : List A) (i : ℕ) (v : A) → i < length xs → put d xs i v ≡ set xs i v
-unfolding put
-put-set d [] i v h = absurd (omega arith)
-put-set d (x ∷ xs) zero v h = refl
-put-set d (x ∷ xs) (suc i) v h = ap (λ l. x ∷ l) (put-set d xs i v (omega arith))
 
 pub set_records : (rs : List TxRecord) (i : ℕ) (k r : TxRecord) (f : TxRecord → TxRecord) → i < length rs → k ≡ get_or rs i k → r ≡ f k → set rs i r ≡ put no_record rs i (f (nth no_record rs i))
 set_records rs i k r f h e s = ap (set rs i) (s ∙ sym (ap f (nth_read no_record rs i k h e))) ∙ sym (put-set no_record rs i _ h)

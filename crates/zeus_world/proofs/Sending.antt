@@ -1,17 +1,12 @@
 -- Letters put on links, by the words of the machine.
-use Rattle.std.proofs.Common.{ℕ, zero, suc, ◌≡◌, ◌<◌, ◌≤◌, ◌+◌, List, [], ◌∷◌, length, map, refl, sym, ap, ◌∙◌, arith}
+use Rattle.std.proofs.Common.{ℕ, zero, suc, ◌≡◌, ◌<◌, ◌≤◌, ◌+◌, List, [], ◌∷◌, length, map, refl, ap, ◌∙◌, arith}
 use Rattle.std.proofs.Math.ListN.{get_or, set}
 use Rattle.zeus_packet.specs.declared.letter.Letter.{Letter}
 use Rattle.std.specs.List.{slice_get}
+use Rattle.zeus_base.specs.TableLaws.{nth-set_same}
 use Rattle.zeus_model.specs.Tables.{nth, put}
 use Rattle.zeus_model.specs.World.{nth_letter}
 use Rattle.zeus_world.specs.Links.{LinkState, letters_of, row_letters, letters, no_link, room, HasRoom}
-
-pub nth_read : {A : Type 0} (d : A) (xs : List A) (i : ℕ) (x : A) → i < length xs → x ≡ get_or xs i x → nth d xs i ≡ x
-unfolding nth
-nth_read d [] i x h e = absurd (omega arith)
-nth_read d (y ∷ ys) zero x h e = sym e
-nth_read d (y ∷ ys) (suc i) x h e = nth_read d ys i x (omega arith) e
 
 pub length-set : {A : Type 0} (xs : List A) (i : ℕ) (v : A) → length (set xs i v) ≡ length xs
 length-set [] i v = refl
@@ -59,12 +54,6 @@ letters-same (x ∷ rows) (suc i) k r h e s = ap (λ y. row_letters x ∷ y) (le
 -- the room of the links before a place
 pub room_before : ℕ → ℕ → List LinkState → Type 0
 room_before count n row = (to : ℕ) → to < n → count ≤ (nth no_link row to).room
-
-pub nth-set_same : {A : Type 0} (d : A) (xs : List A) (i : ℕ) (v : A) → i < length xs → nth d (set xs i v) i ≡ v
-unfolding nth
-nth-set_same d [] i v h = absurd (omega arith)
-nth-set_same d (x ∷ xs) zero v h = refl
-nth-set_same d (x ∷ xs) (suc i) v h = nth-set_same d xs i v (omega arith)
 
 -- one link more has room
 pub room_more : (count : ℕ) (row : List LinkState) (i : ℕ) (l : LinkState) → i < length row → ((to : ℕ) → to < i → count ≤ (nth no_link row to).room) → count ≤ l.room → (to : ℕ) → to < i + 1 → count ≤ (nth no_link (set row i l) to).room

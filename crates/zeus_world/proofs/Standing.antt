@@ -1,8 +1,9 @@
 -- How a world stands, read from its nodes.
-use Rattle.std.proofs.Common.{ℕ, zero, suc, ◌≡◌, ◌<◌, ◌≤◌, ◌+◌, ◌-◌, ◌&&◌, Bool, true, false, not, List, [], ◌∷◌, Option, Some, None, length, drop, refl, sym, ap, ◌∙◌, arith, add-one, drop-cons, if◌then◌else◌}
+use Rattle.std.proofs.Common.{ℕ, suc, ◌≡◌, ◌<◌, ◌≤◌, ◌+◌, ◌-◌, ◌&&◌, Bool, true, false, not, List, [], ◌∷◌, Option, Some, None, length, drop, refl, sym, ap, ◌∙◌, arith, add-one, drop-cons, if◌then◌else◌}
 use Rattle.std.proofs.Math.ListN.{get_or}
 use Rattle.std.proofs.lemmas.List.{drop_all}
 use Rattle.zeus_base.specs.Order.{is_below}
+use Rattle.zeus_base.specs.TableLaws.{nth_read, nth-past}
 use Rattle.zeus_packet.specs.declared.place.Place.{Place}
 use Rattle.zeus_model.specs.declared.state.Copy.{Copy}
 use Rattle.zeus_model.specs.declared.state.Entry.{Entry}
@@ -11,13 +12,6 @@ use Rattle.zeus_model.specs.Sound.{latest_entry, latest_place, newer, newest}
 use Rattle.zeus_model.specs.State.{Node, copy, entry, owns}
 use Rattle.zeus_model.specs.Tables.{nth, numbers_from, or_else, where_true, first_of}
 use Rattle.zeus_model.specs.World.{World, no_node, node}
-use Rattle.zeus_world.proofs.Sending.{nth_read}
-
-nth_past : {A : Type 0} (d : A) (xs : List A) (i : ℕ) → length xs ≤ i → nth d xs i ≡ d
-unfolding nth
-nth_past d [] i h = refl
-nth_past d (x ∷ xs) zero h = absurd (omega arith)
-nth_past d (x ∷ xs) (suc i) h = nth_past d xs i (omega arith)
 
 -- the node that is read is the one in its place
 pub node_there : (ns : List Node) (i : ℕ) (n : Node) → i < length ns → n ≡ get_or ns i n → n ≡ nth no_node ns i
@@ -27,7 +21,7 @@ pub live_there : (ns : List Node) (i : ℕ) (n : Node) (stopped : Bool) → i < 
 live_there ns i n stopped h e s = ap not (s ∙ ap (λ (m : Node). m.stopped) (node_there ns i n h e))
 
 pub live_past : (ns : List Node) (i : ℕ) → length ns ≤ i → false ≡ not (nth no_node ns i).stopped
-live_past ns i h = ap (λ (m : Node). not m.stopped) (sym (nth_past no_node ns i h))
+live_past ns i h = ap (λ (m : Node). not m.stopped) (sym (nth-past no_node ns i h))
 
 no_copy : (x : ℕ) → None ≡ copy no_node x
 unfolding nth
@@ -37,7 +31,7 @@ pub copy_there : (ns : List Node) (i x : ℕ) (n : Node) (c : Option Copy) → i
 copy_there ns i x n c h e s = s ∙ ap (λ (m : Node). copy m x) (node_there ns i n h e)
 
 pub copy_past : (ns : List Node) (i x : ℕ) → length ns ≤ i → None ≡ copy (nth no_node ns i) x
-copy_past ns i x h = no_copy x ∙ ap (λ (m : Node). copy m x) (sym (nth_past no_node ns i h))
+copy_past ns i x h = no_copy x ∙ ap (λ (m : Node). copy m x) (sym (nth-past no_node ns i h))
 
 pub owns_there : (ns : List Node) (i x : ℕ) (n : Node) (b : Bool) → i < length ns → n ≡ get_or ns i n → b ≡ owns n x → b ≡ owns (nth no_node ns i) x
 owns_there ns i x n b h e s = s ∙ ap (λ (m : Node). owns m x) (node_there ns i n h e)

@@ -1,7 +1,7 @@
 -- What steps make of a world, by the words of the machine.
 use Rattle.std.proofs.Common.{ℕ, ◌≡◌, ◌≢◌, ◌<◌, ◌^◌, true, false, List, [], Some, None, is_some, length, take, refl, ap, ◌∙◌, subst}
 use Rattle.std.proofs.Math.ListN.{get_or, set}
-use Rattle.zeus_base.specs.TableLaws.{length-put}
+use Rattle.zeus_base.specs.TableLaws.{length-put, nth_read, put-set}
 use Rattle.zeus_base.specs.declared.config.Config.{Config}
 use Rattle.zeus_packet.specs.declared.letter.Letter.{Letter}
 use Rattle.zeus_txn.specs.declared.tx.TxDecl.{TxDecl}
@@ -28,8 +28,6 @@ use Rattle.zeus_report.specs.declared.machine.Report.{Report}
 use Rattle.zeus_world.specs.FirstWorld.{AreLinksOf, IsFirstWorld, IsNodeOf, IsTxOf}
 use Rattle.zeus_world.specs.Steps.{IsTaken}
 use Rattle.zeus_world.proofs.FirstNodes.{nodes_set}
-use Rattle.zeus_world.proofs.Sending.{nth_read}
-use Rattle.zeus_world.proofs.Recording.{put-set}
 use Rattle.zeus_world.proofs.Batches.{posted_none}
 
 -- a transaction that is read at its place is the declared one

@@ -1,14 +1,14 @@
-use Rattle.std.proofs.Common.{ℕ, ◌≡◌, ◌++◌, OnOk, subst, ap}
+use Rattle.std.proofs.Common.{ℕ, ◌≡◌, ◌++◌, OnOk, subst, sym, ap}
+use Rattle.zeus_base.specs.TableLaws.{nth_found}
 use Rattle.zeus_model.specs.Book.{no_reply}
 use Rattle.zeus_model.specs.ReportWords.{number}
 use Rattle.zeus_report.specs.Lines.{point_at}
-use Rattle.zeus_report.proofs.Names.{nth-slice_get}
 use Rattle.zeus_report.proofs.standing.write_point_id.Goals as goal
 
 pub returns-in-Some : goal.returns-in-Some
 returns-in-Some g c =
     let points = (g.M.Machine.world c.args.machine.now).book.points in
-    let here = nth-slice_get record { id = 0; reply = no_reply } points c.args.place _ c.in-Some.ensures in
+    let here = nth_found record { id = 0; reply = no_reply } points c.args.place _ (sym c.in-Some.ensures) in
     let id_here = ap (λ p. p.id) here in
     let view = c.id.view_is in
     let told = c.from.ensures in

@@ -1,5 +1,5 @@
 use Rattle.std.proofs.Common.{[]}
-use Rattle.zeus_text.proofs.Names.{nth-get_or, nth_past}
+use Rattle.zeus_base.specs.TableLaws.{nth-get_or, nth-past}
 use Rattle.zeus_text.proofs.words.name_of.Goals as goal
 
 pub returns-in-Some : goal.returns-in-Some
@@ -11,6 +11,6 @@ returns-in-Some c =
 
 pub returns-in-None : goal.returns-in-None
 returns-in-None c =
-    let e = nth_past [] c.args.names.now c.from.result c.in-None.ensures.lookup.3 in
+    let e = nth-past [] c.args.names.now c.from.result c.in-None.ensures.lookup.3 in
     let v = c.obj.view_is in
     cc (e, v)

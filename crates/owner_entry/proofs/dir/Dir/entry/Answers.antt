@@ -1,6 +1,6 @@
 use Rattle.std.proofs.Common.{sym}
+use Rattle.zeus_base.specs.TableLaws.{nth_read}
 use Rattle.zeus_model.specs.State.{no_entry}
-use Rattle.owner_entry.proofs.Entries.{nth_read}
 use Rattle.owner_entry.proofs.dir.Dir.entry.Goals as goal
 
 pub returns : goal.returns

@@ -1,6 +1,7 @@
 use Rattle.std.proofs.Common.{◌∙◌, sym}
+use Rattle.zeus_base.specs.TableLaws.{nth_read}
 use Rattle.zeus_model.specs.State.{no_entry}
-use Rattle.owner_entry.proofs.Entries.{entry_of, nth_read, settle_written}
+use Rattle.owner_entry.proofs.Entries.{entry_of, settle_written}
 use Rattle.owner_entry.proofs.dir.Dir.settle.Goals as goal
 
 pub returns-clause-above : goal.returns-clause-above

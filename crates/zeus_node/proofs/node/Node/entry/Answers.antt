@@ -1,6 +1,6 @@
 use Rattle.std.proofs.Common.{sym}
+use Rattle.zeus_base.specs.TableLaws.{nth_read}
 use Rattle.zeus_model.specs.State.{no_entry}
-use Rattle.zeus_node.proofs.Acks.{nth_read}
 use Rattle.zeus_node.proofs.node.Node.entry.Goals as goal
 
 pub returns : goal.returns

@@ -1,7 +1,6 @@
-use Rattle.std.proofs.Common.{◌≡◌, ◌∙◌, sym}
+use Rattle.std.proofs.Common.{◌∙◌, sym}
+use Rattle.zeus_base.specs.TableLaws.{nth_read, nth-past}
 use Rattle.zeus_model.specs.State.{no_entry}
-use Rattle.zeus_node.proofs.Acks.{nth_read}
-use Rattle.zeus_node.proofs.ByIndex.{nth_out}
 use Rattle.zeus_node.proofs.node.Node.known_entry.Goals as goal
 
 pub returns-in-Some : goal.returns-in-Some
@@ -12,4 +11,4 @@ returns-in-Some c =
 pub returns-in-None : goal.returns-in-None
 returns-in-None c =
     let past = rw (c.object_place.ensures, c.deref.ensures.value) at c.in-None.ensures.lookup in
-    rw (← c.self.view_is) (c.no_entry.ensures ∙ nth_out no_entry _ _ past.3)
+    rw (← c.self.view_is) (c.no_entry.ensures ∙ sym (nth-past no_entry _ _ past.3))

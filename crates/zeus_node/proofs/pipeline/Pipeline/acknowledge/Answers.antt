@@ -1,5 +1,6 @@
 use Rattle.std.proofs.Common.{◌<◌, ◌≤◌, ◌-◌, length, sym, ◌∙◌, arith}
-use Rattle.zeus_node.proofs.Acks.{same_read, again-low, again-high, again-acked, taken}
+use Rattle.zeus_base.specs.TableLaws.{same_read}
+use Rattle.zeus_node.proofs.Acks.{again-low, again-high, again-acked, taken}
 use Rattle.zeus_node.proofs.pipeline.Pipeline.acknowledge.Goals as goal
 
 pub returns-then-number-self : goal.returns-then-number-self

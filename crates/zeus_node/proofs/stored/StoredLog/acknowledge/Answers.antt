@@ -1,5 +1,6 @@
 use Rattle.std.proofs.Common.{◌<◌, ◌≤◌, ◌-◌, length, sym, ◌∙◌, arith}
-use Rattle.zeus_node.proofs.Acks.{same_read, kept_again-low, kept_again-high, kept_again-acked, kept_taken}
+use Rattle.zeus_base.specs.TableLaws.{same_read}
+use Rattle.zeus_node.proofs.Acks.{kept_again-low, kept_again-high, kept_again-acked, kept_taken}
 use Rattle.zeus_node.proofs.stored.StoredLog.acknowledge.Goals as goal
 
 pub returns-then-number-self : goal.returns-then-number-self

@@ -1,5 +1,5 @@
 use Rattle.zeus_model.specs.Book.{no_record}
-use Rattle.zeus_world.proofs.Sending.{nth_read}
+use Rattle.zeus_base.specs.TableLaws.{nth_read}
 use Rattle.zeus_world.proofs.book.Book.has_point.Goals as goal
 
 pub returns : goal.returns

@@ -1,6 +1,6 @@
 use Rattle.std.proofs.Common.{sym}
+use Rattle.zeus_base.specs.TableLaws.{nth_read}
 use Rattle.zeus_model.specs.World.{no_tx}
-use Rattle.zeus_world.proofs.Sending.{nth_read}
 use Rattle.zeus_world.proofs.cluster.Cluster.declared.Goals as goal
 
 pub returns : goal.returns

@@ -1,5 +1,6 @@
 use Rattle.std.proofs.Common.{[]}
-use Rattle.zeus_world.proofs.Sending.{nth_read, letters-nth, row_letters-nth}
+use Rattle.zeus_base.specs.TableLaws.{nth_read}
+use Rattle.zeus_world.proofs.Sending.{letters-nth, row_letters-nth}
 use Rattle.zeus_world.proofs.links.Links.count.Goals as goal
 
 pub count-requires : goal.count-requires

@@ -1,5 +1,6 @@
 use Rattle.std.proofs.Common.{◌∙◌, sym, []}
-use Rattle.zeus_world.proofs.Sending.{nth_read, letters-nth, row_letters-nth, nth_letter-get}
+use Rattle.zeus_base.specs.TableLaws.{nth_read}
+use Rattle.zeus_world.proofs.Sending.{letters-nth, row_letters-nth, nth_letter-get}
 use Rattle.zeus_world.proofs.links.Links.get.Goals as goal
 
 pub get-requires : goal.get-requires

@@ -1,5 +1,6 @@
 use Rattle.std.proofs.Common.{[]}
-use Rattle.zeus_world.proofs.Sending.{letters-same, nth-set_same}
+use Rattle.zeus_base.specs.TableLaws.{nth-set_same}
+use Rattle.zeus_world.proofs.Sending.{letters-same}
 use Rattle.zeus_world.proofs.links.Links.reserve.Goals as goal
 
 pub returns-clause-letters : goal.returns-clause-letters

@@ -1,7 +1,8 @@
 use Rattle.std.proofs.Common.{List, subst, ◌<◌, []}
+use Rattle.zeus_base.specs.TableLaws.{nth_read}
 use Rattle.zeus_model.specs.Tables.{nth}
 use Rattle.zeus_world.specs.Links.{LinkState, no_link}
-use Rattle.zeus_world.proofs.Sending.{nth_read, letters-nth, letters-set, rows_room}
+use Rattle.zeus_world.proofs.Sending.{letters-nth, letters-set, rows_room}
 use Rattle.zeus_world.proofs.links.Links.send.Goals as goal
 
 pub push-requires-clause-to : goal.push-requires-clause-to

@@ -1,5 +1,5 @@
 use Rattle.zeus_world.specs.Links.{no_link}
-use Rattle.zeus_world.proofs.Sending.{nth_read}
+use Rattle.zeus_base.specs.TableLaws.{nth_read}
 use Rattle.zeus_world.proofs.links.Row.count.Goals as goal
 
 pub returns : goal.returns

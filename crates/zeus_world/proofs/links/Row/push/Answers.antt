@@ -1,5 +1,6 @@
 use Rattle.zeus_world.specs.Links.{no_link}
-use Rattle.zeus_world.proofs.Sending.{nth_read, row_letters-nth, row_letters-set, row_room}
+use Rattle.zeus_base.specs.TableLaws.{nth_read}
+use Rattle.zeus_world.proofs.Sending.{row_letters-nth, row_letters-set, row_room}
 use Rattle.zeus_world.proofs.links.Row.push.Goals as goal
 
 pub push-requires : goal.push-requires
