@@ -1,10 +1,10 @@
 -- Acknowledgements of pending entries, by the entry's place.
-use Rattle.std.proofs.Common.{ℕ, zero, suc, ◌≡◌, ◌+◌, ◌-◌, ◌<◌, ◌≤◌, true, false, not, List, [], ◌∷◌, Option, Some, None, length, slice_get, slice_set, refl, ap, arith}
-use Rattle.std.proofs.lemmas.Bool.{lt-ltb, le-ltb}
+use Rattle.std.proofs.Common.{ℕ, zero, suc, ◌≡◌, ◌+◌, ◌-◌, ◌<◌, ◌≤◌, Bool, true, false, not, if◌then◌else◌, List, [], ◌∷◌, Option, Some, None, length, slice_get, slice_set, refl, sym, ap, ◌∙◌, arith}
+use Rattle.std.proofs.lemmas.Bool.{false≢true, lt-ltb, le-ltb}
 use Rattle.std.proofs.lemmas.Option.{slice_get_within}
 use Rattle.zeus_base.specs.Nodes.{has}
 use Rattle.zeus_model.specs.declared.state.Pending.{Pending}
-use Rattle.zeus_model.specs.Commit.{is_within, no_pending}
+use Rattle.zeus_model.specs.Commit.{acked_pending, is_within, no_pending}
 use Rattle.zeus_model.specs.Tables.{nth, put}
 use Rattle.commit_pipeline.specs.Pipes.{Waiting, counts}
 
@@ -50,12 +50,34 @@ counts_here w number from p h e =
     let here = slice_get_within w.pending (number - w.done) p e in
     rw (le-ltb number w.done h, lt-ltb number (w.done + length w.pending) (omega arith), nth_read no_pending w.pending (number - w.done) p e) refl
 
+-- the same of entries of which none has passed
+sub-zero : (n : ℕ) → n - 0 ≡ n
+sub-zero n = omega arith
+
+pub counts_none : (ps : List Pending) (place from : ℕ) → slice_get ps place ≡ None → counts record { done = 0; pending = ps } place from ≡ false
+counts_none ps place from e = counts_past record { done = 0; pending = ps } place from (omega arith) (rw (sub-zero place) e)
+
+pub counts_some : (ps : List Pending) (place from : ℕ) (p : Pending) → slice_get ps place ≡ Some p → counts record { done = 0; pending = ps } place from ≡ not (has from p.acks)
+counts_some ps place from p e = counts_here record { done = 0; pending = ps } place from p (omega arith) (rw (sub-zero place) e)
+
 -- whether one counts shows by the entry's place alone
-pub counts_place : (w : Waiting) (number from place : ℕ) → w.done ≤ number → place ≡ number - w.done → counts w number from ≡ counts record { done = 0; pending = w.pending } place from
-unfolding counts is_within
-counts_place w number from place h e = ?
+counts_place-by : (w : Waiting) (number from : ℕ) (o : Option Pending) → w.done ≤ number → slice_get w.pending (number - w.done) ≡ o → counts w number from ≡ counts record { done = 0; pending = w.pending } (number - w.done) from
+counts_place-by w number from None h e = counts_past w number from h e ∙ sym (counts_none w.pending (number - w.done) from e)
+counts_place-by w number from (Some p) h e = counts_here w number from p h e ∙ sym (counts_some w.pending (number - w.done) from p e)
+
+pub counts_place : (w : Waiting) (number from : ℕ) → w.done ≤ number → counts w number from ≡ counts record { done = 0; pending = w.pending } (number - w.done) from
+counts_place w number from h = counts_place-by w number from (slice_get w.pending (number - w.done)) h refl
 
 -- one that counts is of a pending entry
-pub counts_within : (w : Waiting) (number from : ℕ) → counts w number from ≡ true → number - w.done < length w.pending
-unfolding counts is_within
-counts_within w number from h = ?
+place_within-by : (ps : List Pending) (place from : ℕ) (o : Option Pending) → slice_get ps place ≡ o → counts record { done = 0; pending = ps } place from ≡ true → place < length ps
+place_within-by ps place from None e h = absurd (false≢true (sym (counts_none ps place from e) ∙ h))
+place_within-by ps place from (Some p) e h = slice_get_within ps place p e
+
+pub place_within : (ps : List Pending) (place from : ℕ) → counts record { done = 0; pending = ps } place from ≡ true → place < length ps
+place_within ps place from h = place_within-by ps place from (slice_get ps place) refl h
+
+-- the entries with the one that was read and acknowledged written back
+pub acked_set : (ps after : List Pending) (place from : ℕ) (p new : Pending) (b : Bool) → slice_get ps place ≡ Some p → after ≡ slice_set ps place new → new ≡ (if b then acked_pending p from else p) → after ≡ (if b then put no_pending ps place (acked_pending (nth no_pending ps place) from) else ps)
+acked_set ps after place from p new true e is by =
+    rw (is, by, nth_read no_pending ps place p e) (sym (put_within no_pending ps place (acked_pending p from) (slice_get_within ps place p e)))
+acked_set ps after place from p new false e is by = rw (is, by) (set_read ps place p e)

@@ -1,5 +1,5 @@
 //! The pipe: entries are pushed at its end, acknowledged at any place, and passed at its front.
-ghost use Rattle.std.specs.Prelude.{◌≡◌, ◌+◌, ◌-◌, ◌<◌, ◌≤◌, ◌↔◌, ◌^◌, [], ◌∷◌, ◌++◌, IfOk, IsOk, OnErr, IfNone, drop, length, map, option_copied, slice_get, if◌then◌else◌};
+ghost use Rattle.std.specs.Prelude.{◌≡◌, ◌+◌, ◌-◌, ◌<◌, ◌≤◌, ◌↔◌, ◌^◌, [], ◌∷◌, ◌++◌, IfOk, IsOk, OnErr, IfNone, drop, length, map, not, option_copied, slice_get, if◌then◌else◌};
 ghost use Rattle.std.specs.Option.{OnSome};
 ghost use Rattle.zeus_base.specs.Nodes.{has};
 ghost use Rattle.zeus_model.specs.Commit.{acked_pending, as_kept, no_pending};
@@ -195,14 +195,13 @@ fn passing<W: Window<Pending>>(entries: &W, me: NodeId, members: NodeSet) -> u32
     ensures value { result ≡ front (passes_at me members) (map as_kept (W.items entries.now)) }
     ensures most { result ≤ length (W.items entries.now) }
 {
-    let mut count = 0;
-    while let Some(entry) = entries.get(count) {
-        if !passes(entry, me, members) {
-            return count;
+    for place in 0..entries.len() {
+        match entries.get(place) {
+            Some(entry) if passes(entry, me, members) => {}
+            _ => return place,
         }
-        count += 1;
     }
-    count
+    entries.len()
 }
 
 /// Whether every other member among its followers has acknowledged the entry.
