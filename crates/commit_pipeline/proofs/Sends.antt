@@ -5,7 +5,7 @@ use Rattle.std.proofs.lemmas.Bool.Decides.{nat_tests}
 use Rattle.std.proofs.lemmas.List.{append-nil}
 use Rattle.std.proofs.lemmas.List.Elements.{filter-append}
 use Rattle.zeus_base.specs.Nodes.{has, with_node, without, meet}
-use Rattle.zeus_base.specs.NodeLaws.{IsNodeSet, has-with_node, has-meet, length-below}
+use Rattle.zeus_base.specs.NodeLaws.{IsNodeSet, has-with_node, length-below}
 use Rattle.zeus_model.specs.declared.state.Pending.{Pending}
 use Rattle.zeus_model.specs.Commit.{no_pending, acked_pending}
 use Rattle.zeus_model.specs.Membership.{apart}
@@ -146,8 +146,8 @@ length-sends_of number [] h = omega arith
 length-sends_of number (p ∷ ps) h =
     omega (arith, length-append (sends number (lacking p)) (sends_of lacking (suc number) ps), length-sends number (lacking p), length-apart p.followers p.acks, h.0, length-sends_of (suc number) ps h.1)
 
-pub few_followers : (ns : List ℕ) → IsNodeSet ns → length ns ≤ 8
-few_followers ns h = omega (arith, length-below 0 8 ns h.rising h.below (omega arith))
+pub few_nodes : (ns : List ℕ) → IsNodeSet ns → length ns ≤ 8
+few_nodes ns h = omega (arith, length-below 0 8 ns h.rising h.below (omega arith))
 
 pub HaveFewFollowers-append : (ps : List Pending) (p : Pending) → HaveFewFollowers ps → length p.followers ≤ 8 → HaveFewFollowers (ps ++ p ∷ [])
 unfolding HaveFewFollowers

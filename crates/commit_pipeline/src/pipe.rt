@@ -93,9 +93,13 @@ impl<W: Window<Pending>> PipeOver<W> {
     {
         let number = self.done + self.entries.len();
         let (followers, acks) = (entry.followers, entry.acks);
-        self.entries.push(entry).map_err(|_| Full)?;
-        self.due.add(number, followers, acks);
-        Ok(number)
+        match self.entries.push(entry) {
+            Ok(()) => {
+                self.due.add(number, followers, acks);
+                Ok(number)
+            }
+            Err(_) => Err(Full),
+        }
     }
 
     /// The node has acknowledged the entry of this number. The answer is true exactly where the entry is pending and
