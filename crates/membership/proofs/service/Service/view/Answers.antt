@@ -1,4 +1,4 @@
-use Rattle.std.proofs.Common.{rules, ◌≡◌, ◌++◌, [], ◌∷◌, length, Some, None, refl, sym}
+use Rattle.std.proofs.Common.{rules, ◌≡◌, ◌++◌, [], ◌∷◌, length, Some, None, refl}
 use Rattle.zeus_model.specs.World.{last_view, view_refused}
 use Rattle.membership.proofs.Making.{last-known, made_answer-known, made_views-known, refused_views-known, stops-known, view-refused}
 use Rattle.membership.proofs.service.Service.view.Goals as goal
