@@ -1,11 +1,11 @@
 //! What a node has gathered of the proposals, by object.
-ghost use Rattle.std.specs.Prelude.{◌≡◌, ◌<◌, None, IfOk, length, map};
+ghost use Rattle.std.specs.Prelude.{◌≡◌, ◌<◌, [], None, Some, IfOk, length, map, option_copied, slice_get};
 ghost use Rattle.zeus_model.specs.Membership.{dropped};
 ghost use Rattle.zeus_model.specs.Ownership.{gather_above, gather_for, greater_gather, is_decidable, is_noted, noted};
 ghost use Rattle.zeus_model.specs.State.{Node, gather};
 ghost use Rattle.zeus_model.specs.Tables.{nth, or_else, put};
 ghost use Rattle.zeus_model.specs.World.{start_gather};
-ghost use Rattle.arbitration.specs.Gathering.{IsNodeWith, ack_at, decision_of, gathered};
+ghost use Rattle.arbitration.specs.Gathering.{IsNodeWith, ack_at, decision_of, decision_with, gathered};
 
 use std::alloc::{AllocError, Global};
 use std::marker::Model;
@@ -84,15 +84,26 @@ impl Gathers {
     pub fn decided(&self, obj: ObjId, members: NodeSet, directory: NodeSet) -> Option<Decision>
         ensures { (n : Node) → IsNodeWith n self.now members directory → result ≡ decision_of n (gather n obj) }
     {
-        let gather = self.gathers.get(object_place(obj))?.as_ref()?;
-        if !is_decidable(gather, members, directory) {
-            return None;
+        match self.gather(obj) {
+            None => None,
+            Some(gather) => decision_of(&gather, members, directory),
         }
-        let content = gather.content?;
-        Some(Decision {
-            proposal: gather.proposal,
-            content,
-        })
+    }
+
+    /// What is gathered of the object.
+    fn gather(&self, obj: ObjId) -> Option<Gather>
+        ensures { result ≡ nth None self.now obj }
+    {
+        match self.find(object_place(obj)) {
+            None => None,
+            Some(gather) => *gather,
+        }
+    }
+
+    fn find(&self, place: usize) -> Option<&Option<Gather>>
+        ensures { option_copied result ≡ slice_get self.now place }
+    {
+        self.gathers.get(place)
     }
 
     /// Drops what is gathered of the object, but where it is of a proposal above the stamp.
@@ -102,9 +113,7 @@ impl Gathers {
         ensures objects { length self.new ≡ length self.old }
     {
         let gather = &mut self.gathers[object_place(obj)];
-        if !is_above(gather, stamp) {
-            *gather = None;
-        }
+        *gather = gather_above(stamp, gather);
     }
 
     /// Drops what is gathered of every object.
@@ -112,8 +121,8 @@ impl Gathers {
         ensures after { self.new ≡ dropped self.old }
         ensures objects { length self.new ≡ length self.old }
     {
-        for gather in &mut self.gathers {
-            *gather = None;
+        for place in 0..self.gathers.len() {
+            self.gathers[place] = None;
         }
     }
 }
@@ -166,9 +175,26 @@ fn greater_stamp(stamp: Stamp, gather: &Option<Gather>) -> Option<Stamp>
 {
     match gather {
         None => None,
+        Some(other) => {
+            if stamp.is_below(other.proposal.stamp) {
+                Some(other.proposal.stamp)
+            } else {
+                None
+            }
+        }
+    }
+}
+
+/// What is gathered, where it is of a proposal above the stamp.
+#[tactic(auto, unfolding(zeus_model::specs::Ownership::gather_above, zeus_model::specs::Tables::where_true))]
+fn gather_above(stamp: Stamp, gather: &Option<Gather>) -> Option<Gather>
+    ensures { result ≡ gather_above stamp gather.now }
+{
+    match gather {
+        None => None,
         Some(gather) => {
             if stamp.is_below(gather.proposal.stamp) {
-                Some(gather.proposal.stamp)
+                Some(*gather)
             } else {
                 None
             }
@@ -177,17 +203,29 @@ fn greater_stamp(stamp: Stamp, gather: &Option<Gather>) -> Option<Stamp>
 }
 
 /// The gather of the proposal's stamp, or an empty one.
-#[tactic(auto, unfolding(zeus_model::specs::Ownership::gather_for))]
+#[tactic(auto, unfolding(zeus_model::specs::Ownership::gather_for, zeus_base::specs::Order::same_stamp))]
 fn gather_for(p: &Proposal, gather: &Option<Gather>) -> Gather
     ensures { result ≡ gather_for p.now gather.now }
 {
     match gather {
-        Some(gather) if gather.proposal.stamp == p.stamp => *gather,
-        _ => Gather {
-            proposal: *p,
-            acks: NodeSet::empty(),
-            content: None,
-        },
+        None => empty_gather(p),
+        Some(gather) => {
+            if gather.proposal.stamp == p.stamp {
+                *gather
+            } else {
+                empty_gather(p)
+            }
+        }
+    }
+}
+
+fn empty_gather(p: &Proposal) -> Gather
+    ensures { result ≡ record { proposal = p.now; acks = []; content = None } }
+{
+    Gather {
+        proposal: *p,
+        acks: NodeSet::empty(),
+        content: None,
     }
 }
 
@@ -200,24 +238,47 @@ fn is_noted(gather: &Gather, from: NodeId, content: &Option<Content>) -> bool
 }
 
 /// The gather with the sender and the content; the content that came first stays.
-#[tactic(auto, unfolding(zeus_model::specs::Tables::or_else))]
 fn noted(gather: &Gather, from: NodeId, content: &Option<Content>) -> Gather
     ensures { result ≡ noted gather.now from content.now }
 {
     Gather {
         proposal: gather.proposal,
         acks: gather.acks.insert(from),
-        content: gather.content.or(*content),
+        content: first_content(&gather.content, content),
     }
 }
 
-/// Whether something is gathered, of a proposal above the stamp.
-fn is_above(gather: &Option<Gather>, stamp: Stamp) -> bool
-    ensures { gather_above stamp gather.now ≡ (if result then gather.now else None) }
+/// The content that came before, else this one.
+#[tactic(auto, unfolding(zeus_model::specs::Tables::or_else))]
+fn first_content(before: &Option<Content>, content: &Option<Content>) -> Option<Content>
+    ensures { result ≡ or_else before.now content.now }
 {
-    match gather {
-        None => false,
-        Some(gather) => stamp.is_below(gather.proposal.stamp),
+    match before {
+        None => *content,
+        Some(before) => Some(*before),
+    }
+}
+
+/// The proposal and the content of the gather, where it can be decided.
+fn decision_of(gather: &Gather, members: NodeSet, directory: NodeSet) -> Option<Decision>
+    ensures { (n : Node) → n.members ≡ members → n.directory ≡ directory → result ≡ decision_of n (Some gather.now) }
+{
+    if !is_decidable(gather, members, directory) {
+        return None;
+    }
+    decision_with(&gather.proposal, &gather.content)
+}
+
+#[tactic(auto, unfolding(crate::specs::Gathering::decision_with))]
+fn decision_with(p: &Proposal, content: &Option<Content>) -> Option<Decision>
+    ensures { result ≡ decision_with p.now content.now }
+{
+    match content {
+        None => None,
+        Some(content) => Some(Decision {
+            proposal: *p,
+            content: *content,
+        }),
     }
 }
 

@@ -2,8 +2,10 @@
 #![tactic(auto)]
 
 mod gathers;
+mod source;
 #[cfg(test)]
 mod tests;
 
 pub use gathers::{Ack, Decision, Gathers};
+pub use source::{GiveUp, give_up};
 pub use zeus_model::Gather;

@@ -1,8 +1,10 @@
 //! Tests of typical calls.
-use crate::{Ack, Decision, Gathers};
+use crate::{Ack, Decision, Gathers, GiveUp, give_up};
+use object_table::Copies;
+use std::alloc::{AllocError, Global};
 use std::test::Fail;
-use zeus_base::{Config, NodeId, NodeSet, ObjId, ObjectDecl, ObjectList, Stamp, Value};
-use zeus_packet::{Content, Place, Proposal, Want};
+use zeus_base::{Config, NodeId, NodeSet, ObjId, ObjectDecl, ObjectList, SlotId, Stamp, Value};
+use zeus_packet::{Cause, Content, Place, Proposal, State, Want, Write};
 
 /// The set of nodes 0 and 1.
 fn two() -> NodeSet {
@@ -29,23 +31,28 @@ fn proposal(ver: u64) -> Proposal {
     }
 }
 
-#[test]
-fn gathers_until_every_arbiter_and_the_content_are_there(rt: HostRuntime) -> Result<(), Fail> {
-    let alloc = rt.alloc();
+/// Nodes 0 to 2, of which node 0 is the directory; two objects at nodes 0 and 1 that node 1 owns.
+fn config(alloc: Global) -> Result<Config, AllocError> {
     let object = ObjectDecl {
         value: Value::Num(5),
         owner: NodeId(1),
         replicas: two(),
     };
-    let directory = NodeSet::empty().insert(NodeId(0));
-    let config = Config {
+    Ok(Config {
         version: 1,
         nodes: 3,
-        slots: 1,
-        directory,
+        slots: 2,
+        directory: NodeSet::empty().insert(NodeId(0)),
         degree: None,
         objects: ObjectList::from_vec(vec![in alloc; object, object]?),
-    };
+    })
+}
+
+#[test]
+fn gathers_until_every_arbiter_and_the_content_are_there(rt: HostRuntime) -> Result<(), Fail> {
+    let alloc = rt.alloc();
+    let config = config(alloc)?;
+    let directory = config.directory;
     let members = two().insert(NodeId(2));
     let content = Content {
         ver: 4,
@@ -57,16 +64,25 @@ fn gathers_until_every_arbiter_and_the_content_are_there(rt: HostRuntime) -> Res
     assert_eq!(rt; gathers.decided(x, members, directory), None);
     assert_eq!(rt; gathers.take_ack(x, NodeId(0), &first, None), Ack::New);
     assert_eq!(rt; gathers.take_ack(x, NodeId(0), &first, None), Ack::Again);
-    assert_eq!(rt; gathers.take_ack(x, NodeId(0), &proposal(1), None), Ack::Older(first.stamp));
+    assert_eq!(rt;
+        gathers.take_ack(x, NodeId(0), &proposal(1), None),
+        Ack::Older(first.stamp)
+    );
     assert_eq!(rt; gathers.decided(x, members, directory), None);
     assert_eq!(rt; gathers.take_ack(x, NodeId(1), &first, None), Ack::New);
     assert_eq!(rt; gathers.decided(x, members, directory), None);
-    assert_eq!(rt; gathers.take_ack(x, NodeId(1), &first, Some(content)), Ack::New);
+    assert_eq!(rt;
+        gathers.take_ack(x, NodeId(1), &first, Some(content)),
+        Ack::New
+    );
     let later = Content {
         ver: 6,
         value: Value::Num(7),
     };
-    assert_eq!(rt; gathers.take_ack(x, NodeId(1), &first, Some(later)), Ack::Again);
+    assert_eq!(rt;
+        gathers.take_ack(x, NodeId(1), &first, Some(later)),
+        Ack::Again
+    );
     let decision = Decision {
         proposal: first,
         content,
@@ -80,7 +96,10 @@ fn gathers_until_every_arbiter_and_the_content_are_there(rt: HostRuntime) -> Res
     assert_eq!(rt; gathers.decided(x, members, directory), None);
     assert_eq!(rt; gathers.take_ack(x, NodeId(0), &first, None), Ack::New);
     let second = proposal(3);
-    assert_eq!(rt; gathers.take_ack(x, NodeId(1), &second, Some(content)), Ack::New);
+    assert_eq!(rt;
+        gathers.take_ack(x, NodeId(1), &second, Some(content)),
+        Ack::New
+    );
     assert_eq!(rt; gathers.decided(x, members, directory), None);
     assert_eq!(rt; gathers.take_ack(x, NodeId(0), &second, None), Ack::New);
     let decision = Decision {
@@ -90,5 +109,37 @@ fn gathers_until_every_arbiter_and_the_content_are_there(rt: HostRuntime) -> Res
     assert_eq!(rt; gathers.decided(x, members, directory), Some(decision));
     gathers.drop_all();
     assert_eq!(rt; gathers.decided(x, members, directory), None);
+    Ok(())
+}
+
+#[test]
+fn a_source_gives_up_a_valid_free_object(rt: HostRuntime) -> Result<(), Fail> {
+    let alloc = rt.alloc();
+    let me = NodeId(1);
+    let mut copies = Copies::new(alloc, &config(alloc)?, me)?;
+    let x = ObjId(0);
+    let content = Content {
+        ver: 0,
+        value: Value::Num(5),
+    };
+    let keeper = Some(SlotId(1));
+    let given = GiveUp::Given(content);
+    assert_eq!(rt; give_up(&copies, x, me, NodeId(2), None), given);
+    assert_eq!(rt; give_up(&copies, x, me, NodeId(0), keeper), given);
+    let kept = GiveUp::No(Cause::Kept(SlotId(1)));
+    assert_eq!(rt; give_up(&copies, x, me, NodeId(2), keeper), kept);
+    copies.apply(&Write {
+        obj: x,
+        ver: 1,
+        value: Value::Num(6),
+    });
+    let invalid = GiveUp::No(Cause::NotValid(State::Invalid));
+    assert_eq!(rt; give_up(&copies, x, me, NodeId(2), keeper), invalid);
+    copies.hold(x, SlotId(0));
+    let held = GiveUp::No(Cause::Held(SlotId(0)));
+    assert_eq!(rt; give_up(&copies, x, me, NodeId(2), keeper), held);
+    copies.drop_copy(x);
+    let missing = GiveUp::No(Cause::NoCopy);
+    assert_eq!(rt; give_up(&copies, x, me, NodeId(2), keeper), missing);
     Ok(())
 }
