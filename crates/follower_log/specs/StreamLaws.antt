@@ -1,7 +1,8 @@
 -- Laws of the stored streams: what one becomes, what the others stay, and which streams there are.
-use Rattle.std.specs.Prelude.{ℕ, zero, suc, ◌≡◌, ◌≢◌, ◌<◌, List, [], ◌∷◌, length, replicate, refl}
+use Rattle.std.specs.List.{slice_get}
+use Rattle.std.specs.Prelude.{ℕ, zero, suc, ◌≡◌, ◌≢◌, ◌<◌, Bool, true, false, nat_lt, List, [], ◌∷◌, None, length, replicate, refl, if◌then◌else◌}
 use Rattle.std.proofs.Common.{arith, sym, ap, ◌∙◌, inl, inr}
-use Rattle.std.proofs.lemmas.Bool.{cases_eq}
+use Rattle.std.proofs.lemmas.Bool.{cases_eq, ltb-false}
 use Rattle.std.proofs.lemmas.List.{length-replicate}
 use Rattle.zeus_base.specs.TableLaws.{length-put, nth-put_other, nth-put_same}
 use Rattle.zeus_base.specs.Tables.{nth, put}
@@ -9,7 +10,7 @@ use Rattle.zeus_base.specs.declared.order.Stream.{Stream}
 use Rattle.zeus_model.specs.declared.state.Kept.{Kept}
 use Rattle.zeus_model.specs.Commit.{passes}
 use Rattle.zeus_model.specs.State.{Node, StreamLog, no_log}
-use Rattle.follower_log.specs.Streams.{IsStreamOf, log_at, passes_at, with_log_at}
+use Rattle.follower_log.specs.Streams.{IsStreamOf, log_at, lowest_below, passes_at, with_log_at}
 
 -- the stream that becomes this is this
 pub log_at-with_log_at : (logs : List (List StreamLog)) (s : Stream) (l : StreamLog) → log_at (with_log_at logs s l) s ≡ l
@@ -65,3 +66,15 @@ IsStreamOf-start nodes slots s h g =
 pub passes-passes_at : (n : Node) (k : Kept) → passes n k ≡ passes_at n.me n.members k
 unfolding passes passes_at
 passes-passes_at n k = refl
+
+none_first : (ks : List Kept) → None ≡ slice_get ks 0 → ks ≡ []
+none_first [] h = refl
+none_first (k ∷ ks) h = absurd cc
+
+none_lowest-by : (l : StreamLog) (d : ℕ) (b : Bool) → nat_lt l.done d ≡ b → None ≡ (if b then slice_get l.kept 0 else None) → l.done < d → l.kept ≡ []
+none_lowest-by l d true low h less = none_first l.kept h
+none_lowest-by l d false low h less = absurd (omega (arith, ltb-false l.done d low))
+
+-- where no entry is taken out, none is stored below the number
+pub none_lowest : (l : StreamLog) (d : ℕ) → None ≡ lowest_below l d → l.done < d → l.kept ≡ []
+none_lowest l d h less = none_lowest-by l d (nat_lt l.done d) refl h less

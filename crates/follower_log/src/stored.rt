@@ -116,10 +116,9 @@ fn start_logs<W: NewWindow + Drop>(alloc: Global, count: u8) -> Result<NodeLogs<
 impl<W: Window<Kept>> StoredOver<W> {
     /// Stores the entry that a letter brings, by its number alone: it is stored at the end of its stream where that is
     /// the next number and fewer than 16 are stored. Else nothing changes. The clauses speak of every node with these
-    /// streams; entries below the letter's `done` are raised before.
+    /// streams; a caller raises the entries below the letter's `done` first.
     pub fn store(&mut self, r: &RInv) -> Store
         requires stream { IsStreamOf self.old r.now.stream }
-        requires raised { r.now.done ≤ (log_at self.old r.now.stream).done }
         requires numbered { r.now.number < 2 ^ 32 - 1 }
         ensures answer { (n : Node) (from : ℕ) → n.logs ≡ self.old → outcome_of result ≡ (stored_rinv n from r.now).answer }
         ensures after { (n : Node) (from : ℕ) → n.logs ≡ self.old → self.new ≡ (stored_rinv n from r.now).node.logs }
