@@ -1,4 +1,6 @@
 //! Tests of typical calls.
+ghost use Rattle.std.specs.Prelude.{◌≡◌, IfOk, length};
+
 use crate::{Copies, Copy};
 use std::alloc::{AllocError, Global};
 use std::test::Fail;
@@ -6,7 +8,9 @@ use zeus_base::{Config, NodeId, NodeSet, ObjId, ObjectDecl, ObjectList, SlotId, 
 use zeus_packet::{Content, State, Write};
 
 /// Two nodes, both replicas of object 0; node 0 alone has object 1.
-fn config(alloc: Global) -> Result<Config, AllocError> {
+fn config(alloc: Global) -> Result<Config, AllocError>
+    ensures { IfOk result (λ config. length config.objects ≡ 2) }
+{
     let first = NodeSet::empty().insert(NodeId(0));
     let shared = ObjectDecl {
         value: Value::Num(5),
