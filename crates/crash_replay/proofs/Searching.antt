@@ -1,5 +1,5 @@
 -- The search over the streams of the nodes that are no members.
-use Rattle.std.proofs.Common.{ℕ, zero, suc, ◌≡◌, ◌∙◌, ◌<◌, ◌≤◌, ◌+◌, ◌-◌, Bool, true, false, not, ◌&&◌, ◌==◌, List, [], ◌∷◌, ◌++◌, Option, Some, None, is_none, length, refl, sym, ap, add-one, arith}
+use Rattle.std.proofs.Common.{ℕ, zero, suc, ◌≡◌, ◌∙◌, ◌<◌, ◌≤◌, ◌+◌, ◌-◌, Bool, true, false, not, ◌&&◌, ◌==◌, List, [], ◌∷◌, ◌++◌, Option, Some, None, is_none, is_some, length, refl, sym, ap, add-one, arith}
 use Rattle.zeus_base.specs.Nodes.{has}
 use Rattle.zeus_base.specs.declared.config.Config.{Config}
 use Rattle.zeus_base.specs.declared.order.Stream.{Stream}
@@ -35,9 +35,9 @@ or_else-assoc None b c = refl
 or_else-assoc (Some a) b c = refl
 
 module _ (logs : List (List StreamLog)) (after : Option Stream) where
-  next_in-found : (s : Stream) (ss : List Stream) → is_after after s ≡ true → is_stored logs s ≡ true → next_in logs after (s ∷ ss) ≡ Some s
+  next_in-found : (s : Stream) (ss : List Stream) → (is_after after s && is_stored logs s) ≡ true → next_in logs after (s ∷ ss) ≡ Some s
   unfolding next_in first_of where_true or_else
-  next_in-found s ss e f = rw (e, f) refl
+  next_in-found s ss e = rw e refl
 
   next_in-passed : (s : Stream) (ss : List Stream) → (is_after after s && is_stored logs s) ≡ false → next_in logs after (s ∷ ss) ≡ next_in logs after ss
   unfolding next_in first_of where_true or_else
@@ -64,10 +64,10 @@ module _ (logs : List (List StreamLog)) (after : Option Stream) where
     unfolding next_in first_of streams_of
     from_slot-none i h = rw (numbers-none i slots h) refl
 
-    pub from_slot-found : (i : ℕ) (s : Stream) → i < slots → s ≡ record { node = node; slot = i } → is_after after s ≡ true → is_stored logs s ≡ true → from_slot i ≡ Some s
+    pub from_slot-found : (i : ℕ) (s : Stream) → i < slots → s ≡ record { node = node; slot = i } → (is_after after s && is_stored logs s) ≡ true → from_slot i ≡ Some s
     unfolding streams_of
-    from_slot-found i s h is e f =
-        rw (numbers-next i slots h, ← is) (next_in-found s (streams_of node (numbers_from (i + 1) (slots - (i + 1)))) e f)
+    from_slot-found i s h is e =
+        rw (numbers-next i slots h, ← is) (next_in-found s (streams_of node (numbers_from (i + 1) (slots - (i + 1)))) e)
 
     pub from_slot-passed : (i : ℕ) (s : Stream) → i < slots → s ≡ record { node = node; slot = i } → (is_after after s && is_stored logs s) ≡ false → from_slot (i + 1) ≡ from_slot i
     unfolding streams_of
@@ -124,3 +124,9 @@ none_stored-next n (s ∷ ss) =
 
 pub none_stored-outside : (n : Node) → is_none (next_stored n None) ≡ none_stored n (outside n)
 none_stored-outside n = sym (none_stored-next n (outside n))
+
+pub is_none-from : {A : Type 0} (r : Option A) (b : Bool) → is_some r ≡ not b → b ≡ is_none r
+is_none-from None true e = refl
+is_none-from None false e = cc
+is_none-from (Some a) true e = cc
+is_none-from (Some a) false e = refl

@@ -3,6 +3,7 @@ ghost use Rattle.std.specs.Prelude.{◌≡◌, ◌<◌, ◌≤◌, ◌&&◌, [],
 ghost use Rattle.zeus_model.specs.Commit.{none_stored, outside, streams_of};
 ghost use Rattle.zeus_model.specs.State.{Node};
 ghost use Rattle.zeus_model.specs.Tables.{below, nth};
+ghost use Rattle.follower_log.specs.Streams.{IsStreamOf};
 ghost use Rattle.crash_replay.specs.Replay.{HasStreams, IsNodeWith, is_after, is_stored, next_in, next_stored};
 
 use follower_log::Stored;
@@ -56,11 +57,20 @@ fn next_of(log: &Stored, slots: u8, node: NodeId, after: &Option<Stream>) -> Opt
             node,
             slot: SlotId(slot),
         };
-        if is_after(after, stream) && log.len(*stream) > 0 {
+        if is_next(log, after, stream) {
             return Some(*stream);
         }
     }
     None
+}
+
+/// Whether the stream comes after the given one and entries of it are stored.
+#[tactic(auto, unfolding(crate::specs::Replay::is_stored))]
+fn is_next(log: &Stored, after: &Option<Stream>, stream: &Stream) -> bool
+    requires { IsStreamOf log.now stream.now }
+    ensures { result ≡ (is_after after.now stream.now && is_stored log.now stream.now) }
+{
+    is_after(after, stream) && log.len(*stream) > 0
 }
 
 /// Whether the stream comes after the other, where one is given.

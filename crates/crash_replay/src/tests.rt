@@ -62,8 +62,14 @@ fn replays_the_streams_of_nodes_outside_in_order(rt: HostRuntime) -> Result<(), 
     assert_eq!(rt; log.store(&entry(alloc, &first)), Store::Stored);
     assert!(rt; !is_recovered(&log, &config, members));
     assert_eq!(rt; next_replay(&log, &config, members, None), Some(first));
-    assert_eq!(rt; next_replay(&log, &config, members, Some(first)), Some(second));
-    assert_eq!(rt; next_replay(&log, &config, members, Some(member)), Some(second));
+    assert_eq!(rt;
+        next_replay(&log, &config, members, Some(first)),
+        Some(second)
+    );
+    assert_eq!(rt;
+        next_replay(&log, &config, members, Some(member)),
+        Some(second)
+    );
     assert_eq!(rt; next_replay(&log, &config, members, Some(second)), None);
     let none = NodeSet::empty();
     assert_eq!(rt; next_replay(&log, &config, none, Some(first)), Some(member));
