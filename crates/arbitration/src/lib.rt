@@ -1,0 +1,11 @@
+//! The acknowledgements of proposals: what a node has gathered of each, when it can decide, and what a source gives.
+#![tactic(auto)]
+
+mod gathers;
+mod source;
+#[cfg(test)]
+mod tests;
+
+pub use gathers::{Ack, Decision, Gathers};
+pub use source::{GiveUp, give_up};
+pub use zeus_model::Gather;

@@ -1,0 +1,9 @@
+//! The replay of the streams of nodes that are no members: which stream is next, and whether one is left.
+#![tactic(auto)]
+
+mod replay;
+#[cfg(test)]
+mod tests;
+
+pub use follower_log::Stored;
+pub use replay::{is_recovered, next_replay};

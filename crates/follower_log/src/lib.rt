@@ -1,0 +1,10 @@
+//! What a node stores of the streams of other nodes: the entries of each, in order, until they have passed.
+#![tactic(auto)]
+
+mod log;
+mod stored;
+#[cfg(test)]
+mod tests;
+
+pub use log::LogOver;
+pub use stored::{NewWindow, Store, Stored, StoredOver};

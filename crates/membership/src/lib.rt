@@ -1,0 +1,12 @@
+//! The membership service, which makes the views, and the barrier that a node waits at in each of them.
+#![tactic(auto)]
+
+mod barrier;
+mod service;
+#[cfg(test)]
+mod tests;
+
+pub use barrier::Barrier;
+pub use service::Service;
+pub use zeus_model::Made;
+pub use zeus_packet::View;

@@ -1,0 +1,8 @@
+use Rattle.std.proofs.Common.{None, sym}
+use Rattle.object_table.proofs.Changing.{put-set}
+use Rattle.object_table.proofs.copies.Copies.drop_copy.Goals as goal
+
+pub returns-clause-copies : goal.returns-clause-copies
+returns-clause-copies c =
+    let here = rw (← c.self.view_is) at c.requires in
+    rw (← c.self.view_is, c.object_place.ensures) (sym (put-set None _ _ _ here))

@@ -1,0 +1,4 @@
+pub mod Table
+pub mod WriteLaws
+pub mod HoldLaws
+pub mod StartLaws

@@ -1,0 +1,11 @@
+//! What a node keeps of each object: its copy, and which slot holds it how often.
+#![tactic(auto)]
+
+mod copies;
+mod hold;
+#[cfg(test)]
+mod tests;
+
+pub use copies::Copies;
+pub use hold::Hold;
+pub use zeus_model::Copy;

@@ -1,0 +1,10 @@
+//! Reads of the copies of one node.
+#![tactic(auto)]
+
+mod reads;
+mod run;
+#[cfg(test)]
+mod tests;
+
+pub use reads::{ReadTry, try_read};
+pub use run::run_on;
