@@ -1,10 +1,9 @@
 -- Gathers read and written by the place of their object, and the test of a decision.
-use Rattle.std.proofs.Common.{ℕ, zero, suc, ◌≡◌, ◌∙◌, ◌<◌, ◌≤◌, ◌+◌, Bool, true, false, ◌&&◌, List, [], ◌∷◌, Option, Some, None, is_some, length, refl, sym, ap, add-one, arith}
-use Rattle.std.specs.Prelude.{if◌then◌else◌}
-use Rattle.std.specs.List.{slice_get}
+use Rattle.std.proofs.Common.{ℕ, zero, suc, ◌≡◌, ◌∙◌, ◌<◌, ◌≤◌, ◌+◌, true, false, ◌&&◌, List, [], ◌∷◌, Option, Some, None, is_some, length, refl, ap, add-one, arith}
 use Rattle.std.proofs.Math.ListN.{get_or, set}
 use Rattle.zeus_base.specs.Nodes.{is_subset, least, meet}
 use Rattle.zeus_base.specs.Tables.{nth, put}
+use Rattle.zeus_base.specs.TableLaws.{nth_read, put-set}
 use Rattle.zeus_packet.specs.Place.{arbiters, new_place, source}
 use Rattle.zeus_model.specs.declared.state.Gather.{Gather}
 use Rattle.zeus_model.specs.Membership.{dropped}
@@ -12,31 +11,6 @@ use Rattle.zeus_model.specs.Ownership.{is_decidable}
 use Rattle.zeus_model.specs.State.{Node, gather}
 use Rattle.arbitration.specs.declared.gathers.Decision.{Decision}
 use Rattle.arbitration.specs.Gathering.{IsNodeWith, decision_of, decision_with}
-
-pub nth_found : {A : Type 0} (d : A) (xs : List A) (i : ℕ) (x : A) → Some x ≡ slice_get xs i → x ≡ nth d xs i
-unfolding nth
-nth_found d [] i x e = cc
-nth_found d (y ∷ ys) zero x e = cc
-nth_found d (y ∷ ys) (suc i) x e = nth_found d ys i x e
-
-pub nth_past : {A : Type 0} (d : A) (xs : List A) (i : ℕ) → None ≡ slice_get xs i → d ≡ nth d xs i
-unfolding nth
-nth_past d [] i e = refl
-nth_past d (y ∷ ys) zero e = cc
-nth_past d (y ∷ ys) (suc i) e = nth_past d ys i e
-
--- the element at a place in range, whatever the default
-pub nth_read : {A : Type 0} (d : A) (xs : List A) (i : ℕ) (x : A) → i < length xs → x ≡ get_or xs i x → nth d xs i ≡ x
-unfolding nth
-nth_read d [] i x h e = absurd (omega arith)
-nth_read d (y ∷ ys) zero x h e = sym e
-nth_read d (y ∷ ys) (suc i) x h e = nth_read d ys i x (omega arith) e
-
-pub put-set : {A : Type 0} (d : A) (xs : List A) (i : ℕ) (v : A) → i < length xs → put d xs i v ≡ set xs i v
-unfolding put
-put-set d [] i v h = absurd (omega arith)
-put-set d (x ∷ xs) zero v h = refl
-put-set d (x ∷ xs) (suc i) v h = ap (λ l. x ∷ l) (put-set d xs i v (omega arith))
 
 -- what is made of the element at a place is written there
 pub put_read : {A : Type 0} (d : A) (xs : List A) (i : ℕ) (old new : A) (f : A → A) → i < length xs → old ≡ get_or xs i old → new ≡ f old → set xs i new ≡ put d xs i (f (nth d xs i))

@@ -3,17 +3,11 @@ use Rattle.std.proofs.Common.{ℕ, zero, suc, ◌≡◌, ◌+◌, ◌-◌, ◌<�
 use Rattle.std.proofs.lemmas.Bool.{false≢true, lt-ltb, le-ltb}
 use Rattle.std.proofs.lemmas.Option.{slice_get_within}
 use Rattle.zeus_base.specs.Nodes.{has}
+use Rattle.zeus_base.specs.TableLaws.{nth_found}
 use Rattle.zeus_model.specs.declared.state.Pending.{Pending}
 use Rattle.zeus_model.specs.Commit.{acked_pending, is_within, no_pending}
 use Rattle.zeus_model.specs.Tables.{nth, put}
 use Rattle.commit_pipeline.specs.Pipes.{Waiting, counts}
-
--- the element that is read, whatever the default
-pub nth_read : {A : Type 0} (d : A) (xs : List A) (i : ℕ) (x : A) → slice_get xs i ≡ Some x → nth d xs i ≡ x
-unfolding nth
-nth_read d [] i x e = absurd cc
-nth_read d (y ∷ xs) zero x e = cc
-nth_read d (y ∷ xs) (suc i) x e = nth_read d xs i x e
 
 pub put_within : {A : Type 0} (d : A) (xs : List A) (i : ℕ) (v : A) → i < length xs → put d xs i v ≡ slice_set xs i v
 unfolding put
@@ -48,7 +42,7 @@ pub counts_here : (w : Waiting) (number from : ℕ) (p : Pending) → w.done ≤
 unfolding counts is_within
 counts_here w number from p h e =
     let here = slice_get_within w.pending (number - w.done) p e in
-    rw (le-ltb number w.done h, lt-ltb number (w.done + length w.pending) (omega arith), nth_read no_pending w.pending (number - w.done) p e) refl
+    rw (le-ltb number w.done h, lt-ltb number (w.done + length w.pending) (omega arith), nth_found no_pending w.pending (number - w.done) p (sym e)) refl
 
 -- the same of entries of which none has passed
 sub-zero : (n : ℕ) → n - 0 ≡ n
@@ -79,5 +73,5 @@ place_within ps place from h = place_within-by ps place from (slice_get ps place
 -- the entries with the one that was read and acknowledged written back
 pub acked_set : (ps after : List Pending) (place from : ℕ) (p new : Pending) (b : Bool) → slice_get ps place ≡ Some p → after ≡ slice_set ps place new → new ≡ (if b then acked_pending p from else p) → after ≡ (if b then put no_pending ps place (acked_pending (nth no_pending ps place) from) else ps)
 acked_set ps after place from p new true e is by =
-    rw (is, by, nth_read no_pending ps place p e) (sym (put_within no_pending ps place (acked_pending p from) (slice_get_within ps place p e)))
+    rw (is, by, nth_found no_pending ps place p (sym e)) (sym (put_within no_pending ps place (acked_pending p from) (slice_get_within ps place p e)))
 acked_set ps after place from p new false e is by = rw (is, by) (set_read ps place p e)

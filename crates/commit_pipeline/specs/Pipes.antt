@@ -1,6 +1,6 @@
 -- The commits of an own slot that wait for acknowledgements.
 use Rattle.std.specs.Prelude.{ℕ, suc, ◌≡◌, ◌+◌, ◌-◌, ◌*◌, ◌^◌, ◌<◌, ◌≤◌, Bool, ◌&&◌, ◌||◌, not, ◌==◌, List, [], ◌∷◌, ◌++◌, length, map}
-use Rattle.zeus_base.specs.Nodes.{has, without, meet, is_subset}
+use Rattle.zeus_base.specs.Nodes.{has, meet}
 use Rattle.zeus_model.specs.declared.state.Kept.{Kept}
 use Rattle.zeus_model.specs.declared.state.Pending.{Pending}
 use Rattle.zeus_model.specs.Commit.{is_within, no_pending, acked_pending}
@@ -12,10 +12,6 @@ use Rattle.commit_pipeline.specs.declared.due.Due.{Due}
 pub record Waiting : Type 0 where
   pub done : ℕ
   pub pending : List Pending
-
--- an entry passes at a node where every other member among its followers has acknowledged it
-unfoldable pub passes_at : ℕ → List ℕ → Kept → Bool
-passes_at me members k = is_subset (without me (meet k.followers members)) k.acks
 
 -- an acknowledgement counts where its entry is pending and the sender has not acknowledged it
 unfoldable pub counts : Waiting → ℕ → ℕ → Bool

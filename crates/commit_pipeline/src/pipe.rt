@@ -2,9 +2,9 @@
 ghost use Rattle.std.specs.Prelude.{◌≡◌, ◌+◌, ◌-◌, ◌<◌, ◌≤◌, ◌↔◌, ◌^◌, [], ◌∷◌, ◌++◌, IfOk, IsOk, OnErr, IfNone, drop, length, map, not, option_copied, slice_get, if◌then◌else◌};
 ghost use Rattle.std.specs.Option.{OnSome};
 ghost use Rattle.zeus_base.specs.Nodes.{has};
-ghost use Rattle.zeus_model.specs.Commit.{acked_pending, as_kept, no_pending};
+ghost use Rattle.zeus_model.specs.Commit.{acked_pending, as_kept, no_pending, passes_at};
 ghost use Rattle.zeus_model.specs.Tables.{front, nth, put};
-ghost use Rattle.commit_pipeline.specs.Pipes.{acknowledged, counts, outstanding, passes_at};
+ghost use Rattle.commit_pipeline.specs.Pipes.{acknowledged, counts, outstanding};
 
 use crate::due::{Due, DueList};
 use std::alloc::Global;
@@ -214,7 +214,7 @@ fn passing<W: Window<Pending>>(entries: &W, me: NodeId, members: NodeSet) -> u32
 }
 
 /// Whether every other member among its followers has acknowledged the entry.
-#[tactic(auto, unfolding(crate::specs::Pipes::passes_at))]
+#[tactic(auto, unfolding(zeus_model::specs::Commit::passes_at))]
 fn passes(entry: &Pending, me: NodeId, members: NodeSet) -> bool
     ensures { result ≡ passes_at me members (as_kept entry.now) }
 {

@@ -11,7 +11,7 @@ use Rattle.zeus_model.specs.In.{In, here, there}
 use Rattle.zeus_model.specs.Tables.{front}
 use Rattle.zeus_model.specs.State.{Node, slot, log, own_stream}
 use Rattle.zeus_model.specs.Act.{Act, still, joined, letter}
-use Rattle.zeus_model.specs.Commit.{as_kept, passes, passing, followers_of, told, pass_own, advance_own_by, advance_own, pass_kept, advance_kept_by, advance_kept}
+use Rattle.zeus_model.specs.Commit.{as_kept, passes, passes_at, passing, followers_of, told, pass_own, advance_own_by, advance_own, pass_kept, advance_kept_by, advance_kept}
 use Rattle.machine_moves.specs.Move.{own_kept, IsTellable, own_passed, kept_passed}
 use Rattle.machine_moves.proofs.Lists.{In-append, In-nothing}
 use Rattle.machine_moves.proofs.Within.{Keeps, Keeps-refl, Keeps-trans, Keeps-pass_own, Keeps-pass_kept, slot-with_slot_other, log-with_log_other, stream_cases}
@@ -45,7 +45,7 @@ AgreesOn-sym m k t a =
     }
 
 passes-same : (m k : Node) → k.me ≡ m.me → k.members ≡ m.members → passes k ≡ passes m
-unfolding passes
+unfolding passes_at
 passes-same m k me members = λ j. λ kept. is_subset (without (me j) (meet kept.followers (members j))) kept.acks
 
 IsDue-agrees : (m k : Node) (p : Passed) → AgreesOn m k p.stream → IsDue m p → IsDue k p

@@ -7,49 +7,17 @@ use Rattle.std.proofs.lemmas.Bool.{cases_order, lt-ltb, le-ltb, eq-eqb, ne_eqb}
 use Rattle.zeus_base.specs.Nodes.{has}
 use Rattle.zeus_base.specs.Tables.{nth, put}
 use Rattle.zeus_base.specs.declared.order.Stream.{Stream}
+use Rattle.zeus_base.specs.TableLaws.{nth_read, put-set, put-nth, nth_found}
 use Rattle.zeus_packet.specs.declared.letter.RInv.{RInv}
 use Rattle.zeus_model.specs.declared.state.Kept.{Kept}
 use Rattle.zeus_model.specs.Commit.{acked_kept, is_within, next_kept, no_kept, on_kept_rack, stored_rinv}
-use Rattle.zeus_model.specs.State.{Node, StreamLog, log, no_log, with_log}
+use Rattle.zeus_model.specs.State.{Node, StreamLog, log, no_log}
 use Rattle.zeus_model.specs.Tables.{front}
 use Rattle.follower_log.specs.StreamLaws.{log_at-with_log_at}
 use Rattle.follower_log.specs.Streams.{IsStreamOf, log_at, outcome_of, outcome_of_ack, raised_by_one, raised_rest, with_log_at}
 use Rattle.follower_log.specs.declared.stored.Store.TheVariants.{Stored, Again, Gap, Window}
 
 -- ---- elements by place
-
-nth-get_or : {A : Type 0} (d : A) (xs : List A) (i : ℕ) → nth d xs i ≡ get_or xs i d
-unfolding nth
-nth-get_or d [] i = refl
-nth-get_or d (x ∷ xs) zero = refl
-nth-get_or d (x ∷ xs) (suc i) = nth-get_or d xs i
-
-get_or_default : {A : Type 0} (xs : List A) (i : ℕ) (d e : A) → i < length xs → get_or xs i d ≡ get_or xs i e
-get_or_default [] i d e h = absurd (omega arith)
-get_or_default (x ∷ xs) zero d e h = refl
-get_or_default (x ∷ xs) (suc i) d e h = get_or_default xs i d e (omega arith)
-
--- the element at a place in range, whatever the default
-pub nth_read : {A : Type 0} (d : A) (xs : List A) (i : ℕ) (x : A) → i < length xs → x ≡ get_or xs i x → nth d xs i ≡ x
-nth_read d xs i x h e = nth-get_or d xs i ∙ get_or_default xs i d x h ∙ sym e
-
-put-set : {A : Type 0} (d : A) (xs : List A) (i : ℕ) (v : A) → i < length xs → put d xs i v ≡ set xs i v
-unfolding put
-put-set d [] i v h = absurd (omega arith)
-put-set d (x ∷ xs) zero v h = refl
-put-set d (x ∷ xs) (suc i) v h = ap (λ l. x ∷ l) (put-set d xs i v (omega arith))
-
-put-nth : {A : Type 0} (d : A) (xs : List A) (i : ℕ) → i < length xs → put d xs i (nth d xs i) ≡ xs
-unfolding nth put
-put-nth d [] i h = absurd (omega arith)
-put-nth d (x ∷ xs) zero h = refl
-put-nth d (x ∷ xs) (suc i) h = ap (λ l. x ∷ l) (put-nth d xs i (omega arith))
-
-nth_found : {A : Type 0} (d : A) (xs : List A) (i : ℕ) (x : A) → Some x ≡ slice_get xs i → x ≡ nth d xs i
-unfolding nth
-nth_found d [] i x e = cc
-nth_found d (y ∷ ys) zero x e = cc
-nth_found d (y ∷ ys) (suc i) x e = nth_found d ys i x e
 
 pub found_within : {A : Type 0} (xs : List A) (i : ℕ) (x : A) → Some x ≡ slice_get xs i → i < length xs
 found_within [] i x e = absurd cc
@@ -152,7 +120,7 @@ counts-high l from number h k =
 pub counts-here : (l : StreamLog) (from number : ℕ) (e : Kept) (b : Bool) → l.done ≤ number → Some e ≡ slice_get l.kept (number - l.done) → has from e.acks ≡ b → counts l from number ≡ not b
 unfolding counts is_within
 counts-here l from number e b h is acked =
-    rw (le-ltb number l.done h, lt-ltb number (l.done + length l.kept) (omega (arith, found_within l.kept (number - l.done) e is)), ← nth_found no_kept l.kept (number - l.done) e is, acked) refl
+    rw (le-ltb number l.done h, lt-ltb number (l.done + length l.kept) (omega (arith, found_within l.kept (number - l.done) e is)), nth_found no_kept l.kept (number - l.done) e is, acked) refl
 
 pub acked-no : (n : Node) (from : ℕ) (s : Stream) (number : ℕ) (l : StreamLog) → log n s ≡ l → counts l from number ≡ false → outcome_of_ack false ≡ (on_kept_rack n from s number).answer
 unfolding on_kept_rack counts
@@ -170,7 +138,7 @@ pub acked_at-yes : (n : Node) (from : ℕ) (s : Stream) (number : ℕ) (l : Stre
 unfolding on_kept_rack counts
 acked_at-yes n from s number l e kept here counted is becomes =
     rw here
-    (rw (counted, becomes, ← nth_found no_kept l.kept (number - l.done) e is, ← put-set no_kept l.kept (number - l.done) (acked_kept e from) (found_within l.kept (number - l.done) e is))
+    (rw (counted, becomes, nth_found no_kept l.kept (number - l.done) e is, ← put-set no_kept l.kept (number - l.done) (acked_kept e from) (found_within l.kept (number - l.done) e is))
     (sym (log_at-with_log_at n.logs s record { done = l.done; kept = put no_kept l.kept (number - l.done) (acked_kept e from) })))
 
 -- of an entry that is stored, one counts where it is new

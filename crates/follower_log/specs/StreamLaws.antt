@@ -4,13 +4,13 @@ use Rattle.std.specs.Prelude.{ℕ, zero, suc, ◌≡◌, ◌≢◌, ◌<◌, Boo
 use Rattle.std.proofs.Common.{arith, sym, ap, ◌∙◌, inl, inr}
 use Rattle.std.proofs.lemmas.Bool.{cases_eq, ltb-false}
 use Rattle.std.proofs.lemmas.List.{length-replicate}
-use Rattle.zeus_base.specs.TableLaws.{length-put, nth-put_other, nth-put_same}
+use Rattle.zeus_base.specs.TableLaws.{length-put, nth-put_other, nth-put_same, nth-replicate}
 use Rattle.zeus_base.specs.Tables.{nth, put}
 use Rattle.zeus_base.specs.declared.order.Stream.{Stream}
 use Rattle.zeus_model.specs.declared.state.Kept.{Kept}
-use Rattle.zeus_model.specs.Commit.{passes}
+use Rattle.zeus_model.specs.Commit.{passes, passes_at}
 use Rattle.zeus_model.specs.State.{Node, StreamLog, no_log}
-use Rattle.follower_log.specs.Streams.{IsStreamOf, log_at, lowest_below, passes_at, with_log_at}
+use Rattle.follower_log.specs.Streams.{IsStreamOf, log_at, lowest_below, with_log_at}
 
 -- the stream that becomes this is this
 pub log_at-with_log_at : (logs : List (List StreamLog)) (s : Stream) (l : StreamLog) → log_at (with_log_at logs s l) s ≡ l
@@ -48,12 +48,6 @@ IsStreamOf-with_log_at logs s t l h g =
       slot = rw (length_row-put logs s row t.node (length-put no_log (nth [] logs s.node) s.slot l h.slot)) g.slot;
     }
 
-nth-replicate : {A : Type 0} (d a : A) (n i : ℕ) → i < n → nth d (replicate n a) i ≡ a
-unfolding nth
-nth-replicate d a zero i h = absurd (omega arith)
-nth-replicate d a (suc n) zero h = refl
-nth-replicate d a (suc n) (suc i) h = nth-replicate d a n i (omega arith)
-
 -- the streams that there are at the start
 pub IsStreamOf-start : (nodes slots : ℕ) (s : Stream) → s.node < nodes → s.slot < slots → IsStreamOf (replicate nodes (replicate slots no_log)) s
 IsStreamOf-start nodes slots s h g =
@@ -61,11 +55,6 @@ IsStreamOf-start nodes slots s h g =
       node = rw (length-replicate nodes (replicate slots no_log)) h;
       slot = rw (nth-replicate [] (replicate slots no_log) nodes s.node h, length-replicate slots no_log) g;
     }
-
--- what passes at a node by its number and its members
-pub passes-passes_at : (n : Node) (k : Kept) → passes n k ≡ passes_at n.me n.members k
-unfolding passes passes_at
-passes-passes_at n k = refl
 
 none_first : (ks : List Kept) → None ≡ slice_get ks 0 → ks ≡ []
 none_first [] h = refl

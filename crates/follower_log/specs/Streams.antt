@@ -1,7 +1,6 @@
 -- The stored streams of a node, by node and slot, and which entries of one pass or are raised.
 use Rattle.std.specs.List.{slice_get}
 use Rattle.std.specs.Prelude.{ℕ, ◌<◌, ◌+◌, Bool, List, [], Option, None, length, nat_lt, drop, if◌then◌else◌}
-use Rattle.zeus_base.specs.Nodes.{without, meet, is_subset}
 use Rattle.zeus_base.specs.declared.order.Stream.{Stream}
 use Rattle.zeus_packet.specs.declared.letter.Cause.TheVariants.{Window as WindowFull}
 use Rattle.zeus_model.specs.declared.answer.Outcome.{Outcome}
@@ -48,7 +47,3 @@ raised_by_one l = record { done = l.done + 1; kept = drop 1 l.kept }
 abbrev pub raised_rest : List (List StreamLog) → Stream → ℕ → List (List StreamLog)
 raised_rest logs s done =
     if nat_lt (log_at logs s).done done then with_log_at logs s record { done = done; kept = [] } else logs
-
--- an entry passes at a node where every other member among its followers has acknowledged it
-unfoldable pub passes_at : ℕ → List ℕ → Kept → Bool
-passes_at me members k = is_subset (without me (meet k.followers members)) k.acks

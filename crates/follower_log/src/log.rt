@@ -1,10 +1,10 @@
 //! A foreign stream at a node.
 ghost use Rattle.std.specs.Prelude.{◌≡◌, ◌<◌, ◌≤◌, ◌+◌, ◌-◌, ◌^◌, ℕ, [], OnSome, IsNone, length, nat_lt, not, option_copied, slice_get, if◌then◌else◌};
 ghost use Rattle.zeus_base.specs.Nodes.{has};
-ghost use Rattle.zeus_model.specs.Commit.{acked_kept, on_kept_rack, stored_rinv};
+ghost use Rattle.zeus_model.specs.Commit.{acked_kept, on_kept_rack, stored_rinv, passes_at};
 ghost use Rattle.zeus_model.specs.State.{Node, log};
 ghost use Rattle.zeus_model.specs.Tables.{front};
-ghost use Rattle.follower_log.specs.Streams.{lowest_below, outcome_of, outcome_of_ack, passes_at, raised_by_one};
+ghost use Rattle.follower_log.specs.Streams.{lowest_below, outcome_of, outcome_of_ack, raised_by_one};
 
 use crate::stored::Store;
 use std::marker::Model;
@@ -144,7 +144,7 @@ fn add_ack(entry: &mut Kept, from: NodeId) -> bool
 }
 
 /// Whether every other member among its followers has acknowledged the entry.
-#[tactic(auto, unfolding(crate::specs::Streams::passes_at))]
+#[tactic(auto, unfolding(zeus_model::specs::Commit::passes_at))]
 fn passes(entry: &Kept, me: NodeId, members: NodeSet) -> bool
     ensures { result ≡ passes_at me members entry.now }
 {

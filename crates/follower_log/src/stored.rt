@@ -1,9 +1,9 @@
 //! The foreign streams at a node, by node and slot.
 ghost use Rattle.std.specs.Prelude.{◌≡◌, ◌<◌, ◌≤◌, ◌+◌, ◌-◌, ◌^◌, ℕ, [], IfOk, OnSome, IsNone, length, option_copied, replicate, slice_get, vec_capacity};
-ghost use Rattle.zeus_model.specs.Commit.{on_kept_rack, stored_rinv};
+ghost use Rattle.zeus_model.specs.Commit.{on_kept_rack, stored_rinv, passes_at};
 ghost use Rattle.zeus_model.specs.State.{Node, no_log};
 ghost use Rattle.zeus_model.specs.Tables.{front, nth};
-ghost use Rattle.follower_log.specs.Streams.{IsStreamOf, log_at, lowest_below, outcome_of, outcome_of_ack, passes_at, raised_by_one, raised_rest, with_log_at};
+ghost use Rattle.follower_log.specs.Streams.{IsStreamOf, log_at, lowest_below, outcome_of, outcome_of_ack, raised_by_one, raised_rest, with_log_at};
 
 use crate::log::LogOver;
 use std::alloc::Global;

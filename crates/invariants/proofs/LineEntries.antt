@@ -14,7 +14,7 @@ use Rattle.zeus_txn.specs.Ops.{named}
 use Rattle.zeus_model.specs.In.{In}
 use Rattle.zeus_model.specs.Tables.{nth, put, or_else, where_true}
 use Rattle.zeus_model.specs.State.{Node, Slot, StreamLog, no_slot, slot, log, with_slot, with_log, with_copies}
-use Rattle.zeus_model.specs.Commit.{as_kept, each_write, applied, after_passing, raise, store, next_kept, no_kept, no_pending, passes, pass_own, pass_kept, acked_kept, acked_pending}
+use Rattle.zeus_model.specs.Commit.{as_kept, each_write, applied, after_passing, raise, store, next_kept, no_kept, no_pending, passes, passes_at, pass_own, pass_kept, acked_kept, acked_pending}
 use Rattle.zeus_model.specs.Local.{committed, rewritten_copy, write_cause, full_cause, run_here, new_writes, replicas_of}
 use Rattle.zeus_model.specs.declared.state.Current.{Current}
 use Rattle.zeus_model.specs.declared.state.Kept.{Kept}
@@ -22,7 +22,7 @@ use Rattle.zeus_model.specs.declared.state.Pending.{Pending}
 use Rattle.zeus_model.specs.declared.answer.Tried.{Tried}
 use Rattle.machine_moves.specs.Move.{IsRaising, by_entry, by_word, own_kept}
 use Rattle.machine_moves.specs.Scene.{Scene, IsNumbered, IsReceivable, Changes, nothing}
-use Rattle.replication_safety.specs.Line.{Line, Entry, Stores, Stored, Passes, Has, IsOut, kept_at, entry_of, top, Letter as Said}
+use Rattle.replication_safety.specs.Line.{Line, Entry, Stores, Stored, Passes, Has, kept_at, top}
 use Rattle.replication_safety.specs.Moves as moves
 use Rattle.replication_safety.specs.Replicated.{Replicated}
 use Rattle.invariants.specs.Lines.{line}
@@ -308,7 +308,7 @@ sees_note_kept old new t s n i from passed l foreign g sender body within c =
 
 -- what the node's test says of the first entry
 first_passes : (n : Node) (k : Kept) → passes n k ≡ true → is_subset (without n.me (meet k.followers n.members)) k.acks ≡ true
-unfolding passes
+unfolding passes_at
 first_passes n k h = h
 
 -- every member that follows the first entry has acknowledged it

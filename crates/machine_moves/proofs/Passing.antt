@@ -15,7 +15,7 @@ use Rattle.zeus_model.specs.declared.state.Copy.{Copy}
 use Rattle.zeus_model.specs.declared.state.Kept.{Kept}
 use Rattle.zeus_model.specs.State.{Node, Slot, StreamLog, no_slot, no_log, slot, log, own_stream}
 use Rattle.zeus_model.specs.Act.{letter, to_each}
-use Rattle.zeus_model.specs.Commit.{validated, each_write, writes_of, as_kept, no_kept, passes, passing, followers_of, pass_own, advance_own, advance_own_by, pass_kept, advance_kept, advance_kept_by, told}
+use Rattle.zeus_model.specs.Commit.{validated, each_write, writes_of, as_kept, no_kept, passes, passes_at, passing, followers_of, pass_own, advance_own, advance_own_by, pass_kept, advance_kept, advance_kept_by, told}
 use Rattle.machine_moves.specs.Scene.{Scene}
 use Rattle.machine_moves.specs.Move.{own_kept, own_passed, kept_passed, passes_own, passes_kept, IsTellable}
 use Rattle.machine_moves.proofs.Lists.{put-put, nth-put_same}
@@ -119,7 +119,7 @@ own_pass s n i ready h =
 
 -- after a pass the next entries can still pass
 pub own_front : (m : Node) (i c : ℕ) → suc (suc c) ≤ front (passes m) (own_kept m i) → suc c ≤ front (passes (pass_own m i 1)) (own_kept (pass_own m i 1) i)
-unfolding passes
+unfolding passes_at
 own_front m i c h = rw (pass_own-kept m i 1) (front-parts (passes m) no_kept (own_kept m i) (suc c) h).2
 
 -- the entries of an own stream pass one after another
@@ -224,7 +224,7 @@ kept_pass s n t ready out h =
     quiet_reaches s n (pass_kept m t 1) ready.live (Keeps-pass_kept m t 1) (λ ch. passes_kept n t out (outsider_other s n t.node ready out) first.0 first.1 ch)
 
 pub kept_front : (m : Node) (t : Stream) (c : ℕ) → suc (suc c) ≤ front (passes m) (log m t).kept → suc c ≤ front (passes (pass_kept m t 1)) (log (pass_kept m t 1) t).kept
-unfolding passes
+unfolding passes_at
 kept_front m t c h = rw (pass_kept-log m t 1) (front-parts (passes m) no_kept (log m t).kept (suc c) h).2
 
 -- its entries pass one after another

@@ -12,7 +12,7 @@ use Rattle.zeus_base.specs.declared.step.Step.TheVariants.{View as ViewStep}
 use Rattle.zeus_model.specs.declared.answer.Answer.TheVariants.{View as ViewAnswer}
 use Rattle.zeus_model.specs.declared.answer.Made.{Made}
 use Rattle.zeus_model.specs.declared.answer.Made.TheVariants.{Empty, Installed, NotMember, NotStopped}
-use Rattle.zeus_model.specs.Tables.{below, first_of, nth, numbers_from, or_else, where_true}
+use Rattle.zeus_model.specs.Tables.{below, first_of, numbers_from, or_else, where_true}
 use Rattle.zeus_model.specs.World.{World, happens, is_empty, last_view, node, refuse_step, view_or_not, view_refused}
 use Rattle.membership.specs.Views.{IsWorldWith}
 
@@ -32,12 +32,6 @@ unfolding numbers_from
 below_none = refl
 
 -- ---- the last view, and one by its epoch
-
-pub nth-get_or : {A : Type 0} (d : A) (xs : List A) (i : ℕ) → nth d xs i ≡ get_or xs i d
-unfolding nth
-nth-get_or d [] i = refl
-nth-get_or d (x ∷ xs) zero = refl
-nth-get_or d (x ∷ xs) (suc i) = nth-get_or d xs i
 
 last_nth : (v : List ℕ) (vs : List (List ℕ)) → last_view (v ∷ vs) ≡ get_or (v ∷ vs) (length vs) v
 unfolding last_view

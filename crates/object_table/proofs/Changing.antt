@@ -1,42 +1,15 @@
 -- Changes of one place of a table in range.
-use Rattle.std.proofs.Common.{ℕ, zero, suc, ◌≡◌, ◌<◌, ◌≤◌, ◌+◌, ◌-◌, List, [], ◌∷◌, Option, Some, None, length, refl, sym, ap, ◌∙◌, arith, replicate, map}
-use Rattle.std.specs.List.{slice_get, All}
+use Rattle.std.proofs.Common.{ℕ, ◌≡◌, ◌<◌, ◌-◌, List, Option, Some, None, length, sym, ◌∙◌, arith, replicate, map}
+use Rattle.std.specs.List.{All}
 use Rattle.std.proofs.Math.ListN.{get_or, set, length-set}
-use Rattle.std.proofs.lemmas.List.{get_or_default, length-map, length-replicate}
+use Rattle.std.proofs.lemmas.List.{length-map, length-replicate}
 use Rattle.std.proofs.lemmas.List.Elements.{All-replicate, All-set}
 use Rattle.std.proofs.lemmas.Bool.Decides.{nat_tests}
 use Rattle.zeus_base.specs.Tables.{nth, put}
+use Rattle.zeus_base.specs.TableLaws.{put-set, nth_read}
 use Rattle.zeus_model.specs.declared.state.Copy.{Copy}
 use Rattle.object_table.specs.declared.hold.Hold.{Hold}
 use Rattle.object_table.specs.Table.{CanHold, IsCounted, IsTable, held, unheld}
-
-nth-get_or : {A : Type 0} (d : A) (xs : List A) (i : ℕ) → nth d xs i ≡ get_or xs i d
-unfolding nth
-nth-get_or d [] i = refl
-nth-get_or d (x ∷ xs) zero = refl
-nth-get_or d (x ∷ xs) (suc i) = nth-get_or d xs i
-
-pub put-set : {A : Type 0} (d : A) (xs : List A) (i : ℕ) (v : A) → i < length xs → put d xs i v ≡ set xs i v
-unfolding put
-put-set d [] i v h = absurd (omega arith)
-put-set d (x ∷ xs) zero v h = refl
-put-set d (x ∷ xs) (suc i) v h = ap (λ l. x ∷ l) (put-set d xs i v (omega arith))
-
-pub nth_found : {A : Type 0} (d : A) (xs : List A) (i : ℕ) (x : A) → Some x ≡ slice_get xs i → x ≡ nth d xs i
-unfolding nth
-nth_found d [] i x e = cc
-nth_found d (y ∷ ys) zero x e = cc
-nth_found d (y ∷ ys) (suc i) x e = nth_found d ys i x e
-
-pub nth_past : {A : Type 0} (d : A) (xs : List A) (i : ℕ) → None ≡ slice_get xs i → d ≡ nth d xs i
-unfolding nth
-nth_past d [] i e = refl
-nth_past d (y ∷ ys) zero e = cc
-nth_past d (y ∷ ys) (suc i) e = nth_past d ys i e
-
--- the element at a place in range, whatever the default
-pub nth_read : {A : Type 0} (d : A) (xs : List A) (i : ℕ) (x : A) → i < length xs → x ≡ get_or xs i x → nth d xs i ≡ x
-nth_read d xs i x h e = nth-get_or d xs i ∙ get_or_default xs i d x h ∙ sym e
 
 -- a change of what stands at a place
 pub set_changed : {A : Type 0} (d : A) (f : A → A) (xs : List A) (i : ℕ) (x : A) → i < length xs → x ≡ get_or xs i x → set xs i (f x) ≡ put d xs i (f (nth d xs i))

@@ -45,9 +45,13 @@ unfoldable pub followers_of : List Kept → List ℕ
 followers_of [] = []
 followers_of (k ∷ ks) = join k.followers (followers_of ks)
 
--- an entry passes where every member among its followers, other than the node itself, has acknowledged it
-unfoldable pub passes : Node → Kept → Bool
-passes n k = is_subset (without n.me (meet k.followers n.members)) k.acks
+-- an entry passes at a node, in a view of these members, where every member among its followers other than the node has
+-- acknowledged it
+unfoldable pub passes_at : ℕ → List ℕ → Kept → Bool
+passes_at me members k = is_subset (without me (meet k.followers members)) k.acks
+
+abbrev pub passes : Node → Kept → Bool
+passes n k = passes_at n.me n.members k
 
 -- the length of the longest front of entries that pass
 abbrev pub passing : Node → List Kept → ℕ

@@ -16,12 +16,12 @@ use Rattle.zeus_model.specs.declared.state.Pending.{Pending}
 use Rattle.zeus_model.specs.Tables.{nth, put, front}
 use Rattle.zeus_model.specs.Act.{just, to_each}
 use Rattle.zeus_model.specs.State.{Node, Slot, StreamLog, no_slot, slot, log, with_slot, with_log, with_copies, own_stream}
-use Rattle.zeus_model.specs.Commit.{as_kept, each_write, validated, writes_of, passes, passing, pass_own, advance_own, advance_own_by, told, followers_of, is_within, on_own_rack, on_kept_rack, on_rack, no_pending, no_kept, acked_pending, acked_kept}
+use Rattle.zeus_model.specs.Commit.{as_kept, each_write, validated, writes_of, passes, passing, pass_own, advance_own, advance_own_by, told, followers_of, is_within, on_own_rack, on_kept_rack, on_rack, no_pending, no_kept, acked_pending, acked_kept, passes_at}
 use Rattle.zeus_node.specs.declared.effect.Effect.{Effect}
 use Rattle.zeus_node.specs.Copies.{IsWithin}
 use Rattle.zeus_node.specs.Done.{Adds, IsActed, IsQuiet}
 use Rattle.zeus_node.specs.FirstNode.{IsFirstCurrent, IsFirstNode, IsStream}
-use Rattle.zeus_node.specs.Slots.{counts, counts_at, passes_at, passed, IsAcknowledged}
+use Rattle.zeus_node.specs.Slots.{counts, counts_at, passed, IsAcknowledged}
 use Rattle.zeus_node.specs.Stored.{counts_kept, IsKeptAcknowledged}
 use Rattle.zeus_node.proofs.Adding.{adds_nothing, adds_passes}
 use Rattle.zeus_node.proofs.Fronts.{length-as_kept}
@@ -141,7 +141,6 @@ on_rack-kept n from s number e = rw e refl
 
 -- the own stream passes a front
 pub passing-own : (n : Node) (ks : List Kept) → front (passes_at n.me n.members) ks ≡ passing n ks
-unfolding passes_at passes
 passing-own n ks = refl
 
 pub pass_own_by : (n : Node) (s k : ℕ) (l m : Slot) (copies : List (Option Copy)) → IsFirstNode n → s < 1 → l ≡ get_or n.slots s l → m ≡ passed l k → copies ≡ each_write validated n.copies (writes_of (take k (map as_kept l.pending))) → (let r : Node = record n { copies = copies; slots = set n.slots s m } in r) ≡ pass_own n s k

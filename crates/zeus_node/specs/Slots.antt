@@ -1,16 +1,12 @@
 -- What becomes of an own slot.
 use Rattle.std.specs.Prelude.{ℕ, ◌≡◌, ◌+◌, ◌-◌, Bool, ◌&&◌, not, List, length, drop, if◌then◌else◌}
-use Rattle.zeus_base.specs.Nodes.{has, without, meet, is_subset}
+use Rattle.zeus_base.specs.Nodes.{has}
 use Rattle.zeus_model.specs.declared.answer.Outcome.{Outcome}
 use Rattle.zeus_model.specs.declared.answer.Outcome.TheVariants.{Taken, Again}
 use Rattle.zeus_model.specs.declared.state.Kept.{Kept}
 use Rattle.zeus_model.specs.Commit.{is_within, no_pending, acked_pending}
 use Rattle.zeus_model.specs.State.{Slot}
 use Rattle.zeus_model.specs.Tables.{nth, put}
-
--- an entry passes at a node where every other member among its followers has acknowledged it
-unfoldable pub passes_at : ℕ → List ℕ → Kept → Bool
-passes_at me members k = is_subset (without me (meet k.followers members)) k.acks
 
 -- the first entries have passed
 abbrev pub passed : Slot → ℕ → Slot

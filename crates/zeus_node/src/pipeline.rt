@@ -1,10 +1,10 @@
 //! An own slot: its current transaction, and the pending entries of its stream.
 ghost use Rattle.std.specs.Prelude.{◌≡◌, ◌<◌, ◌≤◌, ◌+◌, ◌^◌, [], ◌∷◌, ◌++◌, IfOk, length, take, drop, map, vec_capacity, option_copied};
-ghost use Rattle.zeus_model.specs.Commit.{as_kept, each_write, followers_of, validated, writes_of};
+ghost use Rattle.zeus_model.specs.Commit.{as_kept, each_write, followers_of, validated, writes_of, passes_at};
 ghost use Rattle.zeus_model.specs.State.{no_slot};
 ghost use Rattle.zeus_model.specs.Tables.{front};
 ghost use Rattle.zeus_node.specs.Copies.{IsWithin};
-ghost use Rattle.zeus_node.specs.Slots.{IsAcknowledged, passes_at, passed};
+ghost use Rattle.zeus_node.specs.Slots.{IsAcknowledged, passed};
 
 use crate::copies::{Change, Copies};
 use std::alloc::Global;
@@ -150,7 +150,7 @@ fn passing(pending: &[Pending], me: NodeId, members: NodeSet) -> usize
 }
 
 /// Whether every other member among its followers has acknowledged the entry.
-#[tactic(auto, unfolding(crate::specs::Slots::passes_at))]
+#[tactic(auto, unfolding(zeus_model::specs::Commit::passes_at))]
 fn passes(entry: &Pending, me: NodeId, members: NodeSet) -> bool
     ensures { result ≡ passes_at me members (as_kept entry.now) }
 {

@@ -1,5 +1,5 @@
 use Rattle.std.proofs.Common.{◌≡◌, ◌≤◌, ◌∙◌, Some, None, length, sym, slice_get, add-one, arith}
-use Rattle.commit_pipeline.specs.Pipes.{passes_at}
+use Rattle.zeus_model.specs.Commit.{passes_at}
 use Rattle.commit_pipeline.proofs.Acks.{read_past}
 use Rattle.commit_pipeline.proofs.Fronts.{front_end, front_step, front_stop}
 use Rattle.commit_pipeline.proofs.pipe.passing.Goals as goal

@@ -1,7 +1,6 @@
 use Rattle.std.proofs.Common.{◌≡◌, ◌+◌, drop, map}
-use Rattle.zeus_model.specs.Commit.{as_kept}
+use Rattle.zeus_model.specs.Commit.{as_kept, passes_at}
 use Rattle.zeus_model.specs.Tables.{front}
-use Rattle.commit_pipeline.specs.Pipes.{passes_at}
 use Rattle.commit_pipeline.proofs.pipe.passing.Given as goal
 
 abbrev pub invariant-loop-place : goal.invariant-loop-place

@@ -1,5 +1,5 @@
 use Rattle.std.proofs.Common.{sym, ◌∙◌, add-one, arith}
-use Rattle.zeus_node.specs.Slots.{passes_at}
+use Rattle.zeus_model.specs.Commit.{passes_at}
 use Rattle.zeus_node.proofs.Fronts.{front_step, front_stop, front_end}
 use Rattle.zeus_node.proofs.pipeline.passing.Goals as goal
 

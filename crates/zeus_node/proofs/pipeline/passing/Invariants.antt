@@ -1,7 +1,6 @@
 use Rattle.std.proofs.Common.{◌≡◌, ◌+◌, drop, map}
-use Rattle.zeus_model.specs.Commit.{as_kept}
+use Rattle.zeus_model.specs.Commit.{as_kept, passes_at}
 use Rattle.zeus_model.specs.Tables.{front}
-use Rattle.zeus_node.specs.Slots.{passes_at}
 use Rattle.zeus_node.proofs.pipeline.passing.Given as goal
 
 abbrev pub invariant-loop-count : goal.invariant-loop-count

@@ -1,6 +1,7 @@
 use Rattle.std.proofs.Common.{None}
+use Rattle.zeus_base.specs.TableLaws.{nth_read}
 use Rattle.arbitration.specs.Gathering.{gathered}
-use Rattle.arbitration.proofs.Noting.{nth_read, put_read}
+use Rattle.arbitration.proofs.Noting.{put_read}
 use Rattle.arbitration.proofs.gathers.Gathers.take_ack.Goals as goal
 
 pub returns-clause-answer : goal.returns-clause-answer

@@ -1,6 +1,6 @@
-use Rattle.std.proofs.Common.{◌≡◌, ◌<◌, ◌≤◌, length, sym, ap, ◌∙◌, add-one, arith}
+use Rattle.std.proofs.Common.{length, sym, ap, ◌∙◌, add-one, arith}
+use Rattle.zeus_model.specs.Commit.{passes_at}
 use Rattle.zeus_model.specs.State.{StreamLog}
-use Rattle.follower_log.specs.Streams.{passes_at}
 use Rattle.follower_log.proofs.Logs.{found_within, front-end, front-step, front-stop, missing_past}
 use Rattle.follower_log.proofs.log.LogOver.passing.Goals as goal
 

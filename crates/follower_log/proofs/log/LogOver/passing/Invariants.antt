@@ -1,6 +1,6 @@
 use Rattle.std.proofs.Common.{◌≡◌, ◌+◌, ◌-◌, ◌≤◌, drop, length}
+use Rattle.zeus_model.specs.Commit.{passes_at}
 use Rattle.zeus_model.specs.Tables.{front}
-use Rattle.follower_log.specs.Streams.{passes_at}
 use Rattle.follower_log.proofs.log.LogOver.passing.Given as goal
 
 -- so many pass from the front on, and then those of the rest

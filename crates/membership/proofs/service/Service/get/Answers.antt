@@ -1,5 +1,5 @@
 use Rattle.std.proofs.Common.{ℕ, ◌-◌, List, [], refl}
-use Rattle.membership.proofs.Making.{nth-get_or}
+use Rattle.zeus_base.specs.TableLaws.{nth-get_or}
 use Rattle.membership.proofs.service.Service.get.Goals as goal
 
 pub returns-clause-view : goal.returns-clause-view

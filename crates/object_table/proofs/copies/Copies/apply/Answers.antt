@@ -1,6 +1,7 @@
 use Rattle.std.proofs.Common.{None}
+use Rattle.zeus_base.specs.TableLaws.{nth_read}
 use Rattle.zeus_model.specs.Commit.{applied}
-use Rattle.object_table.proofs.Changing.{nth_read, set_changed}
+use Rattle.object_table.proofs.Changing.{set_changed}
 use Rattle.object_table.proofs.copies.Copies.apply.Goals as goal
 
 pub returns-clause-answer : goal.returns-clause-answer

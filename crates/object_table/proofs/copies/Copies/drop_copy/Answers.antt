@@ -1,5 +1,5 @@
 use Rattle.std.proofs.Common.{None, sym}
-use Rattle.object_table.proofs.Changing.{put-set}
+use Rattle.zeus_base.specs.TableLaws.{put-set}
 use Rattle.object_table.proofs.copies.Copies.drop_copy.Goals as goal
 
 pub returns-clause-copies : goal.returns-clause-copies

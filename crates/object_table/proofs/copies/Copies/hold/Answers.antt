@@ -1,7 +1,8 @@
 use Rattle.std.proofs.Common.{◌<◌, Option, Some, None, length}
+use Rattle.zeus_base.specs.TableLaws.{nth_read}
 use Rattle.object_table.specs.declared.hold.Hold.{Hold}
 use Rattle.object_table.specs.Table.{held}
-use Rattle.object_table.proofs.Changing.{IsCounted-held, IsTable-holds, nth_read, set_changed}
+use Rattle.object_table.proofs.Changing.{IsCounted-held, IsTable-holds, set_changed}
 use Rattle.object_table.proofs.copies.Copies.hold.Goals as goal
 
 pub held-requires : goal.held-requires

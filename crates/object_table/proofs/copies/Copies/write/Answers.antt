@@ -1,9 +1,10 @@
 use Rattle.std.proofs.Common.{◌+◌, Option, None}
+use Rattle.zeus_base.specs.TableLaws.{nth_read}
 use Rattle.zeus_packet.specs.declared.write.Write.{Write}
 use Rattle.zeus_model.specs.declared.state.Copy.{Copy}
 use Rattle.zeus_model.specs.Local.{rewritten_copy}
 use Rattle.zeus_model.specs.State.{version_of}
-use Rattle.object_table.proofs.Changing.{nth_read, set_changed}
+use Rattle.object_table.proofs.Changing.{set_changed}
 use Rattle.object_table.proofs.copies.Copies.write.Goals as goal
 
 pub rewritten-requires : goal.rewritten-requires
