@@ -208,9 +208,18 @@ parts_of finished last = record { finished = finished; last = last }
 abbrev pub ops_rows : Said → List (List (List ℕ)) → List (List ℕ) → Rows
 ops_rows d finished last = λ pre w. row_met (ops_place d (parts_of finished last) pre) w
 
+-- a word that is no semicolon belongs to the last operation, and a semicolon ends it
+word_joins : (finished : List (List (List ℕ))) (last : List (List ℕ)) (w : List ℕ) → bytes_eq w (codes ";") ≡ false → with_word (parts_of finished last) w ≡ parts_of finished (last ++ w ∷ [])
+unfolding with_word
+word_joins finished last w e = rw e refl
+
+word_ends : (finished : List (List (List ℕ))) (last : List (List ℕ)) (w : List ℕ) → bytes_eq w (codes ";") ≡ true → with_word (parts_of finished last) w ≡ parts_of (finished ++ last ∷ []) []
+unfolding with_word
+word_ends finished last w e = rw e refl
+
 ops_next : (d : Said) (finished : List (List (List ℕ))) (last : List (List ℕ)) (T : Option Kind) (w : List ℕ) (ws : List (List ℕ)) → bytes_eq w (codes ";") ≡ false → first_fault (next (ops_rows d finished last) w) ws ≡ T → first_fault (ops_rows d finished (last ++ w ∷ [])) ws ≡ T
-unfolding ops_place with_words with_word
-ops_next d finished last T w ws e so = first_fault-same (ops_rows d finished (last ++ w ∷ [])) (next (ops_rows d finished last) w) ws (λ pre v. rw e refl) ∙ so
+unfolding ops_place with_words
+ops_next d finished last T w ws e so = first_fault-same (ops_rows d finished (last ++ w ∷ [])) (next (ops_rows d finished last) w) ws (λ pre v. ap (λ (p : OpParts). row_met (ops_place d p pre) v) (sym (word_joins finished last w e))) ∙ so
 
 -- an operation was read behind finished ones
 record OpTold (d : Said) (T : Option Kind) (finished : List (List (List ℕ))) (before : List Op) (x : Op × List (List ℕ)) : Type 0 where
@@ -302,10 +311,10 @@ module _ (d : Said) (T : Option Kind) where
 
   -- behind a semicolon
   one_more : (finished : List (List (List ℕ))) (last : List (List ℕ)) (w : List ℕ) (ws : List (List ℕ)) → Ready finished last → first_fault (ops_rows d finished last) (w ∷ ws) ≡ T → bytes_eq w (codes ";") ≡ true → first_fault (ops_rows d (finished ++ last ∷ []) []) ws ≡ T
-  unfolding table ops_place with_words with_word is_among
+  unfolding table ops_place with_words is_among
   one_more finished last w ws ready so e =
       let behind = passes (ops_rows d finished last) T w ws so (ready (Some w) ∙ rw e refl) in
-      first_fault-same (ops_rows d (finished ++ last ∷ []) []) (next (ops_rows d finished last) w) ws (λ pre v. rw e refl) ∙ behind
+      first_fault-same (ops_rows d (finished ++ last ∷ []) []) (next (ops_rows d finished last) w) ws (λ pre v. ap (λ (p : OpParts). row_met (ops_place d p pre) v) (sym (word_ends finished last w e))) ∙ behind
 
   more_told : (room : ℕ) (finished : List (List (List ℕ))) (last : List (List ℕ)) (before : List Op) (ws : List (List ℕ)) → length before + room ≡ 16 → AreRead d.names (finished ++ last ∷ []) before → Ready finished last
       → first_fault (ops_rows d finished last) ws ≡ T → Tells T (ops_after d.version d.names room before ws) (λ _. Unit {0})
@@ -314,7 +323,7 @@ module _ (d : Said) (T : Option Kind) where
   more_told (suc room) finished last before [] left are ready so = tells_ok T before _ tt
   more_told zero finished last before (w ∷ ws) left are ready so = go (bytes_eq w (codes ";")) refl
     where
-      go : (b : Bool) → bytes_eq w (codes ";") ≡ b → Tells T (cond b (op_at d.version d.names before ws >>= λ o. Err kinds.Long) (Err kinds.Word)) (λ _. Unit {0})
+      go : (b : Bool) → bytes_eq w (codes ";") ≡ b → Tells {A = List Op} T (cond b (op_at d.version d.names before ws >>= λ o. Err kinds.Long) (Err kinds.Word)) (λ _. Unit {0})
       go false e = tells_err T kinds.Word _ (no_more finished last w ws ready so e)
       go true e =
           tells_bind T _ _ _ (op_told d T (finished ++ last ∷ []) before are ws (one_more finished last w ws ready so e)) (λ o p.
@@ -325,7 +334,7 @@ module _ (d : Said) (T : Option Kind) where
     where
       go : (b : Bool) → bytes_eq w (codes ";") ≡ b
           → ((done : List (List (List ℕ))) (after : List (List ℕ)) (ops : List Op) (rest : List (List ℕ)) → length ops + room ≡ 16 → AreRead d.names (done ++ after ∷ []) ops → Ready done after → first_fault (ops_rows d done after) rest ≡ T → Tells T (ops_after d.version d.names room ops rest) (λ _. Unit {0}))
-          → Tells T (cond b (op_at d.version d.names before ws >>= λ o. ops_after d.version d.names room (before ++ o.0 ∷ []) o.1) (Err kinds.Word)) (λ _. Unit {0})
+          → Tells {A = List Op} T (cond b (op_at d.version d.names before ws >>= λ o. ops_after d.version d.names room (before ++ o.0 ∷ []) o.1) (Err kinds.Word)) (λ _. Unit {0})
       go false e more = tells_err T kinds.Word _ (no_more finished last w ws ready so e)
       go true e more =
           tells_bind T _ _ _ (op_told d T (finished ++ last ∷ []) before are ws (one_more finished last w ws ready so e)) (λ o p.
