@@ -10,7 +10,7 @@ use Rattle.zeus_model.specs.Words.{number_in, is_among}
 use Rattle.zeus_model.specs.declared.fault.Kind.{Kind}
 use Rattle.zeus_model.specs.declared.fault.Kind.TheVariants as kinds
 use Rattle.script_lang.specs.declared.keywords.StepWord.{StepWord}
-use Rattle.script_lang.specs.declared.keywords.StepWord.TheVariants as words
+use Rattle.script_lang.specs.declared.keywords.StepWord.TheVariants as steps
 use Rattle.script_lang.specs.declared.opened.TheConstants.{LATEST_VERSION, READS_DEGREE}
 use Rattle.script_lang.specs.Drafts.{State, version_of, version_taken, nodes_taken, slots_taken, some_nodes, directory_taken, degree_taken, object_taken, tx_taken, run_taken, step_taken, tx_line_taken, object_line_taken, degree_line_taken, more, step_line_taken}
 use Rattle.script_lang.specs.NodeLists.{nodes_after}
@@ -21,7 +21,7 @@ use Rattle.script_lang.specs.Steps.{step_word_of, step_at}
 use Rattle.script_lang.specs.Transactions.{number_if, after_at, tx_at}
 use Rattle.script_lang.proofs.FindLaws.{bytes_eq-true}
 use Rattle.script_lang.proofs.FirstWord.{Rows, next, first_fault, first_fault-same, Tells, tells_bind, tells_ok, tells_err, row_of, reads, word_first, stops, passes}
-use Rattle.script_lang.proofs.NodeRows.{range_number_in, members_told, counted_rows, counted_told}
+use Rattle.script_lang.proofs.NodeRows.{range_number_in, member_rows, members_told, counted_rows, counted_told}
 use Rattle.script_lang.proofs.OpRows.{ops_rows, ops_told}
 use Rattle.script_lang.proofs.RowLaws.{table, range_told, value_told, new_name_row, ended_told}
 use Rattle.script_lang.proofs.StepLaws.{step_text, step_word_of-sound, none_below}
@@ -45,7 +45,7 @@ Any x = Unit {0}
 -- ---- the first lines
 
 keyword_choice : (R : Rows) (T : Option Kind) (keyword w : List ℕ) (ws : List (List ℕ)) → first_fault R (w ∷ ws) ≡ T → ((v : List ℕ) → bytes_eq v keyword ≡ false → R [] (Some v) ≡ Some kinds.Word) → R [] (Some keyword) ≡ None
-    → (b : Bool) → bytes_eq w keyword ≡ b → Tells T (cond b (Ok (tt, ws)) (Err kinds.Word)) (λ x. first_fault (next R keyword) x.1 ≡ T)
+    → (b : Bool) → bytes_eq w keyword ≡ b → Tells {A = Unit {0} × List (List ℕ)} T (cond b (Ok (tt, ws)) (Err kinds.Word)) (λ x. first_fault (next R keyword) x.1 ≡ T)
 keyword_choice R T keyword w ws so other same true e =
     let is : w ≡ keyword = bytes_eq-true w keyword e in
     tells_ok T (tt, ws) _ (passes R T keyword ws (ap (λ (v : List ℕ). first_fault R (v ∷ ws)) (sym is) ∙ so) same)
@@ -74,7 +74,7 @@ version_row : (live : Bool) (w : List ℕ) → row_met (must (Keyword (versions 
 unfolding table version_of is_among
 version_row live w = or_none _ ∙ version_choice w (bytes_eq w (codes "1")) (bytes_eq w (codes "2")) (nat_le 2 LATEST_VERSION) refl
 
-none_listed : (nodes : ℕ) → 1 ≤ nodes → first_fault (counted_rows nodes 0 0 false) [] ≡ Some kinds.Word
+pub none_listed : (nodes : ℕ) → 1 ≤ nodes → first_fault (counted_rows nodes 0 0 false) [] ≡ Some kinds.Word
 unfolding first_fault table some_words
 none_listed nodes some =
     let other : (0 == nodes) ≡ false = ne_eqb 0 nodes (λ e. omega (arith, some, e)) in
@@ -157,7 +157,7 @@ module _ (o : Opening) (words : List (List ℕ)) (s : State) (T : Option Kind) w
       tells_bind T _ _ _ (reads R T w.0 w.1 p (new_name_of s.names w.0) (new_name_row s.names w.0)) (λ name q.
       tells_bind T _ _ _ (value_told (next R w.0) T w.1 q.1 s.head.version (λ u. refl)) (λ value r.
       tells_bind T _ _ _ (range_told (next (next R w.0) r.word) T value.1 r.so 0 s.head.nodes (λ u. refl)) (λ owner t.
-      let rows = rw (range_number_in 0 s.head.nodes t.word owner.0 t.is) at t.so in
+      let rows = subst (λ (n : ℕ). first_fault (member_rows s.head.nodes (Some n) 0) owner.1 ≡ T) (range_number_in 0 s.head.nodes t.word owner.0 t.is) t.so in
       tells_bind T _ _ _ (members_told T s.head.nodes (Some owner.0) [] 0 owner.1 rows) (λ others u.
       tells_ok T _ _ tt)))))
 
@@ -197,32 +197,32 @@ module _ (o : Opening) (words : List (List ℕ)) (s : State) (T : Option Kind) w
 
   step_told : (k : StepWord) (ws : List (List ℕ)) → first_fault (rows_behind (step_text k)) ws ≡ T → Tells T (step_at s.head.nodes s.head.slots (length s.txs) k ws) Any
   unfolding step_at step_text all_forms
-  step_told words.Begin ws so =
+  step_told steps.Begin ws so =
       let R = rows_behind (codes "begin") in
       tells_bind T _ _ _ (range_told R T ws so 0 (length s.txs) (λ u. refl)) (λ k p.
       tells_bind T _ _ _ (ended_told (next R p.word) T k.1 p.so (λ u. refl)) (λ e t. tells_ok T _ _ tt))
-  step_told words.Try ws so =
+  step_told steps.Try ws so =
       let R = rows_behind (codes "try") in
       tells_bind T _ _ _ (range_told R T ws so 0 s.head.nodes (λ u. refl)) (λ n p.
       tells_bind T _ _ _ (range_told (next R p.word) T n.1 p.so 0 s.head.slots (λ u. refl)) (λ m q.
       tells_bind T _ _ _ (ended_told (next (next R p.word) q.word) T m.1 q.so (λ u. refl)) (λ e t. tells_ok T _ _ tt)))
-  step_told words.Deliver ws so =
+  step_told steps.Deliver ws so =
       let R = rows_behind (codes "deliver") in
       tells_bind T _ _ _ (range_told R T ws so 0 s.head.nodes (λ u. refl)) (λ n p.
       tells_bind T _ _ _ (range_told (next R p.word) T n.1 p.so 0 s.head.nodes (λ u. refl)) (λ m q.
       tells_bind T _ _ _ (range_told (next (next R p.word) q.word) T m.1 q.so 0 (2 ^ 32) (λ u. refl)) (λ i r.
       tells_bind T _ _ _ (ended_told (next (next (next R p.word) q.word) r.word) T i.1 r.so (λ u. refl)) (λ e t. tells_ok T _ _ tt))))
-  step_told words.Tick ws so =
+  step_told steps.Tick ws so =
       let R = rows_behind (codes "tick") in
       tells_bind T _ _ _ (range_told R T ws so 0 s.head.nodes (λ u. refl)) (λ n p.
       tells_bind T _ _ _ (ended_told (next R p.word) T n.1 p.so (λ u. refl)) (λ e t. tells_ok T _ _ tt))
-  step_told words.Stop ws so =
+  step_told steps.Stop ws so =
       let R = rows_behind (codes "stop") in
       tells_bind T _ _ _ (range_told R T ws so 0 s.head.nodes (λ u. refl)) (λ n p.
       tells_bind T _ _ _ (ended_told (next R p.word) T n.1 p.so (λ u. refl)) (λ e t. tells_ok T _ _ tt))
-  step_told words.View ws so =
+  step_told steps.View ws so =
       tells_bind T _ _ _ (members_told T s.head.nodes None [] 0 ws so) (λ ns p. tells_ok T _ _ tt)
-  step_told words.Install ws so =
+  step_told steps.Install ws so =
       let R = rows_behind (codes "install") in
       tells_bind T _ _ _ (range_told R T ws so 0 s.head.nodes (λ u. refl)) (λ n p.
       tells_bind T _ _ _ (range_told (next R p.word) T n.1 p.so 1 (2 ^ 32) (λ u. refl)) (λ i q.

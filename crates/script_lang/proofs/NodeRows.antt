@@ -74,7 +74,7 @@ listed_number_in nodes most owner listed lowest w n h =
 
 -- ---- lists without a count
 
-abbrev member_rows : ℕ → Option ℕ → ℕ → Rows
+abbrev pub member_rows : ℕ → Option ℕ → ℕ → Rows
 member_rows nodes owner lowest = λ pre w. row_met (a_node nodes (above lowest pre) owner true) w
 
 pub members_told : (T : Option Kind) (nodes : ℕ) (owner : Option ℕ) (listed : List ℕ) (lowest : ℕ) (ws : List (List ℕ)) → first_fault (member_rows nodes owner lowest) ws ≡ T → Tells T (nodes_after nodes None owner listed lowest ws) (λ _. Unit {0})
@@ -86,11 +86,11 @@ members_told T nodes owner listed lowest (w ∷ ws) so =
 
 -- ---- the directory
 
-abbrev counted : ℕ → ℕ → ℕ → Bool → List (List ℕ) → Place
+abbrev pub counted : ℕ → ℕ → ℕ → Bool → List (List ℕ) → Place
 counted nodes count lowest some ws =
     cond ((count + length ws) == nodes) ends record { want = Node nodes (above lowest ws) None; may_end = some || some_words ws }
 
-abbrev counted_rows : ℕ → ℕ → ℕ → Bool → Rows
+abbrev pub counted_rows : ℕ → ℕ → ℕ → Bool → Rows
 counted_rows nodes count lowest some = λ pre w. row_met (counted nodes count lowest some pre) w
 
 counted_row : (nodes lowest : ℕ) (listed : List ℕ) (some : Bool) (w : List ℕ) (b : Bool) → (length listed == nodes) ≡ b → row_met (cond b ends (a_node nodes lowest None some)) (Some w) ≡ row_of (listed_of nodes (Some nodes) None listed lowest w)

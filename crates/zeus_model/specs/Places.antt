@@ -257,7 +257,7 @@ tail_place d Replicas all ws = node_place d.nodes (Some (number_in (nth [] all 2
 tail_place d Members all ws = node_place d.nodes None ws
 tail_place d Operations all ws = tx_place d ws
 
-abbrev no_form : Form
+abbrev pub no_form : Form
 no_form = record { wants = []; tail = Ends }
 
 unfoldable pub form_place : Said → Form → List (List ℕ) → Place
