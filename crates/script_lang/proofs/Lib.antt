@@ -1,3 +1,4 @@
+pub mod BodyRows
 pub mod BodySound
 pub mod Completing
 pub mod Cutting

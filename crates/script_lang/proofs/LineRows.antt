@@ -39,7 +39,7 @@ abbrev pub opening : Bool → Opening
 opening live = record { newest = LATEST_VERSION; degree = READS_DEGREE; live = live }
 
 -- nothing more is said of what was read
-abbrev Any : {A : Type 0} → A → Type 0
+abbrev pub Any : {A : Type 0} → A → Type 0
 Any x = Unit {0}
 
 -- ---- the first lines
@@ -139,17 +139,17 @@ said_of words s = record {
 }
 
 -- the rows behind a keyword
-abbrev form_rows : Said → Form → Rows
+abbrev pub form_rows : Said → Form → Rows
 form_rows d f = λ pre w. row_met (form_place d f pre) w
 
-abbrev form_of : Opening → Said → List ℕ → Form
+abbrev pub form_of : Opening → Said → List ℕ → Form
 form_of o d keyword = under no_form keyword (forms o d)
 
 module _ (o : Opening) (words : List (List ℕ)) (s : State) (T : Option Kind) where
-  abbrev rows_behind : List ℕ → Rows
+  abbrev pub rows_behind : List ℕ → Rows
   rows_behind keyword = form_rows (said_of words s) (form_of o (said_of words s) keyword)
 
-  object_told : (ws : List (List ℕ)) → first_fault (rows_behind (codes "object")) ws ≡ T → Tells T (object_at s.head.version s.head.nodes s.names ws) Any
+  pub object_told : (ws : List (List ℕ)) → first_fault (rows_behind (codes "object")) ws ≡ T → Tells T (object_at s.head.version s.head.nodes s.names ws) Any
   unfolding object_at all_forms nth
   object_told ws so =
       let R = rows_behind (codes "object") in
@@ -185,7 +185,7 @@ module _ (o : Opening) (words : List (List ℕ)) (s : State) (T : Option Kind) w
   after_told [] so = tells_ok T _ _ so
   after_told (w ∷ ws) so = after_choice w ws (bytes_eq w (codes "after")) refl so
 
-  tx_told : (ws : List (List ℕ)) → first_fault (rows_behind (codes "tx")) ws ≡ T → Tells T (tx_at s.head.version s.head.nodes s.head.slots s.names (length s.txs) ws) Any
+  pub tx_told : (ws : List (List ℕ)) → first_fault (rows_behind (codes "tx")) ws ≡ T → Tells T (tx_at s.head.version s.head.nodes s.head.slots s.names (length s.txs) ws) Any
   unfolding tx_at all_forms
   tx_told ws so =
       let R = rows_behind (codes "tx") in
@@ -195,7 +195,7 @@ module _ (o : Opening) (words : List (List ℕ)) (s : State) (T : Option Kind) w
       tells_bind T _ _ _ (ops_told (said_of words s) T after.1 r) (λ tx t.
       tells_ok T _ _ tt))))
 
-  step_told : (k : StepWord) (ws : List (List ℕ)) → first_fault (rows_behind (step_text k)) ws ≡ T → Tells T (step_at s.head.nodes s.head.slots (length s.txs) k ws) Any
+  pub step_told : (k : StepWord) (ws : List (List ℕ)) → first_fault (rows_behind (step_text k)) ws ≡ T → Tells T (step_at s.head.nodes s.head.slots (length s.txs) k ws) Any
   unfolding step_at step_text all_forms
   step_told steps.Begin ws so =
       let R = rows_behind (codes "begin") in
