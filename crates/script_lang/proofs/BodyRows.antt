@@ -110,6 +110,19 @@ module _ {A : Type 0} (R : Rows) (T : Option Kind) (w : List ℕ) (ws : List (Li
 
 -- ---- the lines
 
+-- the words that may come where there are no objects, or some
+abbrev pub object_words : Bool → List (List ℕ)
+object_words none = cond none (codes "object" ∷ []) (codes "object" ∷ codes "tx" ∷ codes "run" ∷ [])
+
+object_among : (none : Bool) → is_among (codes "object") (object_words none) ≡ true
+unfolding is_among
+object_among true = refl
+object_among false = refl
+
+-- the words that may come right behind the directory
+abbrev pub degree_words : Bool → List (List ℕ)
+degree_words reads = cond reads (codes "degree" ∷ codes "object" ∷ []) (codes "object" ∷ [])
+
 module _ (live : Bool) (words : List (List ℕ)) (s : State) (T : Option Kind) where
   abbrev R : Rows
   R = line_rows (opening live) (said_of words s)
@@ -154,15 +167,6 @@ module _ (live : Bool) (words : List (List ℕ)) (s : State) (T : Option Kind) w
         go false true e f = run_taken_told ws (there (codes "tx" ∷ codes "run" ∷ []) (codes "run") may f refl) (at_word (codes "run") f)
         go false false e f = wrong_told w ws (may ∙ rw (e, f) refl) so
 
-    -- the words that may come where there are objects or none
-    abbrev object_words : Bool → List (List ℕ)
-    object_words none = cond none (codes "object" ∷ []) (codes "object" ∷ codes "tx" ∷ codes "run" ∷ [])
-
-    object_among : (none : Bool) → is_among (codes "object") (object_words none) ≡ true
-    unfolding is_among
-    object_among true = refl
-    object_among false = refl
-
     pub object_line_told : is_among w words ≡ is_among w (object_words (length s.objects == 0)) → Tells T (object_line_taken live s w ws) Any
     unfolding object_line_taken is_among
     object_line_told may = go (bytes_eq w (codes "object")) (length s.objects == 0) refl refl
@@ -178,10 +182,6 @@ module _ (live : Bool) (words : List (List ℕ)) (s : State) (T : Option Kind) w
         tells_bind T _ _ _ (range_told (next R (codes "degree")) T ws (passes R T (codes "degree") ws at (rw among refl)) 1 9 (λ u. refl)) (λ n p.
         tells_bind T _ _ _ (ended_told (next (next R (codes "degree")) p.word) T n.1 p.so (λ u. refl)) (λ e q.
         tells_ok T _ _ tt))
-
-    -- the words that may come right behind the directory
-    abbrev degree_words : Bool → List (List ℕ)
-    degree_words reads = cond reads (codes "degree" ∷ codes "object" ∷ []) (codes "object" ∷ [])
 
     degree_choice : (reads : Bool) → is_among w words ≡ is_among w (degree_words reads) → (length s.objects == 0) ≡ true → (b : Bool) → bytes_eq w (codes "degree") ≡ b
         → Tells {A = State} T (cond (reads && b) (degree_taken s ws) (object_line_taken live s w ws)) Any

@@ -13,8 +13,10 @@ pub mod FindLaws
 pub mod FirstLines
 pub mod FirstWord
 pub mod Gathering
+pub mod LineOrder
 pub mod LineRows
 pub mod LineSteps
+pub mod LinesSaid
 pub mod Naming
 pub mod NodeLaws
 pub mod NodeRows
@@ -35,4 +37,5 @@ pub mod TextComplete
 pub mod TextLaws
 pub mod TxLaws
 pub mod ValueLaws
+pub mod WordFaults
 pub mod WordKinds
