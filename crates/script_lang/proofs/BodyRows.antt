@@ -15,9 +15,10 @@ use Rattle.script_lang.specs.declared.opened.TheConstants.{READS_DEGREE}
 use Rattle.script_lang.specs.Drafts.{State, degree_taken, object_taken, tx_taken, run_taken, step_taken, tx_line_taken, object_line_taken, degree_line_taken, more, step_line_taken}
 use Rattle.script_lang.specs.Reads.{◌>>=◌, or_fault, ended}
 use Rattle.script_lang.specs.Steps.{step_word_of}
+use Rattle.script_lang.specs.Opened.{opening}
 use Rattle.script_lang.proofs.FindLaws.{bytes_eq-true}
 use Rattle.script_lang.proofs.FirstWord.{Rows, next, first_fault, Tells, tells_bind, tells_ok, tells_err, row_of, stops, passes}
-use Rattle.script_lang.proofs.LineRows.{all_forms, line_rows, opening, Any, said_of, object_told, tx_told, step_told}
+use Rattle.script_lang.proofs.LineRows.{all_forms, line_rows, Any, said_of, object_told, tx_told, step_told}
 use Rattle.script_lang.proofs.RowLaws.{range_told, ended_told}
 use Rattle.script_lang.proofs.StepLaws.{step_text, step_word_of-sound}
 
@@ -79,7 +80,7 @@ step_row steps.Stop words objects txs before live among = rw among refl
 step_row steps.View words objects txs before live among = rw among refl
 step_row steps.Install words objects txs before live among = rw among refl
 
-more_told : (T : Option Kind) (r : Result State Kind) → Tells T r Any → Tells T (more r) Any
+pub more_told : (T : Option Kind) (r : Result State Kind) → Tells T r Any → Tells T (more r) Any
 unfolding more
 more_told T (Ok s) h = tells_ok T _ _ tt
 more_told T (Err k) h = tells_err T k _ h.holds

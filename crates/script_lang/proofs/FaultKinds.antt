@@ -2,6 +2,7 @@
 use Rattle.std.proofs.Common.{◌≡◌, ◌≢◌, ℕ, suc, ◌+◌, ◌-◌, ◌<◌, Bool, true, false, cond, List, [], ◌∷◌, ◌++◌, length, Err, refl, sym, ap, ◌∙◌, arith, append-nil, length-append, subst, inl, inr}
 use Rattle.std.specs.Prelude.{◌==◌, ◌↔◌, ◌⊎◌}
 use Rattle.std.specs.List.{AllByRecursion}
+use Rattle.zeus_model.specs.Faults.{IsOfWord}
 use Rattle.zeus_model.specs.declared.fault.Kind.{Kind}
 use Rattle.zeus_model.specs.declared.fault.Kind.TheVariants as kinds
 use Rattle.zeus_model.specs.declared.fault.ScriptFault.{ScriptFault}
@@ -15,7 +16,6 @@ use Rattle.script_lang.proofs.FirstLines.{shown, shown-front, first_lines-shown,
 use Rattle.script_lang.proofs.ReadComplete.{text_taken}
 use Rattle.script_lang.proofs.ReadSound.{start_fits, script_fits, script_opened, steps_fit, script_lines-lines, no_lines}
 use Rattle.script_lang.proofs.TextLaws.{joined-cut}
-use Rattle.script_lang.proofs.WordKinds.{IsOfWord}
 
 -- ---- how many lines are ended
 

@@ -1,6 +1,7 @@
 -- The lines before a fault are those of a script's text.
 use Rattle.std.proofs.Common.{◌≡◌, ℕ, suc, ◌+◌, ◌≤◌, Bool, true, false, cond, List, [], ◌∷◌, ◌++◌, length, Result, Ok, Err, refl, sym, ap, ◌∙◌, arith, append_assoc, subst, inl, inr}
 use Rattle.std.specs.Prelude.{codes, map, ◌⊎◌}
+use Rattle.zeus_model.specs.Faults.{IsOfWord}
 use Rattle.zeus_model.specs.declared.fault.Kind.{Kind}
 use Rattle.zeus_model.specs.declared.fault.Kind.TheVariants as kinds
 use Rattle.zeus_model.specs.declared.fault.ScriptFault.{ScriptFault}
@@ -22,7 +23,7 @@ use Rattle.script_lang.proofs.ReadComplete.{text_taken}
 use Rattle.script_lang.proofs.ReadSound.{start_fits, script_fits, script_opened, steps_fit, script_lines-lines, no_lines}
 use Rattle.script_lang.proofs.Sound.{read_is}
 use Rattle.script_lang.proofs.TextLaws.{words_text-cut, ended_lines}
-use Rattle.script_lang.proofs.WordKinds.{IsOfWord, BlamesWord, line_blames}
+use Rattle.script_lang.proofs.WordKinds.{BlamesWord, line_blames}
 
 abbrev failure : Kind → Result (Bool × State) Kind
 failure k = Err k
@@ -53,7 +54,7 @@ pub record Before (live : Bool) (s : State) (n : ℕ) (parts : List (List ℕ)) 
   pub lines : lines_at stages.Steps whole ++ (codes "end" ∷ []) ∷ [] ≡ lines_at s.stage s ++ (ls ++ rest)
   pub place : ((rest ≡ []) × (f.kind ≡ kinds.Extra)) ⊎ Wanted live s n parts f
 
-kind_there : (n : ℕ) (k : Kind) (f : ScriptFault) → failed (fault_at n k) ≡ failed f → k ≡ f.kind
+pub kind_there : (n : ℕ) (k : Kind) (f : ScriptFault) → failed (fault_at n k) ≡ failed f → k ≡ f.kind
 kind_there n k f e = let same : fault_at n k ≡ f = cc in ap (λ (g : ScriptFault). g.kind) same
 
 -- the line where reading begins

@@ -19,11 +19,11 @@ use Rattle.script_lang.specs.Objects.{object_at}
 use Rattle.script_lang.specs.Reads.{◌>>=◌, word_at, ended}
 use Rattle.script_lang.specs.Steps.{step_at}
 use Rattle.script_lang.specs.Transactions.{tx_at}
+use Rattle.script_lang.specs.Opened.{opening}
 use Rattle.script_lang.proofs.BodyRows.{object_words, degree_words}
 use Rattle.script_lang.proofs.DraftFits.{BodyFits, Fits}
 use Rattle.script_lang.proofs.DraftSound.{keyword_at-sound, word_at-sound}
 use Rattle.script_lang.proofs.FindLaws.{bytes_eq-true}
-use Rattle.script_lang.proofs.LineRows.{opening}
 use Rattle.script_lang.proofs.Naming.{and_true}
 use Rattle.script_lang.proofs.Sound.{IfRead, read_bind, read_ok, read_err, read_cond, read_or, read_weaken}
 use Rattle.script_lang.proofs.StepLaws.{step_text, step_word_of-sound}

@@ -14,6 +14,7 @@ use Rattle.script_lang.specs.declared.keywords.StepWord.TheVariants as steps
 use Rattle.script_lang.specs.declared.opened.TheConstants.{LATEST_VERSION, READS_DEGREE}
 use Rattle.script_lang.specs.Drafts.{State, version_of, version_taken, nodes_taken, slots_taken, some_nodes, directory_taken, degree_taken, object_taken, tx_taken, run_taken, step_taken, tx_line_taken, object_line_taken, degree_line_taken, more, step_line_taken}
 use Rattle.script_lang.specs.NodeLists.{nodes_after}
+use Rattle.script_lang.specs.Opened.{opening}
 use Rattle.script_lang.specs.Numbers.{range_at}
 use Rattle.script_lang.specs.Objects.{new_name_of, object_at}
 use Rattle.script_lang.specs.Reads.{◌>>=◌, or_fault, word_at, keyword_at, word_if, ended}
@@ -33,10 +34,6 @@ all_forms = 0
 
 abbrev pub line_rows : Opening → Said → Rows
 line_rows o d = λ pre w. row_met (place o d pre) w
-
--- what of the language is read
-abbrev pub opening : Bool → Opening
-opening live = record { newest = LATEST_VERSION; degree = READS_DEGREE; live = live }
 
 -- nothing more is said of what was read
 abbrev pub Any : {A : Type 0} → A → Type 0

@@ -11,9 +11,10 @@ use Rattle.zeus_model.specs.Spelling.{head_lines, degree_lines, object_words, ob
 use Rattle.zeus_model.specs.Tables.{nth}
 use Rattle.zeus_model.specs.Words.{is_among, number_in}
 use Rattle.script_lang.specs.Drafts.{State}
+use Rattle.script_lang.specs.Opened.{opening}
 use Rattle.script_lang.proofs.DraftFits.{config_of, declared_lines}
 use Rattle.script_lang.proofs.LineOrder.{words_behind}
-use Rattle.script_lang.proofs.LineRows.{opening, said_of}
+use Rattle.script_lang.proofs.LineRows.{said_of}
 use Rattle.script_lang.proofs.RowLaws.{number_in-decimal}
 
 -- ---- the lines of one kind
@@ -27,12 +28,12 @@ beginning-append words (x ∷ xs) ys = rw (beginning-append words xs ys) (go (is
     go true = refl
     go false = refl
 
-beginning-all : {A : Type 0} (words : List (List ℕ)) (f : A → List (List ℕ)) (xs : List A) → ((x : A) → is_among (first_word (f x)) words ≡ true) → beginning words (map f xs) ≡ map f xs
+pub beginning-all : {A : Type 0} (words : List (List ℕ)) (f : A → List (List ℕ)) (xs : List A) → ((x : A) → is_among (first_word (f x)) words ≡ true) → beginning words (map f xs) ≡ map f xs
 unfolding beginning
 beginning-all words f [] h = refl
 beginning-all words f (x ∷ xs) h = rw (h x, beginning-all words f xs h) refl
 
-beginning-none : {A : Type 0} (words : List (List ℕ)) (f : A → List (List ℕ)) (xs : List A) → ((x : A) → is_among (first_word (f x)) words ≡ false) → beginning words (map f xs) ≡ []
+pub beginning-none : {A : Type 0} (words : List (List ℕ)) (f : A → List (List ℕ)) (xs : List A) → ((x : A) → is_among (first_word (f x)) words ≡ false) → beginning words (map f xs) ≡ []
 unfolding beginning
 beginning-none words f [] h = refl
 beginning-none words f (x ∷ xs) h = rw (h x) (beginning-none words f xs h)
@@ -56,7 +57,7 @@ names_said [] os same = refl
 names_said (n ∷ ns) [] same = absurd (omega (arith, same))
 names_said (n ∷ ns) (o ∷ os) same = ap (λ (ms : List (List ℕ)). n ∷ ms) (names_said ns os (omega (arith, same)))
 
-length-map : {A B : Type 0} (f : A → B) (xs : List A) → length (map f xs) ≡ length xs
+pub length-map : {A B : Type 0} (f : A → B) (xs : List A) → length (map f xs) ≡ length xs
 length-map f [] = refl
 length-map f (x ∷ xs) = ap suc (length-map f xs)
 
