@@ -6,12 +6,12 @@ use Rattle.zeus_model.specs.Faults.{IsWordFault, IsOfWord}
 use Rattle.zeus_model.specs.declared.fault.Kind.TheVariants as kinds
 use Rattle.zeus_model.specs.declared.fault.ScriptFault.{ScriptFault}
 use Rattle.zeus_model.specs.declared.script.Script.{Script}
+use Rattle.zeus_model.specs.FirstFault.{IsFirstFault, IsKindOfLine, TellsSize}
 use Rattle.script_lang.specs.declared.reading.ReadScript.{ReadScript}
 use Rattle.script_lang.specs.declared.reading.ReadScript.TheVariants as errors
 use Rattle.script_lang.specs.Cut.{cut}
 use Rattle.script_lang.specs.Drafts.{State}
-use Rattle.script_lang.specs.FirstFault.{IsFirstFault, IsKindOfLine, TellsSize}
-use Rattle.script_lang.specs.Opened.{opening}
+use Rattle.script_lang.specs.Opened.{IsOpened, opening}
 use Rattle.script_lang.specs.Reading.{start, fault_at, lines_taken, scripted, script_read, ReadsScript}
 use Rattle.script_lang.proofs.FaultKinds.{kind_of_line, no_size}
 use Rattle.script_lang.proofs.FaultReached.{first_fault}
@@ -63,10 +63,10 @@ module _ (live : Bool) (bytes : List ℕ) (r : Result Script ReadScript) (h : Re
   pub returned_size : TellsSize bytes f
   returned_size = told_size live bytes f (returned r (script_read live bytes) f h e)
 
-  pub returned_first : f.line ≢ 0 → IsFirstFault live bytes f.line
+  pub returned_first : f.line ≢ 0 → IsFirstFault (IsOpened live) bytes f.line
   returned_first some = first_fault live bytes f (line_fault live bytes f (returned r (script_read live bytes) f h e) some)
 
-  pub returned_kind : f.line ≢ 0 → IsKindOfLine live bytes f.line f.kind
+  pub returned_kind : f.line ≢ 0 → IsKindOfLine (IsOpened live) bytes f.line f.kind
   returned_kind some = kind_of_line live bytes f (line_fault live bytes f (returned r (script_read live bytes) f h e) some)
 
   pub returned_word : IsOfWord f.kind → IsWordFault (opening live) bytes f.line f.kind

@@ -23,6 +23,7 @@ pub mod NodeRows
 pub mod NodeSteps
 pub mod NumberLaws
 pub mod ObjectLaws
+pub mod OneFault
 pub mod OpLaws
 pub mod OpRows
 pub mod OpSteps

@@ -21,3 +21,4 @@ pub mod FirstRange
 pub mod Words
 pub mod Places
 pub mod Faults
+pub mod FirstFault
