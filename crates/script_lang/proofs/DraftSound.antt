@@ -18,7 +18,7 @@ use Rattle.script_lang.proofs.NumberLaws.{range_at-sound}
 use Rattle.script_lang.proofs.StepLaws.{ended-sound, none_below}
 use Rattle.script_lang.proofs.Sound.{IfRead, read_bind, read_ok, read_err, read_cond}
 
-keyword_at-sound : (k : List ℕ) (ws : List (List ℕ)) → IfRead (keyword_at k ws) (λ x. ws ≡ k ∷ x.1)
+pub keyword_at-sound : (k : List ℕ) (ws : List (List ℕ)) → IfRead (keyword_at k ws) (λ x. ws ≡ k ∷ x.1)
 unfolding keyword_at word_at
 keyword_at-sound k [] = read_err _ _
 keyword_at-sound k (w ∷ ws) = read_cond (bytes_eq w k) _ _ _ (λ t. read_ok _ _ (ap (λ (v : List ℕ). v ∷ ws) (bytes_eq-true w k t))) (λ f. read_err _ _)

@@ -1,19 +1,22 @@
 -- What is returned as a fault: the first one, its kind, and where there are too many bytes.
-use Rattle.std.proofs.Common.{◌≡◌, ◌≢◌, ℕ, ◌<◌, ◌≤◌, Bool, true, false, cond, List, length, Result, Ok, Err, refl, sym, ap, ◌∙◌, arith}
+use Rattle.std.proofs.Common.{◌≡◌, ◌≢◌, ℕ, ◌<◌, ◌≤◌, Bool, true, false, cond, List, length, Result, Ok, Err, refl, sym, ap, ◌∙◌, arith, subst}
 use Rattle.std.specs.Prelude.{nat_lt, IsErrOf}
 use Rattle.std.proofs.lemmas.Bool.{ltb-true, ltb-false}
+use Rattle.zeus_model.specs.Faults.{IsWordFault, IsOfWord}
 use Rattle.zeus_model.specs.declared.fault.Kind.TheVariants as kinds
 use Rattle.zeus_model.specs.declared.fault.ScriptFault.{ScriptFault}
 use Rattle.zeus_model.specs.declared.script.Script.{Script}
+use Rattle.zeus_model.specs.FirstFault.{IsFirstFault, IsKindOfLine, TellsSize}
 use Rattle.script_lang.specs.declared.reading.ReadScript.{ReadScript}
 use Rattle.script_lang.specs.declared.reading.ReadScript.TheVariants as errors
 use Rattle.script_lang.specs.Cut.{cut}
 use Rattle.script_lang.specs.Drafts.{State}
-use Rattle.script_lang.specs.FirstFault.{IsFirstFault, IsKindOfLine, TellsSize}
+use Rattle.script_lang.specs.Opened.{IsOpened, opening}
 use Rattle.script_lang.specs.Reading.{start, fault_at, lines_taken, scripted, script_read, ReadsScript}
 use Rattle.script_lang.proofs.FaultKinds.{kind_of_line, no_size}
 use Rattle.script_lang.proofs.FaultReached.{first_fault}
 use Rattle.script_lang.proofs.FaultShared.{from_line}
+use Rattle.script_lang.proofs.WordFaults.{word_fault}
 
 scripted_fault : (r : Result State ScriptFault) (f : ScriptFault) → scripted r ≡ Err f → r ≡ Err f
 unfolding scripted
@@ -44,6 +47,11 @@ told_size live bytes f h = go (nat_lt 4194304 (length bytes)) refl h
         let low : 1 ≤ f.line = from_line live start 1 (cut 10 bytes) f taken in
         record { line = (λ zero. absurd (omega arith), λ more. absurd (omega arith)); kind = (λ size. absurd (no_size live bytes f taken size), λ more. absurd (omega arith)) }
 
+-- a fault of a word lies in a line
+word_line : (bytes : List ℕ) (f : ScriptFault) → TellsSize bytes f → IsOfWord f.kind → f.line ≢ 0
+unfolding IsOfWord
+word_line bytes f size word = λ zero. absurd (subst IsOfWord (size.kind.1 (size.line.0 zero)) word)
+
 -- ---- what was returned
 
 returned : (r : Result Script ReadScript) (read : Result Script ScriptFault) (f : ScriptFault) → ReadsScript r read → IsErrOf r (errors.Fault f) → read ≡ Err f
@@ -55,8 +63,13 @@ module _ (live : Bool) (bytes : List ℕ) (r : Result Script ReadScript) (h : Re
   pub returned_size : TellsSize bytes f
   returned_size = told_size live bytes f (returned r (script_read live bytes) f h e)
 
-  pub returned_first : f.line ≢ 0 → IsFirstFault live bytes f.line
+  pub returned_first : f.line ≢ 0 → IsFirstFault (IsOpened live) bytes f.line
   returned_first some = first_fault live bytes f (line_fault live bytes f (returned r (script_read live bytes) f h e) some)
 
-  pub returned_kind : f.line ≢ 0 → IsKindOfLine live bytes f.line f.kind
+  pub returned_kind : f.line ≢ 0 → IsKindOfLine (IsOpened live) bytes f.line f.kind
   returned_kind some = kind_of_line live bytes f (line_fault live bytes f (returned r (script_read live bytes) f h e) some)
+
+  pub returned_word : IsOfWord f.kind → IsWordFault (opening live) bytes f.line f.kind
+  returned_word word =
+      let read = returned r (script_read live bytes) f h e in
+      word_fault live bytes f (line_fault live bytes f read (word_line bytes f (told_size live bytes f read) word)) word

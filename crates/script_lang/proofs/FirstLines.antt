@@ -3,8 +3,8 @@ use Rattle.std.proofs.Common.{◌≡◌, ℕ, zero, suc, ◌≤◌, Bool, true, 
 use Rattle.std.specs.Prelude.{◌==◌}
 use Rattle.std.specs.List.{AllByRecursion}
 use Rattle.std.proofs.lemmas.Bool.{eqb-true, eqb-false}
+use Rattle.zeus_model.specs.FirstFault.{first_lines}
 use Rattle.script_lang.specs.Cut.{with_byte, cut}
-use Rattle.script_lang.specs.FirstFault.{first_lines}
 use Rattle.script_lang.proofs.Cutting.{Lacks, cut_not_none}
 
 -- the text of the first n parts, where each but the last is ended

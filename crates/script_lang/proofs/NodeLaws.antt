@@ -30,7 +30,7 @@ with_node-last n b (m ∷ ms) h le =
 pub IsBelow-more : (b c : ℕ) (ms : List ℕ) → b ≤ c → IsBelow b ms → IsBelow c ms
 IsBelow-more b c ms le h k g = let low = h k g in omega arith
 
-or_false : (x y : Bool) → (x || y) ≡ false → (x ≡ false) × (y ≡ false)
+pub or_false : (x y : Bool) → (x || y) ≡ false → (x ≡ false) × (y ≡ false)
 or_false true y h = absurd cc
 or_false false y h = (refl, h)
 

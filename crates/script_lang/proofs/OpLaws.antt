@@ -56,7 +56,7 @@ op_word_of-word version w =
     (word_choice version w (bytes_eq w (codes "same") && (version == 2)) words.Same None
     (λ t. let both = and_true (bytes_eq w (codes "same")) (version == 2) t in (bytes_eq-true w (codes "same") both.0, eqb-true version 2 both.1)) tt))))
 
-op_word_of-sound : (version : ℕ) (w : List ℕ) (k : OpWord) → op_word_of version w ≡ Some k → IsWord version w k
+pub op_word_of-sound : (version : ℕ) (w : List ℕ) (k : OpWord) → op_word_of version w ≡ Some k → IsWord version w k
 op_word_of-sound version w k h = rw h at (op_word_of-word version w)
 
 pub op_word_of-text : (version : ℕ) (k : OpWord) → HasWord version k → op_word_of version (op_text k) ≡ Some k

@@ -17,6 +17,7 @@ use Rattle.zeus_model.specs.declared.script.Script.{Script}
 use Rattle.zeus_model.specs.Names.{IsName}
 use Rattle.zeus_model.specs.Scripts.{FitsValue, FitsTx, FitTxs, FitsStep, FitsScript, IsSpelled}
 use Rattle.zeus_model.specs.Spelling.{words_text, degree_lines, head_lines, object_words, object_lines, tx_words, step_words, script_lines, spelling}
+use Rattle.zeus_model.specs.FirstFault.{IsOpenedScript}
 use Rattle.script_lang.specs.declared.head.Head.{Head}
 use Rattle.script_lang.specs.declared.keywords.StepWord.{StepWord}
 use Rattle.script_lang.specs.declared.keywords.StepWord.TheVariants as words
@@ -28,7 +29,6 @@ use Rattle.script_lang.specs.Drafts.{State, version_of, version_taken, nodes_tak
 use Rattle.script_lang.specs.Names.{find}
 use Rattle.script_lang.specs.NodeLists.{nodes_after}
 use Rattle.script_lang.specs.Opened.{IsOpened}
-use Rattle.script_lang.specs.FirstFault.{IsOpenedScript}
 use Rattle.script_lang.specs.Reads.{word_at, keyword_at, ended}
 use Rattle.script_lang.specs.Reading.{start, is_last, line_done, lines_taken, script_of, scripted, script_read, ReadsScript}
 use Rattle.script_lang.proofs.FindLaws.{find-none}
@@ -411,7 +411,7 @@ pub record IsTaken (live : Bool) (s : Script) : Type 0 where
   pub taken : lines_taken live start 1 (cut 10 (spelling s)) ≡ Ok after
 
 taken_at : (live : Bool) (n k : ℕ) (ns : List ℕ) (names : List (List ℕ)) (objects : List ObjectDecl) (txs : List TxDecl) (steps : List Step)
-    → IsOpenedScript live (script_at n k ns names objects txs steps) → IsTaken live (script_at n k ns names objects txs steps)
+    → IsOpenedScript (IsOpened live) (script_at n k ns names objects txs steps) → IsTaken live (script_at n k ns names objects txs steps)
 unfolding spelling
 taken_at live n k ns names objects txs steps opened =
     let parts : cut 10 (spelling (script_at n k ns names objects txs steps)) ≡ parts_of (script_lines (script_at n k ns names objects txs steps)) = cut-lines_text (script_lines (script_at n k ns names objects txs steps)) (lines_are n k ns names objects txs steps opened.fits) in
@@ -421,10 +421,10 @@ taken_at live n k ns names objects txs steps opened =
       taken = rw parts (all_read live n k ns names objects txs steps opened.fits opened.opened opened.few_steps);
     }
 
-pub text_taken : (live : Bool) (s : Script) → IsOpenedScript live s → IsTaken live s
+pub text_taken : (live : Bool) (s : Script) → IsOpenedScript (IsOpened live) s → IsTaken live s
 text_taken live s opened =
     let same = as_parts s opened.opened.version opened.opened.degree in
-    subst (IsTaken live) (sym same) (taken_at live s.config.nodes s.config.slots s.config.directory s.names s.config.objects s.txs s.steps (subst (IsOpenedScript live) same opened))
+    subst (IsTaken live) (sym same) (taken_at live s.config.nodes s.config.slots s.config.directory s.names s.config.objects s.txs s.steps (subst (IsOpenedScript (IsOpened live)) same opened))
 
 -- what is spelled so is read
 pub script_read-complete : (live : Bool) (bytes : List ℕ) (s : Script) → IsSpelled bytes s → IsOpened live s → script_read live bytes ≡ Ok s

@@ -4,6 +4,7 @@ use Rattle.std.specs.Prelude.{codes, ◌^◌, ◌&&◌, ◌==◌, nat_le}
 use Rattle.std.specs.Str.{bytes_eq}
 use Rattle.zeus_base.specs.Nodes.{with_node}
 use Rattle.zeus_txn.specs.declared.ops.Op.{Op}
+use Rattle.zeus_model.specs.Faults.{IsOfWord}
 use Rattle.zeus_model.specs.declared.fault.Kind.{Kind}
 use Rattle.zeus_model.specs.declared.fault.Kind.TheVariants as kinds
 use Rattle.script_lang.specs.declared.keywords.OpWord.{OpWord}
@@ -23,14 +24,6 @@ use Rattle.script_lang.specs.Reads.{◌>>=◌, or_fault, word_at, keyword_at, wo
 use Rattle.script_lang.specs.Steps.{step_word_of, step_at}
 use Rattle.script_lang.specs.Transactions.{number_if, after_at, tx_at}
 use Rattle.script_lang.specs.Values.{text_of, value_of, value_at}
-
--- a kind of fault of a word
-unfoldable pub IsOfWord : Kind → Type 0
-IsOfWord kinds.Missing = ⊥
-IsOfWord kinds.LineEnd = ⊥
-IsOfWord kinds.Extra = ⊥
-IsOfWord kinds.Size = ⊥
-IsOfWord _ = Unit {0}
 
 abbrev Blames : {A : Type 0} → Result A Kind → Type 0
 Blames (Ok x) = Unit {0}

@@ -1,16 +1,7 @@
 -- Bytes cut at a separator, and put together again.
 use Rattle.std.specs.Prelude.{◌≡◌, ℕ, ◌==◌, List, [], ◌∷◌, ◌++◌, Option, Some, None, if◌then◌else◌}
 use Rattle.std.proofs.Common.{Bor}
-
--- the first part with a byte before it
-unfoldable pub with_byte : ℕ → List (List ℕ) → List (List ℕ)
-with_byte b [] = (b ∷ []) ∷ []
-with_byte b (p ∷ ps) = (b ∷ p) ∷ ps
-
--- the parts of bytes, cut at each separator: one more than there are separators
-unfoldable pub cut : ℕ → List ℕ → List (List ℕ)
-cut d [] = [] ∷ []
-cut d (b ∷ bs) = if b == d then [] ∷ cut d bs else with_byte b (cut d bs)
+unfoldable pub use Rattle.zeus_model.specs.Words.{with_byte, cut}
 
 -- the parts of what is left, if anything is
 unfoldable pub parts_left : ℕ → Option (Bor (List ℕ)) → List (List ℕ)

@@ -1,6 +1,5 @@
 pub mod Cut
 pub mod Drafts
-pub mod FirstFault
 pub mod Gathered
 pub mod Lines
 pub mod Names

@@ -5,16 +5,12 @@ use Rattle.zeus_model.specs.declared.fault.Kind.{Kind}
 use Rattle.zeus_model.specs.declared.fault.Kind.TheVariants.{Word, Twice}
 use Rattle.script_lang.specs.Reads.{◌>>=◌}
 use Rattle.script_lang.specs.Numbers.{range_of}
+unfoldable pub use Rattle.zeus_model.specs.Faults.{is_owner}
 
 -- whether as many are listed as may be
 unfoldable pub is_full : Option ℕ → ℕ → Bool
 is_full None count = false
 is_full (Some most) count = count == most
-
--- whether the node is the owner
-unfoldable pub is_owner : Option ℕ → ℕ → Bool
-is_owner None n = false
-is_owner (Some owner) n = n == owner
 
 -- the node that a word lists after these, none below the lowest
 unfoldable pub listed_of : ℕ → Option ℕ → Option ℕ → List ℕ → ℕ → List ℕ → Result ℕ Kind

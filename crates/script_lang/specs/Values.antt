@@ -7,14 +7,8 @@ use Rattle.zeus_model.specs.declared.fault.Kind.{Kind}
 use Rattle.zeus_model.specs.declared.fault.Kind.TheVariants as kinds
 use Rattle.script_lang.specs.Reads.{◌>>=◌, or_fault, word_at}
 use Rattle.script_lang.specs.Numbers.{number_of}
-
--- a byte that is printed and no space
-abbrev pub is_printable : ℕ → Bool
-is_printable b = nat_le 33 b && nat_le b 126
-
--- 1 to 32 printable bytes
-unfoldable pub is_text : List ℕ → Bool
-is_text w = nat_lt 0 (length w) && nat_le (length w) 32 && list_all is_printable w
+pub use Rattle.zeus_model.specs.Words.{is_printable}
+unfoldable pub use Rattle.zeus_model.specs.Words.{is_text}
 
 -- the text of these bytes
 unfoldable pub text_of : List ℕ → Result Value Kind

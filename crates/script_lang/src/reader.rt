@@ -4,9 +4,10 @@ ghost use Rattle.script_lang.specs.Cut.{cut};
 ghost use Rattle.script_lang.specs.Drafts.{state_of, line_taken};
 ghost use Rattle.zeus_model.specs.declared.fault.ScriptFault.{ScriptFault};
 ghost use Rattle.zeus_model.specs.declared.script.Script.{Script};
+ghost use Rattle.zeus_model.specs.Faults.{IsOfWord, IsWordFault};
+ghost use Rattle.zeus_model.specs.FirstFault.{IsFirstFault, IsKindOfLine, TellsSize};
 ghost use Rattle.zeus_model.specs.Scripts.{IsSpelled};
-ghost use Rattle.script_lang.specs.FirstFault.{IsFirstFault, IsKindOfLine, TellsSize};
-ghost use Rattle.script_lang.specs.Opened.{IsOpened};
+ghost use Rattle.script_lang.specs.Opened.{IsOpened, opening};
 ghost use Rattle.script_lang.specs.Reading.{ReadsScript, TakesAll, TakesNumbered, is_last, unended, lines_taken, script_of, script_read};
 
 use crate::draft::Draft;
@@ -135,9 +136,11 @@ pub fn read_script(alloc: Global, bytes: &[u8], live: bool) -> Result<Script, Re
     // Line 0 and the kind of the size each stand for too many bytes.
     ensures size { (f : ScriptFault) → IsErrOf result (ReadScript.Fault f) → TellsSize bytes.now f }
     // A faulty line is the first one up to which the lines begin no script.
-    ensures first { (f : ScriptFault) → IsErrOf result (ReadScript.Fault f) → f.line ≢ 0 → IsFirstFault live bytes.now f.line }
+    ensures first { (f : ScriptFault) → IsErrOf result (ReadScript.Fault f) → f.line ≢ 0 → IsFirstFault (IsOpened live) bytes.now f.line }
     // Its kind tells whether it is extra, missing or not ended.
-    ensures kind { (f : ScriptFault) → IsErrOf result (ReadScript.Fault f) → f.line ≢ 0 → IsKindOfLine live bytes.now f.line f.kind }
+    ensures kind { (f : ScriptFault) → IsErrOf result (ReadScript.Fault f) → f.line ≢ 0 → IsKindOfLine (IsOpened live) bytes.now f.line f.kind }
+    // Any other kind is the first row that the first word of the line that does not fit meets.
+    ensures word { (f : ScriptFault) → IsErrOf result (ReadScript.Fault f) → IsOfWord f.kind → IsWordFault (opening live) bytes.now f.line f.kind }
 {
     script_of_bytes(alloc, bytes, live)
 }

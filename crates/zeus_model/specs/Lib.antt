@@ -18,3 +18,7 @@ pub mod Readers
 pub mod ReportWords
 pub mod ReportText
 pub mod FirstRange
+pub mod Words
+pub mod Places
+pub mod Faults
+pub mod FirstFault
