@@ -1,5 +1,5 @@
 -- What a pipe keeps, through each call that changes it.
-use Rattle.std.proofs.Common.{ℕ, zero, suc, ◌≡◌, ◌+◌, ◌-◌, ◌^◌, ◌<◌, ◌≤◌, Bool, true, false, if◌then◌else◌, List, [], ◌∷◌, ◌++◌, Some, length, drop, slice_get, refl, sym, ap, ◌∙◌, arith, length-append, lit<, lit≤}
+use Rattle.std.proofs.Common.{ℕ, suc, ◌≡◌, ◌+◌, ◌-◌, ◌^◌, ◌<◌, ◌≤◌, Bool, true, false, if◌then◌else◌, List, [], ◌∷◌, ◌++◌, Some, length, drop, slice_get, refl, sym, ◌∙◌, arith, length-append, lit<, lit≤}
 use Rattle.std.specs.List.{filter}
 use Rattle.zeus_base.specs.TableLaws.{length-put}
 use Rattle.zeus_model.specs.declared.state.Pending.{Pending}
@@ -8,7 +8,7 @@ use Rattle.zeus_model.specs.Membership.{apart}
 use Rattle.zeus_model.specs.Tables.{nth, put}
 use Rattle.commit_pipeline.specs.declared.due.Due.{Due}
 use Rattle.commit_pipeline.specs.Pipes.{HaveFewFollowers, IsKept, Waiting, acknowledged, counts, is_of_other, is_other, lacking, sends, sends_of}
-use Rattle.commit_pipeline.proofs.Acks.{counts_place, place_within}
+use Rattle.commit_pipeline.proofs.Acks.{counts_place}
 use Rattle.commit_pipeline.proofs.Sends.{HaveFewFollowers-acked, HaveFewFollowers-append, HaveFewFollowers-rest, filter_acked, filter_lowest, length-sends_of, sends_of-append}
 
 abbrev waiting : ℕ → List Pending → Waiting

@@ -15,7 +15,7 @@ use zeus_packet::{PlainWindow, RingWindow, Window};
 
 /// The entries of an own slot that wait for acknowledgements, numbered from how many have passed on, over a window.
 /// With them the pipe keeps the list of the sends that are due. No call but `new` takes memory.
-#[derive(Drop)]
+#[derive(Debug, Drop)]
 pub struct PipeOver<W: Window<Pending>> {
     done: u32,
     entries: W,

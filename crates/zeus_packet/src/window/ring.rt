@@ -8,7 +8,7 @@ use std::marker::Model;
 use zeus_base::NoMemory;
 
 /// A window whose items stand in a ring, so that none moves when the first is taken; seen as the list of them.
-#[derive(Drop)]
+#[derive(Debug, Drop)]
 pub struct RingWindow<T> {
     ring: HeapCircularBuffer<T>,
 }

@@ -1,4 +1,4 @@
-use Rattle.std.proofs.Common.{◌≡◌, ◌+◌, [], ◌∷◌, ◌∙◌, true, false, length, refl, sym, ap, length-append, arith}
+use Rattle.std.proofs.Common.{◌≡◌, ◌+◌, [], ◌∷◌, ◌∙◌, true, false, length, refl, sym, length-append, arith}
 use Rattle.zeus_base.specs.Nodes.{has}
 use Rattle.commit_pipeline.proofs.Sends.{few_nodes, sends-acked, sends-lacking, sends-none}
 use Rattle.commit_pipeline.proofs.due.DueList.add.Goals as goal

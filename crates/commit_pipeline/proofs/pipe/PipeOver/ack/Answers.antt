@@ -1,5 +1,4 @@
-use Rattle.std.proofs.Common.{◌≡◌, ◌-◌, ◌<◌, ◌∙◌, true, false, length, refl, sym}
-use Rattle.commit_pipeline.specs.Pipes.{counts}
+use Rattle.std.proofs.Common.{◌-◌, ◌∙◌, sym}
 use Rattle.commit_pipeline.proofs.Acks.{counts_low, counts_place, place_within}
 use Rattle.commit_pipeline.proofs.Keeping.{acked_by, kept_acked, uncounted}
 use Rattle.commit_pipeline.proofs.pipe.PipeOver.ack.Goals as goal

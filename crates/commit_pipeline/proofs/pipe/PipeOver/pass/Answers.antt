@@ -1,4 +1,4 @@
-use Rattle.std.proofs.Common.{◌≡◌, Some, sym, slice_get}
+use Rattle.std.proofs.Common.{sym}
 use Rattle.commit_pipeline.proofs.Keeping.{kept_passed}
 use Rattle.commit_pipeline.proofs.pipe.PipeOver.pass.Goals as goal
 

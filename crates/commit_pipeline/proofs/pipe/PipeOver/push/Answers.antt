@@ -1,4 +1,4 @@
-use Rattle.std.proofs.Common.{◌≡◌, ◌+◌, ◌-◌, ◌^◌, ◌<◌, IsOk, length, refl, arith}
+use Rattle.std.proofs.Common.{◌+◌, ◌-◌, ◌^◌, ◌<◌, length, refl, arith}
 use Rattle.commit_pipeline.proofs.Keeping.{kept_pushed, room_kept}
 use Rattle.commit_pipeline.proofs.pipe.PipeOver.push.Goals as goal
 
