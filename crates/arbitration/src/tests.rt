@@ -1,4 +1,6 @@
 //! Tests of typical calls.
+ghost use Rattle.std.specs.Prelude.{◌≡◌, IfOk, length};
+
 use crate::{Ack, Decision, Gathers, GiveUp, give_up};
 use object_table::Copies;
 use std::alloc::{AllocError, Global};
@@ -32,7 +34,9 @@ fn proposal(ver: u64) -> Proposal {
 }
 
 /// Nodes 0 to 2, of which node 0 is the directory; two objects at nodes 0 and 1 that node 1 owns.
-fn config(alloc: Global) -> Result<Config, AllocError> {
+fn config(alloc: Global) -> Result<Config, AllocError>
+    ensures { IfOk result (λ config. length config.objects ≡ 2) }
+{
     let object = ObjectDecl {
         value: Value::Num(5),
         owner: NodeId(1),
@@ -52,61 +56,61 @@ fn config(alloc: Global) -> Result<Config, AllocError> {
 fn gathers_until_every_arbiter_and_the_content_are_there(rt: HostRuntime) -> Result<(), Fail> {
     let alloc = rt.alloc();
     let config = config(alloc)?;
-    let directory = config.directory;
+    let directory = NodeSet::empty().insert(NodeId(0));
     let members = two().insert(NodeId(2));
-    let content = Content {
+    let content = &Content {
         ver: 4,
         value: Value::Num(5),
     };
     let x = ObjId(1);
-    let first = proposal(2);
+    let first = &proposal(2);
     let mut gathers = Gathers::new(alloc, &config)?;
     assert_eq!(rt; gathers.decided(x, members, directory), None);
-    assert_eq!(rt; gathers.take_ack(x, NodeId(0), &first, None), Ack::New);
-    assert_eq!(rt; gathers.take_ack(x, NodeId(0), &first, None), Ack::Again);
+    assert_eq!(rt; gathers.take_ack(x, NodeId(0), first, None), Ack::New);
+    assert_eq!(rt; gathers.take_ack(x, NodeId(0), first, None), Ack::Again);
     assert_eq!(rt;
         gathers.take_ack(x, NodeId(0), &proposal(1), None),
         Ack::Older(first.stamp)
     );
     assert_eq!(rt; gathers.decided(x, members, directory), None);
-    assert_eq!(rt; gathers.take_ack(x, NodeId(1), &first, None), Ack::New);
+    assert_eq!(rt; gathers.take_ack(x, NodeId(1), first, None), Ack::New);
     assert_eq!(rt; gathers.decided(x, members, directory), None);
     assert_eq!(rt;
-        gathers.take_ack(x, NodeId(1), &first, Some(content)),
+        gathers.take_ack(x, NodeId(1), first, Some(*content)),
         Ack::New
     );
-    let later = Content {
+    let later = &Content {
         ver: 6,
         value: Value::Num(7),
     };
     assert_eq!(rt;
-        gathers.take_ack(x, NodeId(1), &first, Some(later)),
+        gathers.take_ack(x, NodeId(1), first, Some(*later)),
         Ack::Again
     );
-    let decision = Decision {
-        proposal: first,
-        content,
+    let decision = &Decision {
+        proposal: *first,
+        content: *content,
     };
-    assert_eq!(rt; gathers.decided(x, members, directory), Some(decision));
+    assert_eq!(rt; gathers.decided(x, members, directory), Some(*decision));
     assert_eq!(rt; gathers.decided(x, NodeSet::empty(), directory), None);
     assert_eq!(rt; gathers.decided(ObjId(0), members, directory), None);
     gathers.drop_upto(x, proposal(1).stamp);
-    assert_eq!(rt; gathers.decided(x, members, directory), Some(decision));
+    assert_eq!(rt; gathers.decided(x, members, directory), Some(*decision));
     gathers.drop_upto(x, first.stamp);
     assert_eq!(rt; gathers.decided(x, members, directory), None);
-    assert_eq!(rt; gathers.take_ack(x, NodeId(0), &first, None), Ack::New);
-    let second = proposal(3);
+    assert_eq!(rt; gathers.take_ack(x, NodeId(0), first, None), Ack::New);
+    let second = &proposal(3);
     assert_eq!(rt;
-        gathers.take_ack(x, NodeId(1), &second, Some(content)),
+        gathers.take_ack(x, NodeId(1), second, Some(*content)),
         Ack::New
     );
     assert_eq!(rt; gathers.decided(x, members, directory), None);
-    assert_eq!(rt; gathers.take_ack(x, NodeId(0), &second, None), Ack::New);
-    let decision = Decision {
-        proposal: second,
-        content,
+    assert_eq!(rt; gathers.take_ack(x, NodeId(0), second, None), Ack::New);
+    let decision = &Decision {
+        proposal: *second,
+        content: *content,
     };
-    assert_eq!(rt; gathers.decided(x, members, directory), Some(decision));
+    assert_eq!(rt; gathers.decided(x, members, directory), Some(*decision));
     gathers.drop_all();
     assert_eq!(rt; gathers.decided(x, members, directory), None);
     Ok(())

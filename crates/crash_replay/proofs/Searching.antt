@@ -6,7 +6,7 @@ use Rattle.zeus_base.specs.declared.order.Stream.{Stream}
 use Rattle.zeus_model.specs.Commit.{none_stored, outside, streams_of, streams_outside}
 use Rattle.zeus_model.specs.State.{Node, StreamLog}
 use Rattle.zeus_model.specs.Tables.{below, first_of, numbers_from, or_else, where_true}
-use Rattle.crash_replay.specs.Replay.{HasStreams, IsNodeWith, is_after, is_stored, next_in, next_stored}
+use Rattle.crash_replay.specs.Replay.{IsNodeWith, is_after, is_stored, next_in, next_stored}
 
 -- ---- the numbers that are left
 
@@ -107,8 +107,10 @@ module _ (logs : List (List StreamLog)) (after : Option Stream) where
 
 -- ---- at a node
 
-pub next_stored-known : (n : Node) (logs : List (List StreamLog)) (members : List ℕ) (config : Config) (after : Option Stream) → IsNodeWith n logs members config → HasStreams config logs → next_in logs after (streams_outside members (below config.slots) (below config.nodes)) ≡ next_stored n after
-next_stored-known n logs members config after is has = rw (is.logs, is.members, is.slots, has.nodes) refl
+pub next_stored-known : (n : Node) (logs : List (List StreamLog)) (members : List ℕ) (config : Config) (after : Option Stream) → IsNodeWith n logs members config → next_in logs after (streams_outside members (below config.slots) (below config.nodes)) ≡ next_stored n after
+next_stored-known n logs members config after is =
+    let nodes : length logs ≡ config.nodes = rw is.logs at is.nodes in
+    rw (is.logs, is.members, is.slots, nodes) refl
 
 none_stored-one : (b : Bool) (s : Stream) (r : Option Stream) → (b && is_none r) ≡ is_none (or_else (where_true (not b) s) r)
 unfolding or_else where_true

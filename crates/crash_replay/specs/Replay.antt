@@ -6,17 +6,18 @@ use Rattle.zeus_base.specs.declared.order.Stream.{Stream}
 use Rattle.zeus_model.specs.Commit.{outside}
 use Rattle.zeus_model.specs.State.{Node, StreamLog, no_log}
 use Rattle.zeus_model.specs.Tables.{first_of, nth, where_true}
+use Rattle.follower_log.specs.Streams.{IsStreamOf}
 
--- a node that has these streams and members, and as many slots as the configuration
+-- a node that has these streams and members, and as many nodes and slots as the configuration
 pub record IsNodeWith (n : Node) (streams : List (List StreamLog)) (ms : List ℕ) (config : Config) : Type 0 where
   pub logs : n.logs ≡ streams
   pub members : n.members ≡ ms
+  pub nodes : length n.logs ≡ config.nodes
   pub slots : length n.slots ≡ config.slots
 
--- the streams of each node and slot of the configuration are there
-pub record HasStreams (config : Config) (streams : List (List StreamLog)) : Type 0 where
-  pub nodes : length streams ≡ config.nodes
-  pub slots : (m : ℕ) → m < config.nodes → length (nth [] streams m) ≡ config.slots
+-- the stream of each node and slot of the configuration is there
+abbrev pub HasStreams : Config → List (List StreamLog) → Type 0
+HasStreams config logs = (s : Stream) → s.node < config.nodes → s.slot < config.slots → IsStreamOf logs s
 
 -- whether a stream comes after another, where one is given
 unfoldable pub is_after : Option Stream → Stream → Bool

@@ -1,8 +1,8 @@
 //! Which foreign streams are to be replayed.
-ghost use Rattle.std.specs.Prelude.{◌≡◌, ◌<◌, ◌≤◌, ◌&&◌, [], length};
+ghost use Rattle.std.specs.Prelude.{◌≡◌, ◌<◌, ◌≤◌, ◌&&◌};
 ghost use Rattle.zeus_model.specs.Commit.{none_stored, outside, streams_of};
 ghost use Rattle.zeus_model.specs.State.{Node};
-ghost use Rattle.zeus_model.specs.Tables.{below, nth};
+ghost use Rattle.zeus_model.specs.Tables.{below};
 ghost use Rattle.follower_log.specs.Streams.{IsStreamOf};
 ghost use Rattle.crash_replay.specs.Replay.{HasStreams, IsNodeWith, is_after, is_stored, next_in, next_stored};
 
@@ -10,7 +10,7 @@ use follower_log::Stored;
 use zeus_base::{Config, NodeId, NodeSet, SlotId, Stream};
 
 /// Whether no entry of a non-member's stream is stored, so whether every node with these streams and members, and as
-/// many slots as the configuration, has nothing to replay. Takes no memory.
+/// many nodes and slots as the configuration, has nothing to replay. Takes no memory.
 pub fn is_recovered(log: &Stored, config: &Config, members: NodeSet) -> bool
     requires nodes { config.now.nodes ≤ 8 }
     requires slots { config.now.slots ≤ 8 }
@@ -21,7 +21,7 @@ pub fn is_recovered(log: &Stored, config: &Config, members: NodeSet) -> bool
 }
 
 /// The first stream after the given one, or of all, in the order of node and slot, whose node is no member and of
-/// which entries are stored, at every node with these streams and members and as many slots as the configuration.
+/// which entries are stored, at every node with these streams and members and as many nodes and slots as the configuration.
 /// None exactly where there is no such stream. Takes no memory.
 pub fn next_replay(
     log: &Stored,
@@ -37,7 +37,7 @@ pub fn next_replay(
     for node in 0..config.nodes {
         let node = NodeId(node);
         if !members.has(node) {
-            if let Some(stream) = next_of(log, config.slots, node, &after) {
+            if let Some(stream) = next_of(log, config, node, &after) {
                 return Some(stream);
             }
         }
@@ -46,13 +46,13 @@ pub fn next_replay(
 }
 
 /// The first stream of the node after the given one of which entries are stored.
-fn next_of(log: &Stored, slots: u8, node: NodeId, after: &Option<Stream>) -> Option<Stream>
-    requires node { node < length log.now }
-    requires slots { length (nth [] log.now node) ≡ slots }
-    requires few { slots ≤ 8 }
-    ensures { result ≡ next_in log.now after.now (streams_of node (below slots)) }
+fn next_of(log: &Stored, config: &Config, node: NodeId, after: &Option<Stream>) -> Option<Stream>
+    requires node { node < config.now.nodes }
+    requires slots { config.now.slots ≤ 8 }
+    requires streams { HasStreams config.now log.now }
+    ensures { result ≡ next_in log.now after.now (streams_of node (below config.now.slots)) }
 {
-    for slot in 0..slots {
+    for slot in 0..config.slots {
         let stream = &Stream {
             node,
             slot: SlotId(slot),

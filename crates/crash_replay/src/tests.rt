@@ -1,17 +1,28 @@
 //! Tests of typical calls.
+ghost use Rattle.std.specs.Prelude.{◌≡◌, ◌<◌, IfOk};
+ghost use Rattle.crash_replay.specs.Replay.{HasStreams};
+
 use crate::{Stored, is_recovered, next_replay};
 use follower_log::Store;
 use std::alloc::{AllocError, Global};
 use std::test::Fail;
-use zeus_base::{Config, NodeId, NodeSet, ObjId, ObjectDecl, ObjectList, SlotId, Stream, Value};
+use zeus_base::{
+    Config, NoMemory, NodeId, NodeSet, ObjId, ObjectDecl, ObjectList, SlotId, Stream, Value,
+};
 use zeus_packet::{RInv, Write, Writes};
 
-fn stream(node: NodeId, slot: SlotId) -> Stream {
+fn stream(node: NodeId, slot: SlotId) -> Stream
+    ensures node { result.node ≡ node }
+    ensures slot { result.slot ≡ slot }
+{
     Stream { node, slot }
 }
 
 /// The first entry of the stream, which writes object 0.
-fn entry(alloc: Global, stream: &Stream) -> RInv {
+fn entry(alloc: Global, stream: &Stream) -> RInv
+    ensures stream { result.stream ≡ stream.now }
+    ensures number { result.number ≡ 0 }
+{
     let mut writes = Writes::new(alloc);
     writes.push(Write {
         obj: ObjId(0),
@@ -28,7 +39,10 @@ fn entry(alloc: Global, stream: &Stream) -> RInv {
 }
 
 /// Four nodes with two slots each, and one object.
-fn config(alloc: Global) -> Result<Config, AllocError> {
+fn config(alloc: Global) -> Result<Config, AllocError>
+    ensures nodes { IfOk result (λ config. config.nodes ≡ 4) }
+    ensures slots { IfOk result (λ config. config.slots ≡ 2) }
+{
     let first = NodeSet::empty().insert(NodeId(0));
     let object = ObjectDecl {
         value: Value::Num(5),
@@ -45,33 +59,53 @@ fn config(alloc: Global) -> Result<Config, AllocError> {
     })
 }
 
+/// What is stored at the start of a run.
+fn start(alloc: Global, config: &Config) -> Result<Stored, NoMemory>
+    ensures { IfOk result (λ log. HasStreams config.now log) }
+{
+    Stored::new(alloc, config)
+}
+
+/// Stores the first entry of the stream.
+fn store_first(alloc: Global, config: &Config, log: &mut Stored, stream: &Stream) -> Store
+    requires node { stream.now.node < config.now.nodes }
+    requires slot { stream.now.slot < config.now.slots }
+    requires streams { HasStreams config.now log.old }
+    ensures { HasStreams config.now log.new }
+{
+    log.store(&entry(alloc, stream))
+}
+
 #[test]
 fn replays_the_streams_of_nodes_outside_in_order(rt: HostRuntime) -> Result<(), Fail> {
     let alloc = rt.alloc();
-    let config = config(alloc)?;
-    let mut log = Stored::new(alloc, &config)?;
+    let config = &config(alloc)?;
+    let mut log = start(alloc, config)?;
     let members = NodeSet::empty().insert(NodeId(0)).insert(NodeId(2));
-    assert!(rt; is_recovered(&log, &config, members));
-    let member = stream(NodeId(2), SlotId(1));
-    assert_eq!(rt; log.store(&entry(alloc, &member)), Store::Stored);
-    assert!(rt; is_recovered(&log, &config, members));
-    assert_eq!(rt; next_replay(&log, &config, members, None), None);
-    let second = stream(NodeId(3), SlotId(0));
-    assert_eq!(rt; log.store(&entry(alloc, &second)), Store::Stored);
-    let first = stream(NodeId(1), SlotId(1));
-    assert_eq!(rt; log.store(&entry(alloc, &first)), Store::Stored);
-    assert!(rt; !is_recovered(&log, &config, members));
-    assert_eq!(rt; next_replay(&log, &config, members, None), Some(first));
+    assert!(rt; is_recovered(&log, config, members));
+    let member = &stream(NodeId(2), SlotId(1));
+    assert_eq!(rt; store_first(alloc, config, &mut log, member), Store::Stored);
+    assert!(rt; is_recovered(&log, config, members));
+    assert_eq!(rt; next_replay(&log, config, members, None), None);
+    let second = &stream(NodeId(3), SlotId(0));
+    assert_eq!(rt; store_first(alloc, config, &mut log, second), Store::Stored);
+    let first = &stream(NodeId(1), SlotId(1));
+    assert_eq!(rt; store_first(alloc, config, &mut log, first), Store::Stored);
+    assert!(rt; !is_recovered(&log, config, members));
+    assert_eq!(rt; next_replay(&log, config, members, None), Some(*first));
     assert_eq!(rt;
-        next_replay(&log, &config, members, Some(first)),
-        Some(second)
+        next_replay(&log, config, members, Some(*first)),
+        Some(*second)
     );
     assert_eq!(rt;
-        next_replay(&log, &config, members, Some(member)),
-        Some(second)
+        next_replay(&log, config, members, Some(*member)),
+        Some(*second)
     );
-    assert_eq!(rt; next_replay(&log, &config, members, Some(second)), None);
+    assert_eq!(rt; next_replay(&log, config, members, Some(*second)), None);
     let none = NodeSet::empty();
-    assert_eq!(rt; next_replay(&log, &config, none, Some(first)), Some(member));
+    assert_eq!(rt;
+        next_replay(&log, config, none, Some(*first)),
+        Some(*member)
+    );
     Ok(())
 }

@@ -9,7 +9,7 @@ pub returns-in-Some : goal.returns-in-Some
 returns-in-Some c = λ n is.
     let out : has c.loop-node.node c.args.members ≡ false = grind arith in
     sym (from_node-found c.args.log.now c.args.after c.args.members (below c.args.config.now.slots) c.args.config.now.nodes c.loop-node.node _ c.loop-node-test.true out (sym c.in-Some.ensures))
-    ∙ c.loop-node.invariant ∙ next_stored-known n _ _ _ c.args.after is c.requires.streams
+    ∙ c.loop-node.invariant ∙ next_stored-known n _ _ _ c.args.after is
 
 pub loop-node-preserved : goal.loop-node-preserved
 loop-node-preserved c =
@@ -27,4 +27,4 @@ loop-node-preserved c =
 pub returns : goal.returns
 returns c = λ n is.
     sym (from_node-none c.args.log.now c.args.after c.args.members (below c.args.config.now.slots) c.args.config.now.nodes c.loop-node.node c.loop-node-test.false)
-    ∙ c.loop-node.invariant ∙ next_stored-known n _ _ _ c.args.after is c.requires.streams
+    ∙ c.loop-node.invariant ∙ next_stored-known n _ _ _ c.args.after is

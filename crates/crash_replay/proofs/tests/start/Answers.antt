@@ -1,0 +1,5 @@
+use Rattle.crash_replay.specs.ReplayLaws.{HasStreams-new}
+use Rattle.crash_replay.proofs.tests.start.Goals as goal
+
+pub returns : goal.returns
+returns c = ?
