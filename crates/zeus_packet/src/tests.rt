@@ -1,5 +1,6 @@
 use super::*;
 use std::alloc::Global;
+use std::test::Fail;
 
 // The nodes whose bits are set, the lowest bit being that of node 0.
 fn set(bits: u8) -> NodeSet {
@@ -93,4 +94,47 @@ fn letters_beyond_the_limits_do_not_fit(rt: HostRuntime) {
     );
     let val = Letter { body, ..letter };
     assert!(rt; !fits(&val, &limits(1, 2)));
+}
+
+// What a window with no item answers: 17 items are pushed, two are popped, and the last is written over.
+fn window_answers<W: Window<u32>>(window: &mut W) -> [Option<u32>; 8] {
+    for item in 10..26 {
+        let _ = window.push(item);
+    }
+    let refused = window.push(26).err();
+    let count = window.len();
+    let first = window.pop();
+    if let Some(last) = window.get_mut(14) {
+        *last = 99;
+    }
+    let items = [0, 14, 15].map(|place| window.get(place).copied());
+    [
+        refused,
+        Some(count),
+        first,
+        items[0],
+        items[1],
+        items[2],
+        window.pop(),
+        Some(window.len()),
+    ]
+}
+
+#[test]
+fn windows_hold_sixteen_items_in_order(rt: HostRuntime) -> Result<(), Fail> {
+    let wanted = [
+        Some(26),
+        Some(16),
+        Some(10),
+        Some(11),
+        Some(99),
+        None,
+        Some(11),
+        Some(14),
+    ];
+    let mut plain = PlainWindow::new(rt.alloc())?;
+    let mut ring = RingWindow::new(rt.alloc())?;
+    assert_eq!(rt; window_answers(&mut plain), wanted);
+    assert_eq!(rt; window_answers(&mut ring), wanted);
+    Ok(())
 }
