@@ -1,4 +1,6 @@
 //! Tests of typical calls.
+ghost use Rattle.std.specs.Prelude.{◌≡◌, IfOk, length};
+
 use crate::{ReadTry, run_on, try_read};
 use object_table::Copies;
 use std::alloc::{AllocError, Global};
@@ -14,7 +16,9 @@ const Y: ObjId = ObjId(1);
 const Z: ObjId = ObjId(2);
 
 /// The copies of node 1, which has x and y and not z.
-fn copies(alloc: Global) -> Result<Copies, Fail> {
+fn copies(alloc: Global) -> Result<Copies, Fail>
+    ensures { IfOk result (λ table. length table.copies ≡ 3) }
+{
     let owner = NodeSet::empty().insert(NodeId(0));
     let shared = ObjectDecl {
         value: Value::Num(5),
@@ -57,14 +61,14 @@ fn a_read_waits_for_its_first_copy_that_is_not_valid(rt: HostRuntime) -> Result<
         _ => assert!(rt; false),
     }
     assert!(rt; matches!(try_read(&copies, &all), ReadTry::NoCopy(Z)));
-    for obj in [X, Y] {
-        let write = Write {
-            obj,
-            ver: 1,
-            value: Value::Num(7),
-        };
-        assert!(rt; copies.apply(&write));
-    }
+    let first = Write {
+        obj: X,
+        ver: 1,
+        value: Value::Num(7),
+    };
+    assert!(rt; copies.apply(&first));
+    let second = Write { obj: Y, ..first };
+    assert!(rt; copies.apply(&second));
     assert!(rt;
         matches!(
             try_read(&copies, &both),
@@ -78,8 +82,12 @@ fn a_read_waits_for_its_first_copy_that_is_not_valid(rt: HostRuntime) -> Result<
         )
     );
     copies.validate(Y, 1);
-    copies.write(X, Value::Num(8));
-    assert!(rt; matches!(try_read(&copies, &both), ReadTry::NotValid(X, State::Write)));
+    assert!(rt;
+        matches!(
+            try_read(&copies, &both),
+            ReadTry::NotValid(X, State::Invalid)
+        )
+    );
     Ok(())
 }
 

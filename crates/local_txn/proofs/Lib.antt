@@ -1,0 +1,4 @@
+pub mod Against
+pub mod Answering
+pub mod Committing
+pub mod Worn

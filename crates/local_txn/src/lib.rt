@@ -1,0 +1,10 @@
+//! Write transactions at the node that owns what they name: why one is not committed, and the commit.
+#![tactic(auto)]
+
+mod attempt;
+mod causes;
+mod commit;
+#[cfg(test)]
+mod tests;
+
+pub use attempt::{WriteTry, try_write};
