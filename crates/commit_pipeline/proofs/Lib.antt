@@ -1,3 +1,4 @@
 pub mod Acks
 pub mod Fronts
+pub mod Keeping
 pub mod Sends

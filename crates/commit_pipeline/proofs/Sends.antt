@@ -5,7 +5,7 @@ use Rattle.std.proofs.lemmas.Bool.Decides.{nat_tests}
 use Rattle.std.proofs.lemmas.List.{append-nil}
 use Rattle.std.proofs.lemmas.List.Elements.{filter-append}
 use Rattle.zeus_base.specs.Nodes.{has, with_node, without, meet}
-use Rattle.zeus_base.specs.NodeLaws.{IsNodeSet, has-with_node, has-meet, length-below}
+use Rattle.zeus_base.specs.NodeLaws.{IsNodeSet, has-with_node, length-below}
 use Rattle.zeus_model.specs.declared.state.Pending.{Pending}
 use Rattle.zeus_model.specs.Commit.{no_pending, acked_pending}
 use Rattle.zeus_model.specs.Membership.{apart}
@@ -80,9 +80,11 @@ filter_all : (test : Due → Bool) (nodes : Pending → List ℕ) (number : ℕ)
 unfolding sends_of
 filter_all test nodes number [] h = refl
 filter_all test nodes number (p ∷ ps) h =
-    rw (filter-append test (sends number (nodes p)) (sends_of nodes (suc number) ps),
-    filter_all-sends test number (nodes p) (λ k. h number k (omega arith)),
-    filter_all test nodes (suc number) ps (λ n k l. h n k (omega arith)))
+    rw (
+      filter-append test (sends number (nodes p)) (sends_of nodes (suc number) ps),
+      filter_all-sends test number (nodes p) (λ k. h number k (omega arith)),
+      filter_all test nodes (suc number) ps (λ n k l. h n k (omega arith)),
+    )
     refl
 
 other_number : (number n k : ℕ) → number < n → is_of_other number record { number = n; to = k } ≡ true
@@ -98,9 +100,11 @@ earlier_entry number node n k l = grind (arith, nat_tests)
 pub filter_lowest : (nodes : Pending → List ℕ) (number : ℕ) (p : Pending) (ps : List Pending) → filter (is_of_other number) (sends_of nodes number (p ∷ ps)) ≡ sends_of nodes (suc number) ps
 unfolding sends_of
 filter_lowest nodes number p ps =
-    rw (filter-append (is_of_other number) (sends number (nodes p)) (sends_of nodes (suc number) ps),
-    filter_number-sends number (nodes p),
-    filter_all (is_of_other number) nodes (suc number) ps (λ n k l. other_number number n k l))
+    rw (
+      filter-append (is_of_other number) (sends number (nodes p)) (sends_of nodes (suc number) ps),
+      filter_number-sends number (nodes p),
+      filter_all (is_of_other number) nodes (suc number) ps (λ n k l. other_number number n k l),
+    )
     refl
 
 -- without the sends of one entry to a node, that entry has one acknowledgement more
@@ -109,15 +113,20 @@ unfolding sends_of nth put
 filter_acked number n i k [] e h = absurd (omega arith)
 filter_acked number n zero k (p ∷ ps) e h =
     let same : n ≡ number = omega arith in
-    rw (same, filter-append (is_other number k) (sends number (lacking p)) (sends_of lacking (suc number) ps),
-    filter_node-sends number k (lacking p),
-    filter_all (is_other number k) lacking (suc number) ps (λ m j l. other_entry number k m j l),
-    apart-with_node k p.followers p.acks)
+    rw (
+      same,
+      filter-append (is_other number k) (sends number (lacking p)) (sends_of lacking (suc number) ps),
+      filter_node-sends number k (lacking p),
+      filter_all (is_other number k) lacking (suc number) ps (λ m j l. other_entry number k m j l),
+      apart-with_node k p.followers p.acks,
+    )
     refl
 filter_acked number n (suc i) k (p ∷ ps) e h =
-    rw (filter-append (is_other n k) (sends number (lacking p)) (sends_of lacking (suc number) ps),
-    filter_all-sends (is_other n k) number (lacking p) (λ j. earlier_entry n k number j (omega arith)),
-    filter_acked (suc number) n i k ps (omega arith) (omega arith))
+    rw (
+      filter-append (is_other n k) (sends number (lacking p)) (sends_of lacking (suc number) ps),
+      filter_all-sends (is_other n k) number (lacking p) (λ j. earlier_entry n k number j (omega arith)),
+      filter_acked (suc number) n i k ps (omega arith) (omega arith),
+    )
     refl
 
 -- those to members are the sends to the members that lack
@@ -125,10 +134,12 @@ pub filter_members : (members : List ℕ) (number : ℕ) (ps : List Pending) →
 unfolding sends_of
 filter_members members number [] = refl
 filter_members members number (p ∷ ps) =
-    rw (filter-append (is_to members) (sends number (lacking p)) (sends_of lacking (suc number) ps),
-    filter_to-sends members number (lacking p),
-    meet-apart p.followers p.acks members,
-    filter_members members (suc number) ps)
+    rw (
+      filter-append (is_to members) (sends number (lacking p)) (sends_of lacking (suc number) ps),
+      filter_to-sends members number (lacking p),
+      meet-apart p.followers p.acks members,
+      filter_members members (suc number) ps,
+    )
     refl
 
 -- an entry more at the end
@@ -146,8 +157,8 @@ length-sends_of number [] h = omega arith
 length-sends_of number (p ∷ ps) h =
     omega (arith, length-append (sends number (lacking p)) (sends_of lacking (suc number) ps), length-sends number (lacking p), length-apart p.followers p.acks, h.0, length-sends_of (suc number) ps h.1)
 
-pub few_followers : (ns : List ℕ) → IsNodeSet ns → length ns ≤ 8
-few_followers ns h = omega (arith, length-below 0 8 ns h.rising h.below (omega arith))
+pub few_nodes : (ns : List ℕ) → IsNodeSet ns → length ns ≤ 8
+few_nodes ns h = omega (arith, length-below 0 8 ns h.rising h.below (omega arith))
 
 pub HaveFewFollowers-append : (ps : List Pending) (p : Pending) → HaveFewFollowers ps → length p.followers ≤ 8 → HaveFewFollowers (ps ++ p ∷ [])
 unfolding HaveFewFollowers

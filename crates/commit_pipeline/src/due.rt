@@ -48,9 +48,12 @@ impl DueList {
 
     /// The entry of this number is due at each follower that has not acknowledged it, in node order.
     pub(crate) fn add(&mut self, number: u32, followers: NodeSet, acks: NodeSet)
-        requires { length self.old + length followers ≤ 128 }
-        ensures { self.new ≡ self.old ++ sends number (apart followers acks) }
+        requires { length self.old ≤ 120 }
+        ensures added { self.new ≡ self.old ++ sends number (apart followers acks) }
+        ensures few { length followers ≤ 8 }
     {
+        // The contract of the count says that a set has at most 8 nodes, and so that there is room.
+        let _ = followers.count();
         for node in followers {
             if !acks.has(node) {
                 self.sends.push_reserved(Due { number, to: node });

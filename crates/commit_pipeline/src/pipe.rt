@@ -52,11 +52,7 @@ impl PipeOver<PlainWindow<Pending>> {
         ensures { IfOk result (λ p. p ≡ record { done = 0; pending = [] }) }
     {
         let due = DueList::new(alloc)?;
-        Ok(PipeOver {
-            done: 0,
-            entries: PlainWindow::new(alloc)?,
-            due,
-        })
+        Ok(PipeOver::empty(PlainWindow::new(alloc)?, due))
     }
 }
 
@@ -70,15 +66,24 @@ impl PipeOver<RingWindow<Pending>> {
         ensures { IfOk result (λ p. p ≡ record { done = 0; pending = [] }) }
     {
         let due = DueList::new(alloc)?;
-        Ok(PipeOver {
-            done: 0,
-            entries: RingWindow::new(alloc)?,
-            due,
-        })
+        Ok(PipeOver::empty(RingWindow::new(alloc)?, due))
     }
 }
 
 impl<W: Window<Pending>> PipeOver<W> {
+    /// A pipe with no entry over a window with none.
+    fn empty(entries: W, due: DueList) -> Self
+        requires entries { W.items entries ≡ [] }
+        requires due { due ≡ [] }
+        ensures { result ≡ record { done = 0; pending = [] } }
+    {
+        PipeOver {
+            done: 0,
+            entries,
+            due,
+        }
+    }
+
     /// Adds an entry at the end, and hands out its number.
     ///
     /// # Errors
@@ -93,9 +98,13 @@ impl<W: Window<Pending>> PipeOver<W> {
     {
         let number = self.done + self.entries.len();
         let (followers, acks) = (entry.followers, entry.acks);
-        self.entries.push(entry).map_err(|_| Full)?;
-        self.due.add(number, followers, acks);
-        Ok(number)
+        match self.entries.push(entry) {
+            Ok(()) => {
+                self.due.add(number, followers, acks);
+                Ok(number)
+            }
+            Err(_) => Err(Full),
+        }
     }
 
     /// The node has acknowledged the entry of this number. The answer is true exactly where the entry is pending and

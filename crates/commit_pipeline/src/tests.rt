@@ -26,11 +26,8 @@ fn entry(alloc: Global, id: u32, followers: u8) -> Pending {
     }
 }
 
-fn due(number: u32, to: u8) -> Option<Due> {
-    Some(Due {
-        number,
-        to: NodeId(to),
-    })
+fn due(number: u32, to: NodeId) -> Option<Due> {
+    Some(Due { number, to })
 }
 
 // An entry is pushed while the numbers are low.
@@ -98,17 +95,22 @@ fn wanted() -> Answers {
     Answers {
         numbers: [Ok(0), Ok(1), Ok(2)],
         due_before: [
-            due(0, 1),
-            due(0, 2),
-            due(1, 1),
-            due(1, 2),
-            due(2, 1),
-            due(2, 3),
+            due(0, NodeId(1)),
+            due(0, NodeId(2)),
+            due(1, NodeId(1)),
+            due(1, NodeId(2)),
+            due(2, NodeId(1)),
+            due(2, NodeId(3)),
             None,
         ],
         acks: [true, true, false, false, true, true],
         passing: [0, 2, 3],
-        due_after: [due(2, 1), due(2, 3), due(2, 3), None],
+        due_after: [
+            due(2, NodeId(1)),
+            due(2, NodeId(3)),
+            due(2, NodeId(3)),
+            None,
+        ],
         passed: Some(TxId(10)),
         next: Some(TxId(11)),
         counts: [1, 2],
@@ -141,7 +143,7 @@ fn the_seventeenth_entry_has_no_place(rt: HostRuntime) -> Result<(), Fail> {
     let mut plain = PlainPipe::new(rt.alloc())?;
     assert_eq!(rt; taken(&mut ring, rt.alloc()), 16);
     assert_eq!(rt; taken(&mut plain, rt.alloc()), 16);
-    assert_eq!(rt; ring.outstanding(set(0xff), 127), due(15, 7));
+    assert_eq!(rt; ring.outstanding(set(0xff), 127), due(15, NodeId(7)));
     assert_eq!(rt; plain.outstanding(set(0xff), 128), None);
     Ok(())
 }

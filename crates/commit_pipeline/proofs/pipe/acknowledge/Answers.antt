@@ -11,7 +11,7 @@ pub returns-in-Some-clause-after : goal.returns-in-Some-clause-after
 returns-in-Some-clause-after g c =
     let here : slice_get (g.W.Window.items c.args.entries.now) c.args.place ≡ Some c.in-Some.entry.now = sym c.in-Some.ensures.value in
     let written : g.W.Window.items (c.get_mut.follows.lender c.add_ack.new.entry) ≡ slice_set (g.W.Window.items c.args.entries.now) c.args.place c.add_ack.new.entry =
-        rw c.in-Some.is at c.get_mut.follows.holds c.add_ack.new.entry
+    rw c.in-Some.is at c.get_mut.follows.holds c.add_ack.new.entry
     in
     acked_set (g.W.Window.items c.args.entries.now) _ c.args.place c.args.from c.in-Some.entry.now c.add_ack.new.entry
     c.add_ack.result here written c.add_ack.ensures.after

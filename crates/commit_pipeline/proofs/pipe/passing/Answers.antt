@@ -8,8 +8,8 @@ pub returns-in_default-clause-value : goal.returns-in_default-clause-value
 returns-in_default-clause-value g c =
     let here : slice_get (g.W.Window.items c.args.entries.now) c.loop-place.place ≡ Some c.in-Some.entry.now = sym c.in-Some.ensures in
     let stop =
-        front_stop (passes_at c.args.me c.args.members) (g.W.Window.items c.args.entries.now) c.loop-place.place
-        c.in-Some.entry.now here (sym c.passes.ensures ∙ c.if-passes.false)
+    front_stop (passes_at c.args.me c.args.members) (g.W.Window.items c.args.entries.now) c.loop-place.place
+    c.in-Some.entry.now here (sym c.passes.ensures ∙ c.if-passes.false)
     in
     omega (arith, stop, c.loop-place.invariant)
 
@@ -24,8 +24,8 @@ pub loop-place-preserved : goal.loop-place-preserved
 loop-place-preserved g c =
     let here : slice_get (g.W.Window.items c.args.entries.now) c.loop-place.place ≡ Some c.in-Some.entry.now = sym c.in-Some.ensures in
     let step =
-        front_step (passes_at c.args.me c.args.members) (g.W.Window.items c.args.entries.now) c.loop-place.place
-        c.in-Some.entry.now here (sym c.passes.ensures ∙ c.if-passes.true)
+    front_step (passes_at c.args.me c.args.members) (g.W.Window.items c.args.entries.now) c.loop-place.place
+    c.in-Some.entry.now here (sym c.passes.ensures ∙ c.if-passes.true)
     in
     rw add-one (omega (arith, step, c.loop-place.invariant))
 

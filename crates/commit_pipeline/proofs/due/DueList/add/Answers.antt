@@ -1,6 +1,6 @@
-use Rattle.std.proofs.Common.{◌≡◌, ◌+◌, [], ◌∷◌, ◌∙◌, true, false, length, sym, ap, length-append, arith}
+use Rattle.std.proofs.Common.{◌≡◌, ◌+◌, [], ◌∷◌, ◌∙◌, true, false, length, refl, sym, ap, length-append, arith}
 use Rattle.zeus_base.specs.Nodes.{has}
-use Rattle.commit_pipeline.proofs.Sends.{sends-acked, sends-lacking, sends-none}
+use Rattle.commit_pipeline.proofs.Sends.{few_nodes, sends-acked, sends-lacking, sends-none}
 use Rattle.commit_pipeline.proofs.due.DueList.add.Goals as goal
 
 pub loop-node-preserved-then-not-has : goal.loop-node-preserved-then-not-has
@@ -27,8 +27,21 @@ loop-node-preserved c =
       capacity = c.loop-node.invariant.capacity;
     }
 
-pub returns : goal.returns
-returns c =
+pub loop-node-init : goal.loop-node-init
+loop-node-init c =
+    let few = few_nodes c.args.followers c.count.ensures.set in
+    let room = rw (← c.self.view_is) at c.requires in
+    record {
+      items = rw c.into_iter-node-iterator.ensures.into_iter_gives refl;
+      room = rw c.into_iter-node-iterator.ensures.into_iter_gives (omega (arith, few, room));
+      capacity = c.self.invariant;
+    }
+
+pub returns-clause-few : goal.returns-clause-few
+returns-clause-few c = few_nodes c.args.followers c.count.ensures.set
+
+pub returns-clause-added : goal.returns-clause-added
+returns-clause-added c =
     let done : c.loop-node.node-iterator ≡ [] = c.in-None.ensures.steps.0 in
     rw (← c.self.view_is)
     (sym (sends-none _ c.args.number _ c.args.acks done) ∙ c.loop-node.invariant.items)
