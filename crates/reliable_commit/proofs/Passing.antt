@@ -2,7 +2,7 @@
 use Rattle.std.proofs.Common.{ℕ, zero, suc, ◌≡◌, ◌<◌, ◌≤◌, ◌+◌, ◌-◌, ◌==◌, Bool, true, false, nat_lt, List, [], ◌∷◌, ◌++◌, Option, Some, length, take, drop, map, refl, sym, ap, ◌∙◌, arith}
 use Rattle.std.specs.List.{slice_get}
 use Rattle.std.specs.Prelude.{All}
-use Rattle.std.proofs.lemmas.Bool.{eq-eqb, ne_eqb, lt-ltb, le-ltb}
+use Rattle.std.proofs.lemmas.Bool.{eq-eqb, ltb-false, ne_eqb, lt-ltb, le-ltb}
 use Rattle.zeus_base.specs.Nodes.{join, meet, without}
 use Rattle.zeus_base.specs.TableLaws.{nth-put_same}
 use Rattle.zeus_base.specs.declared.order.Stream.{Stream}
@@ -110,11 +110,17 @@ unfolding advance_own_by each_write writes_of
 own_copies-by n s zero = refl
 own_copies-by n s (suc k) = refl
 
-own_slot-by : (n : Node) (s k : ℕ) → (let l : Slot = record { current = (slot n s).current; done = (slot n s).done + k; pending = drop k (slot n s).pending } in l) ≡ slot (advance_own_by n s k).node s
+own_pending-by : (n : Node) (s k : ℕ) → drop k (slot n s).pending ≡ (slot (advance_own_by n s k).node s).pending
 unfolding advance_own_by
-own_slot-by n s zero = refl
-own_slot-by n s (suc k) =
-    sym (nth-put_same no_slot n.slots s record { current = (slot n s).current; done = (slot n s).done + suc k; pending = drop (suc k) (slot n s).pending })
+own_pending-by n s zero = refl
+own_pending-by n s (suc k) =
+    ap (λ (l : Slot). l.pending) (sym (nth-put_same no_slot n.slots s record { current = (slot n s).current; done = (slot n s).done + suc k; pending = drop (suc k) (slot n s).pending }))
+
+own_done-by : (n : Node) (s k : ℕ) → (slot n s).done + k ≡ (slot (advance_own_by n s k).node s).done
+unfolding advance_own_by
+own_done-by n s zero = omega arith
+own_done-by n s (suc k) =
+    ap (λ (l : Slot). l.done) (sym (nth-put_same no_slot n.slots s record { current = (slot n s).current; done = (slot n s).done + suc k; pending = drop (suc k) (slot n s).pending }))
 
 module _ (n : Node) (s k : ℕ) (count : passing n (map as_kept (slot n s).pending) ≡ k) where
   advanced_own : advance_own n s ≡ advance_own_by n s k
@@ -131,10 +137,10 @@ module _ (n : Node) (s k : ℕ) (count : passing n (map as_kept (slot n s).pendi
   own_copies = rw advanced_own (own_copies-by n s k)
 
   pub own_pending : drop k (slot n s).pending ≡ (slot (advance_own n s).node s).pending
-  own_pending = rw advanced_own (ap (λ (l : Slot). l.pending) (own_slot-by n s k))
+  own_pending = rw advanced_own (own_pending-by n s k)
 
   pub own_done : (slot n s).done + k ≡ (slot (advance_own n s).node s).done
-  own_done = rw advanced_own (ap (λ (l : Slot). l.done) (own_slot-by n s k))
+  own_done = rw advanced_own (own_done-by n s k)
 
 -- ---- a stream that the node replays
 
@@ -189,3 +195,41 @@ module _ (n : Node) (s : Stream) (k : ℕ) (count : passing n (log n s).kept ≡
 
   pub kept_logs : raised_logs n.logs s ((log n s).done + k) ≡ (advance_kept n s).node.logs
   kept_logs = rw advanced_kept (kept_logs-by n s k)
+
+-- ---- what the node has, by what it is seen as
+
+pub is_advance : (n : Node) (s k : ℕ) (a : Advance) (cs : List (Option Copy)) (w : Waiting) (me : ℕ) (members : List ℕ) → IsOwnWith n s cs w me members → k ≤ length w.pending → a.first ≡ w.done → a.after ≡ w.done + k → a.tell ≡ told_of me members (take k (map as_kept w.pending)) → IsAdvance n s k a
+is_advance n s k a cs w me members h few first after tell =
+    record {
+      few = rw h.pending few;
+      first = rw h.done first;
+      after = rw h.done after;
+      tell = rw (h.me, h.members, h.pending) tell;
+    }
+
+pub is_replay : (n : Node) (s : Stream) (k : ℕ) (a : Advance) (cs : List (Option Copy)) (ls : List (List StreamLog)) (me : ℕ) (members : List ℕ) → IsMemberWith n cs ls me members → k ≤ length (log_at ls s).kept → a.first ≡ (log_at ls s).done → a.after ≡ (log_at ls s).done + k → a.tell ≡ told_of me members (take k (log_at ls s).kept) → IsReplay n s k a
+is_replay n s k a cs ls me members h few first after tell =
+    record {
+      few = rw h.node.logs few;
+      first = rw h.node.logs first;
+      after = rw h.node.logs after;
+      tell = rw (h.node.me, h.members, h.node.logs) tell;
+    }
+
+-- the copies and the streams of a node that replays one
+pub copies_of : (n : Node) (s : Stream) (k d : ℕ) (cs after : List (Option Copy)) (ls : List (List StreamLog)) (me : ℕ) (members : List ℕ) → IsMemberWith n cs ls me members → d ≡ (log_at ls s).done → after ≡ raised_copies cs (log_at ls s) (d + k) → after ≡ raised_copies n.copies (log n s) ((log n s).done + k)
+copies_of n s k d cs after ls me members h e is =
+    rw (h.node.copies, h.node.logs) (is ∙ ap (λ (m : ℕ). raised_copies cs (log_at ls s) (m + k)) e)
+
+pub logs_of : (n : Node) (s : Stream) (k d : ℕ) (cs : List (Option Copy)) (ls after : List (List StreamLog)) (me : ℕ) (members : List ℕ) → IsMemberWith n cs ls me members → d ≡ (log_at ls s).done → after ≡ raised_logs ls s (d + k) → after ≡ raised_logs n.logs s ((log n s).done + k)
+logs_of n s k d cs ls after me members h e is =
+    rw h.node.logs (is ∙ ap (λ (m : ℕ). raised_logs ls s (m + k)) e)
+
+done_raised-by : (ls : List (List StreamLog)) (s : Stream) (d : ℕ) (b : Bool) → nat_lt (log_at ls s).done d ≡ b → (log_at ls s).done ≤ d → d ≡ (log_at (raised_logs ls s d) s).done
+unfolding raised_logs
+done_raised-by ls s d true e h =
+    rw (e, log_at-with_log_at ls s record { done = d; kept = drop (d - (log_at ls s).done) (log_at ls s).kept }) refl
+done_raised-by ls s d false e h = rw e (omega (arith, ltb-false (log_at ls s).done d e))
+
+pub done_raised : (ls : List (List StreamLog)) (s : Stream) (d : ℕ) → (log_at ls s).done ≤ d → d ≡ (log_at (raised_logs ls s d) s).done
+done_raised ls s d h = done_raised-by ls s d (nat_lt (log_at ls s).done d) refl h

@@ -42,12 +42,12 @@ unfolding raised_copies writes_of
 step_copies copies done d e ks h =
     elim (cases_order (done + 1) d) [
       | inl same ↦
-        let one : d - done ≡ suc 0 = omega arith in
-        rw (lt-ltb done d h, le-ltb (done + 1) d (omega arith), one) (sym (each_write-append validated copies e.writes [] ∙ each_write-nil validated (each_write validated copies e.writes)))
+          let one : d - done ≡ suc 0 = omega arith in
+          rw (lt-ltb done d h, le-ltb (done + 1) d (omega arith), one) (sym (each_write-append validated copies e.writes [] ∙ each_write-nil validated (each_write validated copies e.writes)))
       | inr other ↦ elim other [
         | inl less ↦
-          let more : d - done ≡ suc (d - (done + 1)) = omega arith in
-          rw (lt-ltb done d h, lt-ltb (done + 1) d less, more) (sym (each_write-append validated copies e.writes (writes_of (take (d - (done + 1)) ks))))
+            let more : d - done ≡ suc (d - (done + 1)) = omega arith in
+            rw (lt-ltb done d h, lt-ltb (done + 1) d less, more) (sym (each_write-append validated copies e.writes (writes_of (take (d - (done + 1)) ks))))
         | inr more ↦ absurd (omega arith)
       ]
     ]
@@ -63,12 +63,12 @@ step_logs logs s l m d e ks here h first is =
     rw (log_at-with_log_at logs s m, here, is, first, with_log_at-with_log_at logs s record { done = l.done + 1; kept = ks })
     (elim (cases_order (l.done + 1) d) [
       | inl same ↦
-        let one : d - l.done ≡ suc 0 = omega arith in
-        rw (lt-ltb l.done d h, le-ltb (l.done + 1) d (omega arith), one, same) refl
+          let one : d - l.done ≡ suc 0 = omega arith in
+          rw (lt-ltb l.done d h, le-ltb (l.done + 1) d (omega arith), one, same) refl
       | inr other ↦ elim other [
         | inl less ↦
-          let more : d - l.done ≡ suc (d - (l.done + 1)) = omega arith in
-          rw (lt-ltb l.done d h, lt-ltb (l.done + 1) d less, more) refl
+            let more : d - l.done ≡ suc (d - (l.done + 1)) = omega arith in
+            rw (lt-ltb l.done d h, lt-ltb (l.done + 1) d less, more) refl
         | inr more ↦ absurd (omega arith)
       ]
     ])

@@ -1,9 +1,7 @@
--- Loops over writes, names and entries, from the first on.
-use Rattle.std.proofs.Common.{ℕ, zero, suc, ◌≡◌, ◌<◌, ◌≤◌, ◌+◌, ◌-◌, List, [], ◌∷◌, ◌++◌, Option, Some, None, length, take, drop, map, refl, sym, ap, ◌∙◌, arith, add-one, drop-cons}
+-- Loops over entries, from the first on.
+use Rattle.std.proofs.Common.{ℕ, zero, suc, ◌≡◌, ◌<◌, ◌≤◌, ◌+◌, ◌-◌, List, [], ◌∷◌, ◌++◌, Option, Some, None, length, take, drop, map, refl, sym, ap, ◌∙◌, arith}
 use Rattle.std.specs.List.{slice_get}
 use Rattle.std.specs.Prelude.{All}
-use Rattle.std.proofs.Math.ListN.{get_or}
-use Rattle.std.proofs.lemmas.List.{drop_all}
 use Rattle.std.proofs.lemmas.List.Elements.{All-head, All-tail, All-nil, All-cons}
 use Rattle.zeus_base.specs.Nodes.{join}
 use Rattle.zeus_packet.specs.declared.write.Write.{Write}
@@ -11,12 +9,12 @@ use Rattle.zeus_model.specs.declared.state.Copy.{Copy}
 use Rattle.zeus_model.specs.declared.state.Kept.{Kept}
 use Rattle.zeus_model.specs.declared.state.Pending.{Pending}
 use Rattle.zeus_model.specs.Commit.{as_kept, each_write, followers_of, validated, writes_of}
-use Rattle.zeus_model.specs.Tables.{nth, put}
-use Rattle.object_table.specs.Table.{AreWithin, after_write, each_unheld, unheld}
-use Rattle.object_table.specs.WriteLaws.{each_write-append, each_write-cons, each_write-nil}
+use Rattle.object_table.specs.Table.{AreWithin, each_unheld}
+use Rattle.object_table.specs.WriteLaws.{each_write-append, each_write-nil}
 use Rattle.object_table.specs.declared.hold.Hold.{Hold}
 use Rattle.reliable_commit.specs.Advancing.{named_of}
 use Rattle.reliable_commit.proofs.Within.{AreWithin-left, AreWithin-right}
+use Rattle.reliable_commit.proofs.Writing.{unheld-append, unheld-nil}
 
 -- ---- entries one by one
 

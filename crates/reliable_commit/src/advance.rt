@@ -1,5 +1,5 @@
 //! What passes: entries of an own slot, and those of the stream of a node that is no member.
-ghost use Rattle.std.specs.Prelude.{◌≡◌, ◌<◌, ◌≤◌, ◌+◌, ◌^◌, ℕ, All, drop, length, map, take};
+ghost use Rattle.std.specs.Prelude.{◌≡◌, ◌<◌, ◌≤◌, ◌+◌, ◌-◌, ◌^◌, ℕ, All, drop, length, map, take};
 ghost use Rattle.zeus_base.specs.Nodes.{meet, without};
 ghost use Rattle.zeus_model.specs.Act.{to_each};
 ghost use Rattle.zeus_model.specs.Commit.{advance_kept, advance_own, as_kept, each_write, followers_of, validated, writes_of};
@@ -77,11 +77,12 @@ pub fn advance_kept(
     ensures objects { length copies.new.copies ≡ length copies.old.copies }
     ensures streams { (t : Stream) → IsFollowed (length copies.old.copies) log.old t → IsFollowed (length copies.old.copies) log.new t }
 {
-    let first = log.done(s);
-    let count = log.passing(s, me, members);
-    let followers = kept_followers(log, s, count);
+    let stream = &s;
+    let first = log.done(*stream);
+    let count = log.passing(*stream, me, members);
+    let followers = kept_followers(log, stream, count);
     let after = first + count;
-    raise(copies, log, s, after);
+    raise(copies, log, stream, after);
     Advance {
         first,
         after,
@@ -108,10 +109,11 @@ fn pass(copies: &mut Copies, pipe: &mut Pipe, count: u32)
     ensures objects { length copies.new.copies ≡ length copies.old.copies }
 {
     for _turn in 0..count {
-        if let Some(entry) = pipe.pass() {
-            validate_each(copies, entry.writes.as_slice());
-            unhold_each(copies, entry.named.as_slice());
-        }
+        let Some(entry) = pipe.pass() else {
+            return;
+        };
+        validate_each(copies, entry.writes.as_slice());
+        unhold_each(copies, entry.named.as_slice());
     }
 }
 
@@ -130,14 +132,14 @@ fn own_followers(pipe: &Pipe, count: u32) -> NodeSet
 }
 
 /// All followers of the first stored entries of the stream.
-fn kept_followers(log: &Stored, s: Stream, count: u32) -> NodeSet
-    requires stream { IsStreamOf log.now s }
-    requires few { count ≤ length (log_at log.now s).kept }
-    ensures { result ≡ followers_of (take count (log_at log.now s).kept) }
+fn kept_followers(log: &Stored, s: &Stream, count: u32) -> NodeSet
+    requires stream { IsStreamOf log.now s.now }
+    requires few { count ≤ length (log_at log.now s.now).kept }
+    ensures { result ≡ followers_of (take count (log_at log.now s.now).kept) }
 {
     let mut all = NodeSet::empty();
     for turn in 0..count {
-        if let Some(entry) = log.kept(s, count - 1 - turn) {
+        if let Some(entry) = log.kept(*s, count - 1 - turn) {
             all = entry.followers.join(all);
         }
     }

@@ -69,7 +69,13 @@ pub fn on_rinv(copies: &mut Copies, log: &mut Stored, me: NodeId, r: &RInv) -> R
 /// The word comes to the node `me` that the entries of the stream below a number have passed: where that was not
 /// known, the stored ones among them are validated in order and dropped. The clauses speak of every node with these
 /// copies and streams and this number. No hold changes, and nothing is sent. Takes no memory.
-pub fn on_rval(copies: &mut Copies, log: &mut Stored, me: NodeId, s: Stream, done: u32) -> RValAnswer
+pub fn on_rval(
+    copies: &mut Copies,
+    log: &mut Stored,
+    me: NodeId,
+    s: Stream,
+    done: u32,
+) -> RValAnswer
     requires { IsFollowed (length copies.old.copies) log.old s }
     ensures answer { (n : Node) → IsNodeWith n copies.old.copies log.old me → rval_outcome result ≡ (on_rval n s done).answer }
     ensures copies { (n : Node) → IsNodeWith n copies.old.copies log.old me → copies.new.copies ≡ (on_rval n s done).node.copies }

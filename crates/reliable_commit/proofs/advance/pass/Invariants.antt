@@ -6,8 +6,8 @@ use Rattle.reliable_commit.specs.Advancing.{named_of}
 use Rattle.reliable_commit.proofs.advance.pass.Given as goal
 
 -- the rest of the first entries has the same end
-abbrev pub invariant-loop-_turn : goal.invariant-loop-_turn
-invariant-loop-_turn l = record {
+abbrev pub invariant-loop-turn : goal.invariant-loop-turn
+invariant-loop-turn l = record {
   few : (l.count - l._turn) ≤ length l.pipe.pending;
   done : l.pipe.done ≡ l.initial.pipe.done + l._turn;
   rest : drop (l.count - l._turn) l.pipe.pending ≡ drop l.count l.initial.pipe.pending;
