@@ -1,0 +1,6 @@
+pub mod Raising
+pub mod Taking
+pub mod Within
+pub mod Writing
+pub mod Passing
+pub mod Steps

@@ -1,0 +1,117 @@
+-- Loops over entries, from the first on.
+use Rattle.std.proofs.Common.{ℕ, zero, suc, ◌≡◌, ◌<◌, ◌≤◌, ◌+◌, ◌-◌, List, [], ◌∷◌, ◌++◌, Option, Some, None, length, take, drop, map, refl, sym, ap, ◌∙◌, arith}
+use Rattle.std.specs.List.{slice_get}
+use Rattle.std.specs.Prelude.{All}
+use Rattle.std.proofs.lemmas.List.Elements.{All-head, All-tail, All-nil, All-cons}
+use Rattle.zeus_base.specs.Nodes.{join}
+use Rattle.zeus_packet.specs.declared.write.Write.{Write}
+use Rattle.zeus_model.specs.declared.state.Copy.{Copy}
+use Rattle.zeus_model.specs.declared.state.Kept.{Kept}
+use Rattle.zeus_model.specs.declared.state.Pending.{Pending}
+use Rattle.zeus_model.specs.Commit.{as_kept, each_write, followers_of, validated, writes_of}
+use Rattle.object_table.specs.Table.{AreWithin, each_unheld}
+use Rattle.object_table.specs.WriteLaws.{each_write-append, each_write-nil}
+use Rattle.object_table.specs.declared.hold.Hold.{Hold}
+use Rattle.reliable_commit.specs.Advancing.{named_of}
+use Rattle.reliable_commit.proofs.Within.{AreWithin-left, AreWithin-right}
+use Rattle.reliable_commit.proofs.Writing.{unheld-append, unheld-nil}
+
+-- ---- entries one by one
+
+-- the first entry passes, and then the others
+pub pass-copies : (copies : List (Option Copy)) (ps : List Pending) (e : Pending) (a b : ℕ) → b ≡ suc a → Some e ≡ slice_get ps 0 → each_write validated (each_write validated copies e.writes) (writes_of (take a (map as_kept (drop 1 ps)))) ≡ each_write validated copies (writes_of (take b (map as_kept ps)))
+unfolding writes_of
+pass-copies copies [] e a b eq is = absurd cc
+pass-copies copies (p ∷ ps) e a b eq is =
+    let same : e ≡ p = cc in
+    rw (eq, same) (sym (each_write-append validated copies p.writes (writes_of (take a (map as_kept ps)))))
+
+pub pass-holds : (holds : List (Option Hold)) (ps : List Pending) (e : Pending) (a b : ℕ) → b ≡ suc a → Some e ≡ slice_get ps 0 → each_unheld (each_unheld holds e.named) (named_of (take a (drop 1 ps))) ≡ each_unheld holds (named_of (take b ps))
+unfolding named_of
+pass-holds holds [] e a b eq is = absurd cc
+pass-holds holds (p ∷ ps) e a b eq is =
+    let same : e ≡ p = cc in
+    rw (eq, same) (sym (unheld-append holds p.named (named_of (take a ps))))
+
+pub pass-rest : (ps : List Pending) (e : Pending) (a b : ℕ) → b ≡ suc a → Some e ≡ slice_get ps 0 → drop a (drop 1 ps) ≡ drop b ps
+pass-rest [] e a b eq is = absurd cc
+pass-rest (p ∷ ps) e a b eq is = rw eq refl
+
+pub pass-few : (ps : List Pending) (a b : ℕ) → b ≡ suc a → b ≤ length ps → a ≤ length (drop 1 ps)
+pass-few [] a b eq h = absurd (omega arith)
+pass-few (p ∷ ps) a b eq h = omega arith
+
+-- none is left to pass
+pub pass_none-copies : (copies : List (Option Copy)) (ks : List Kept) (n : ℕ) → n ≡ 0 → each_write validated copies (writes_of (take n ks)) ≡ copies
+unfolding writes_of
+pass_none-copies copies ks n e = rw e (each_write-nil validated copies)
+
+pub pass_none-holds : (holds : List (Option Hold)) (ps : List Pending) (n : ℕ) → n ≡ 0 → each_unheld holds (named_of (take n ps)) ≡ holds
+unfolding named_of
+pass_none-holds holds ps n e = rw e (unheld-nil holds)
+
+pub pass_none-rest : (ps : List Pending) (n : ℕ) → n ≡ 0 → drop n ps ≡ ps
+pass_none-rest ps n e = rw e refl
+
+pub none_first : (ps : List Pending) → None ≡ slice_get ps 0 → length ps ≡ 0
+none_first [] h = refl
+none_first (p ∷ ps) h = absurd cc
+
+-- what the first entry writes and names, and what the others do
+pub first_writes : (n : ℕ) (ps : List Pending) (e : Pending) → AreWithin n (writes_of (map as_kept ps)) → Some e ≡ slice_get ps 0 → AreWithin n e.writes
+unfolding writes_of
+first_writes n [] e h is = absurd cc
+first_writes n (p ∷ ps) e h is =
+    let same : e ≡ p = cc in
+    rw same (AreWithin-left n p.writes (writes_of (map as_kept ps)) h)
+
+pub rest_writes : (n : ℕ) (ps : List Pending) → AreWithin n (writes_of (map as_kept ps)) → AreWithin n (writes_of (map as_kept (drop 1 ps)))
+unfolding writes_of
+rest_writes n [] h = h
+rest_writes n (p ∷ ps) h = AreWithin-right n p.writes (writes_of (map as_kept ps)) h
+
+All-left : (P : ℕ → Type 0) (xs ys : List ℕ) → All P (xs ++ ys) → All P xs
+All-left P [] ys h = All-nil P
+All-left P (x ∷ xs) ys h =
+    All-cons P x xs (All-head P x (xs ++ ys) h) (All-left P xs ys (All-tail P x (xs ++ ys) h))
+
+All-right : (P : ℕ → Type 0) (xs ys : List ℕ) → All P (xs ++ ys) → All P ys
+All-right P [] ys h = h
+All-right P (x ∷ xs) ys h = All-right P xs ys (All-tail P x (xs ++ ys) h)
+
+pub first_names : (P : ℕ → Type 0) (ps : List Pending) (e : Pending) → All P (named_of ps) → Some e ≡ slice_get ps 0 → All P e.named
+unfolding named_of
+first_names P [] e h is = absurd cc
+first_names P (p ∷ ps) e h is =
+    let same : e ≡ p = cc in
+    rw same (All-left P p.named (named_of ps) h)
+
+pub rest_names : (P : ℕ → Type 0) (ps : List Pending) → All P (named_of ps) → All P (named_of (drop 1 ps))
+unfolding named_of
+rest_names P [] h = h
+rest_names P (p ∷ ps) h = All-right P p.named (named_of ps) h
+
+-- ---- followers, from the last entry on
+
+pub followers-step : (ks : List Kept) (count place : ℕ) (e : Kept) → place < count → Some e ≡ slice_get ks place → followers_of (drop place (take count ks)) ≡ join e.followers (followers_of (drop (suc place) (take count ks)))
+unfolding followers_of
+followers-step [] count place e h is = absurd cc
+followers-step (k ∷ ks) zero place e h is = absurd (omega arith)
+followers-step (k ∷ ks) (suc count) zero e h is = let same : e ≡ k = cc in rw same refl
+followers-step (k ∷ ks) (suc count) (suc place) e h is = followers-step ks count place e (omega arith) is
+
+pub followers-none : (ks : List Kept) (count : ℕ) → [] ≡ followers_of (drop count (take count ks))
+unfolding followers_of
+followers-none ks zero = refl
+followers-none [] (suc count) = refl
+followers-none (k ∷ ks) (suc count) = followers-none ks count
+
+pub as_kept-found : (ps : List Pending) (i : ℕ) (e : Pending) → Some e ≡ slice_get ps i → Some (as_kept e) ≡ slice_get (map as_kept ps) i
+as_kept-found [] i e h = absurd cc
+as_kept-found (p ∷ ps) zero e h = let same : e ≡ p = cc in rw same refl
+as_kept-found (p ∷ ps) (suc i) e h = as_kept-found ps i e h
+
+pub found : {A : Type 0} (xs : List A) (i : ℕ) → None ≡ slice_get xs i → length xs ≤ i
+found [] i h = omega arith
+found (x ∷ xs) zero h = absurd cc
+found (x ∷ xs) (suc i) h = let k = found xs i h in omega arith

@@ -1,0 +1,19 @@
+use Rattle.std.proofs.Common.{◌≡◌, ◌<◌, ◌∙◌, length, ap}
+use Rattle.zeus_model.specs.Commit.{applied}
+use Rattle.reliable_commit.proofs.Within.{AreWithin-at}
+use Rattle.reliable_commit.proofs.Writing.{each_write-at, each_write-end}
+use Rattle.reliable_commit.proofs.writes.apply_each.Goals as goal
+
+pub apply-requires : goal.apply-requires
+apply-requires c =
+    rw (c.loop-write.invariant.objects, c.write-item.is) (AreWithin-at _ _ c.loop-write.write-index c.write-item.result c.requires c.loop-write-test.true)
+
+pub loop-write-preserved : goal.loop-write-preserved
+loop-write-preserved c = record {
+  same = rw c.apply.ensures.copies (each_write-at applied _ _ _ c.write-item.result c.loop-write-test.true c.write-item.is ∙ c.loop-write.invariant.same);
+  holds = c.apply.ensures.holds ∙ c.loop-write.invariant.holds;
+  objects = c.apply.ensures.objects ∙ c.loop-write.invariant.objects;
+}
+
+pub returns-clause-copies : goal.returns-clause-copies
+returns-clause-copies c = each_write-end applied _ _ c.loop-write.write-index c.loop-write-test.false ∙ c.loop-write.invariant.same
