@@ -1,10 +1,10 @@
 -- The rows that words of the lines behind the first ones meet, their first words among them.
-use Rattle.std.proofs.Common.{◌≡◌, ℕ, ◌≤◌, Bool, true, false, cond, List, [], ◌∷◌, length, Option, Some, None, Result, Ok, Err, refl, sym, ap, ◌∙◌, arith}
+use Rattle.std.proofs.Common.{◌≡◌, ℕ, Bool, true, false, cond, List, [], ◌∷◌, length, Option, Some, None, Result, Ok, Err, refl, sym, ap, ◌∙◌, arith}
 use Rattle.std.specs.Prelude.{codes, ◌&&◌, ◌||◌, ◌==◌}
 use Rattle.std.specs.Str.{bytes_eq}
 use Rattle.std.proofs.lemmas.Bool.{eqb-true, ne_eqb}
 use Rattle.zeus_model.specs.Faults.{row_met}
-use Rattle.zeus_model.specs.Places.{First, Place, must, step_keywords, place}
+use Rattle.zeus_model.specs.Places.{First, must, step_keywords, place}
 use Rattle.zeus_model.specs.Tables.{or_else, where_true}
 use Rattle.zeus_model.specs.Words.{is_among}
 use Rattle.zeus_model.specs.declared.fault.Kind.{Kind}

@@ -1,10 +1,10 @@
 -- The first word of a line that does not fit, found from the left, and what reading says of it.
-use Rattle.std.proofs.Common.{◌≡◌, ℕ, zero, suc, ◌<◌, Bool, true, false, List, [], ◌∷◌, take, Option, Some, None, Result, Ok, Err, refl, sym, ap, ◌∙◌, arith}
+use Rattle.std.proofs.Common.{◌≡◌, ℕ, zero, suc, ◌<◌, List, [], ◌∷◌, take, Option, Some, None, Result, Ok, Err, refl, sym, ap, ◌∙◌, arith}
 use Rattle.zeus_model.specs.Faults.{word_of}
 use Rattle.zeus_model.specs.Tables.{or_else}
 use Rattle.zeus_model.specs.declared.fault.Kind.{Kind}
 use Rattle.zeus_model.specs.declared.fault.Kind.TheVariants as kinds
-use Rattle.script_lang.specs.Reads.{◌>>=◌, or_fault, word_at}
+use Rattle.script_lang.specs.Reads.{◌>>=◌, word_at}
 
 -- the row that a word meets behind the words before it
 abbrev pub Rows : Type 0

@@ -1,12 +1,11 @@
 -- Which words may begin a line, by the first word of the line before it.
-use Rattle.std.proofs.Common.{◌≡◌, ℕ, suc, ◌+◌, ◌≤◌, Bool, true, false, cond, List, [], ◌∷◌, ◌++◌, length, Option, Some, None, Result, Ok, Err, refl, sym, ap, ◌∙◌, arith, length-append}
+use Rattle.std.proofs.Common.{◌≡◌, ℕ, Bool, true, false, List, [], ◌∷◌, ◌++◌, length, Some, None, Result, Ok, Err, refl, sym, ap, ◌∙◌, arith, length-append}
 use Rattle.std.specs.Prelude.{codes, ◌&&◌, ◌==◌}
 use Rattle.std.specs.Str.{bytes_eq}
 use Rattle.std.proofs.lemmas.Bool.{ne_eqb}
 use Rattle.zeus_model.specs.Places.{first_word, last_line, step_keywords, under, order}
 use Rattle.zeus_model.specs.Tables.{nth}
 use Rattle.zeus_model.specs.declared.fault.Kind.{Kind}
-use Rattle.zeus_model.specs.declared.fault.Kind.TheVariants as kinds
 use Rattle.script_lang.specs.declared.keywords.StepWord.{StepWord}
 use Rattle.script_lang.specs.declared.keywords.StepWord.TheVariants as steps
 use Rattle.script_lang.specs.declared.opened.TheConstants.{READS_DEGREE}
@@ -25,7 +24,7 @@ use Rattle.script_lang.proofs.DraftFits.{BodyFits, Fits}
 use Rattle.script_lang.proofs.DraftSound.{keyword_at-sound, word_at-sound}
 use Rattle.script_lang.proofs.FindLaws.{bytes_eq-true}
 use Rattle.script_lang.proofs.Naming.{and_true}
-use Rattle.script_lang.proofs.Sound.{IfRead, read_bind, read_ok, read_err, read_cond, read_or, read_weaken}
+use Rattle.script_lang.proofs.Sound.{IfRead, read_bind, read_ok, read_err, read_cond, read_or}
 use Rattle.script_lang.proofs.StepLaws.{step_text, step_word_of-sound}
 
 -- the words that may begin the next line

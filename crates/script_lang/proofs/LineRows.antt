@@ -1,31 +1,29 @@
 -- The rows that the words of each line meet, and what reading says of the line.
-use Rattle.std.proofs.Common.{◌≡◌, ℕ, suc, ◌+◌, ◌<◌, ◌≤◌, ◌^◌, Bool, true, false, cond, List, [], ◌∷◌, ◌++◌, length, Option, Some, None, Result, Ok, Err, refl, sym, ap, ◌∙◌, arith, subst}
-use Rattle.std.specs.Prelude.{codes, ◌&&◌, ◌||◌, ◌==◌, not, nat_lt, nat_le}
+use Rattle.std.proofs.Common.{◌≡◌, ℕ, ◌+◌, ◌≤◌, ◌^◌, Bool, true, false, cond, List, [], ◌∷◌, length, Option, Some, None, Ok, Err, refl, sym, ap, ◌∙◌, arith, subst}
+use Rattle.std.specs.Prelude.{codes, ◌&&◌, ◌||◌, ◌==◌, not, nat_le}
 use Rattle.std.specs.Str.{bytes_eq}
-use Rattle.std.proofs.lemmas.Bool.{eqb-true, ne_eqb}
+use Rattle.std.proofs.lemmas.Bool.{ne_eqb}
 use Rattle.zeus_model.specs.Faults.{row_met}
-use Rattle.zeus_model.specs.Places.{Opening, Said, First, Keyword, Operation, Number, Place, must, ends, versions, step_keywords, op_keywords, Form, under, forms, behind, above, some_words, directory_place, tail_place, no_form, form_place, ops_place, no_parts, with_words, op_place, tx_place, place}
+use Rattle.zeus_model.specs.Places.{Opening, Said, Keyword, must, versions, Form, under, forms, behind, some_words, directory_place, tail_place, no_form, form_place, ops_place, with_words, op_place, tx_place, place}
 use Rattle.zeus_model.specs.Tables.{nth, or_else, where_true}
-use Rattle.zeus_model.specs.Words.{number_in, is_among}
+use Rattle.zeus_model.specs.Words.{is_among}
 use Rattle.zeus_model.specs.declared.fault.Kind.{Kind}
 use Rattle.zeus_model.specs.declared.fault.Kind.TheVariants as kinds
 use Rattle.script_lang.specs.declared.keywords.StepWord.{StepWord}
 use Rattle.script_lang.specs.declared.keywords.StepWord.TheVariants as steps
-use Rattle.script_lang.specs.declared.opened.TheConstants.{LATEST_VERSION, READS_DEGREE}
-use Rattle.script_lang.specs.Drafts.{State, version_of, version_taken, nodes_taken, slots_taken, some_nodes, directory_taken, degree_taken, object_taken, tx_taken, run_taken, step_taken, tx_line_taken, object_line_taken, degree_line_taken, more, step_line_taken}
-use Rattle.script_lang.specs.NodeLists.{nodes_after}
+use Rattle.script_lang.specs.declared.opened.TheConstants.{LATEST_VERSION}
+use Rattle.script_lang.specs.Drafts.{State, version_of, version_taken, nodes_taken, slots_taken, some_nodes, directory_taken}
 use Rattle.script_lang.specs.Opened.{opening}
-use Rattle.script_lang.specs.Numbers.{range_at}
 use Rattle.script_lang.specs.Objects.{new_name_of, object_at}
-use Rattle.script_lang.specs.Reads.{◌>>=◌, or_fault, word_at, keyword_at, word_if, ended}
-use Rattle.script_lang.specs.Steps.{step_word_of, step_at}
+use Rattle.script_lang.specs.Reads.{keyword_at, word_if}
+use Rattle.script_lang.specs.Steps.{step_at}
 use Rattle.script_lang.specs.Transactions.{number_if, after_at, tx_at}
 use Rattle.script_lang.proofs.FindLaws.{bytes_eq-true}
 use Rattle.script_lang.proofs.FirstWord.{Rows, next, first_fault, first_fault-same, Tells, tells_bind, tells_ok, tells_err, row_of, reads, word_first, stops, passes}
 use Rattle.script_lang.proofs.NodeRows.{range_number_in, member_rows, members_told, counted_rows, counted_told}
 use Rattle.script_lang.proofs.OpRows.{ops_rows, ops_told}
 use Rattle.script_lang.proofs.RowLaws.{table, range_told, value_told, new_name_row, ended_told}
-use Rattle.script_lang.proofs.StepLaws.{step_text, step_word_of-sound, none_below}
+use Rattle.script_lang.proofs.StepLaws.{step_text, none_below}
 
 -- opens the forms
 unfoldable pub all_forms : ℕ

@@ -1,15 +1,15 @@
 -- What the lines that a script so far was read from say: what it has.
-use Rattle.std.proofs.Common.{◌≡◌, ℕ, suc, ◌+◌, ◌<◌, ◌≤◌, ◌^◌, Bool, true, false, cond, List, [], ◌∷◌, ◌++◌, length, Option, Some, None, refl, sym, ap, ◌∙◌, arith, append-nil}
-use Rattle.std.specs.Prelude.{codes, decimal, map}
+use Rattle.std.proofs.Common.{◌≡◌, ℕ, suc, ◌<◌, ◌^◌, Bool, true, false, cond, List, [], ◌∷◌, ◌++◌, length, Option, Some, None, refl, ap, ◌∙◌, arith, append-nil}
+use Rattle.std.specs.Prelude.{codes, map}
 use Rattle.zeus_base.specs.declared.config.Config.{Config}
 use Rattle.zeus_base.specs.declared.config.ObjectDecl.{ObjectDecl}
 use Rattle.zeus_base.specs.declared.step.Step.{Step}
 use Rattle.zeus_base.specs.declared.step.Step.TheVariants.{Begin, Try, Deliver, Tick, Stop, View, Install}
 use Rattle.zeus_txn.specs.declared.tx.TxDecl.{TxDecl}
-use Rattle.zeus_model.specs.Places.{Opening, Said, first_word, second_word, beginning, last_line, step_keywords, said}
+use Rattle.zeus_model.specs.Places.{first_word, second_word, beginning, last_line, step_keywords, said}
 use Rattle.zeus_model.specs.Spelling.{head_lines, degree_lines, object_words, object_lines, tx_words, step_words}
 use Rattle.zeus_model.specs.Tables.{nth}
-use Rattle.zeus_model.specs.Words.{is_among, number_in}
+use Rattle.zeus_model.specs.Words.{is_among}
 use Rattle.script_lang.specs.Drafts.{State}
 use Rattle.script_lang.specs.Opened.{opening}
 use Rattle.script_lang.proofs.DraftFits.{config_of, declared_lines}

@@ -1,19 +1,19 @@
 -- The rows that words of a list of nodes meet, and what reading says of the list.
-use Rattle.std.proofs.Common.{◌≡◌, ℕ, suc, ◌+◌, ◌<◌, ◌≤◌, Bool, true, false, cond, List, [], ◌∷◌, ◌++◌, length, Option, Some, None, Result, Ok, Err, refl, sym, ap, ◌∙◌, arith, length-append, subst}
+use Rattle.std.proofs.Common.{◌≡◌, ℕ, suc, ◌+◌, ◌≤◌, Bool, true, false, cond, List, [], ◌∷◌, length, Option, Some, None, Result, Ok, Err, refl, sym, ap, ◌∙◌, arith, length-append, subst}
 use Rattle.std.specs.Prelude.{◌&&◌, ◌||◌, ◌==◌, not, nat_lt, nat_le}
-use Rattle.std.proofs.lemmas.Bool.{ltb-false, ne_eqb}
+use Rattle.std.proofs.lemmas.Bool.{ltb-false}
 use Rattle.std.proofs.lemmas.Bool.Decides.{nat_tests}
 use Rattle.zeus_base.specs.Nodes.{with_node}
 use Rattle.zeus_base.specs.NodeLaws.{IsBelow, IsBelow-with_node}
 use Rattle.zeus_model.specs.Faults.{is_owner, row_met}
-use Rattle.zeus_model.specs.Places.{Node, Place, ends, above, some_words, directory_place, node_place}
+use Rattle.zeus_model.specs.Places.{Node, Place, ends, above, some_words}
 use Rattle.zeus_model.specs.Tables.{or_else, where_true}
 use Rattle.zeus_model.specs.Words.{number_in}
 use Rattle.zeus_model.specs.declared.fault.Kind.{Kind}
 use Rattle.zeus_model.specs.declared.fault.Kind.TheVariants as kinds
 use Rattle.script_lang.specs.NodeLists.{is_full, listed_of, nodes_after}
 use Rattle.script_lang.specs.Numbers.{number_of, range_of}
-use Rattle.script_lang.specs.Reads.{◌>>=◌, or_fault}
+use Rattle.script_lang.specs.Reads.{◌>>=◌}
 use Rattle.script_lang.proofs.FirstWord.{Rows, next, first_fault, first_fault-same, Tells, tells_bind, tells_ok, row_of, reads}
 use Rattle.script_lang.proofs.NodeLaws.{with_node-last, IsBelow-more, or_false}
 use Rattle.script_lang.proofs.RowLaws.{table, number_said, none_said}

@@ -1,9 +1,9 @@
 -- What reading promises of a fault leaves one fault for each input: one line, and one kind.
-use Rattle.std.proofs.Common.{◌≡◌, ◌≢◌, ℕ, ◌<◌, Bool, true, false, List, Option, Some, None, refl, sym, ap, ◌∙◌, inl, inr, subst}
+use Rattle.std.proofs.Common.{◌≡◌, ◌≢◌, ℕ, Bool, true, false, List, Option, Some, refl, sym, ap, ◌∙◌, inl, inr, subst}
 use Rattle.std.specs.Prelude.{◌==◌}
 use Rattle.std.proofs.lemmas.Bool.{cases_order, eqb-true, eqb-false}
 use Rattle.zeus_model.specs.Faults.{IsFaultyWord, IsWordFault, IsOfWord}
-use Rattle.zeus_model.specs.FirstFault.{BeginsScript, IsFirstFault, IsKindOfLine, TellsSize}
+use Rattle.zeus_model.specs.FirstFault.{IsFirstFault, IsKindOfLine, TellsSize}
 use Rattle.zeus_model.specs.Places.{Opening, Said}
 use Rattle.zeus_model.specs.declared.fault.Kind.{Kind}
 use Rattle.zeus_model.specs.declared.fault.Kind.TheVariants as kinds

@@ -1,6 +1,6 @@
 -- The rows that the words of operations meet, and what reading says of the operations.
-use Rattle.std.proofs.Common.{◌≡◌, ℕ, zero, suc, ◌+◌, ◌<◌, ◌^◌, Bool, true, false, cond, List, [], ◌∷◌, ◌++◌, length, Option, Some, None, Result, Ok, Err, refl, sym, ap, ◌∙◌, arith, length-append}
-use Rattle.std.specs.Prelude.{codes, ◌&&◌, ◌||◌, ◌==◌, not, nat_lt, nat_le, slice_index}
+use Rattle.std.proofs.Common.{◌≡◌, ℕ, zero, suc, ◌+◌, Bool, true, false, cond, List, [], ◌∷◌, ◌++◌, length, Option, Some, None, Ok, Err, refl, sym, ap, ◌∙◌, arith, length-append}
+use Rattle.std.specs.Prelude.{codes, ◌&&◌, ◌||◌, ◌==◌, not, nat_lt, nat_le}
 use Rattle.std.specs.Str.{bytes_eq}
 use Rattle.std.proofs.lemmas.Bool.{eq-eqb, eqb-true}
 use Rattle.std.proofs.lemmas.Bool.Decides.{nat_tests}
@@ -9,9 +9,8 @@ use Rattle.zeus_base.specs.declared.value.Value.{Value}
 use Rattle.zeus_base.specs.declared.value.Value.TheVariants as values
 use Rattle.zeus_txn.specs.Ops.{object_of, mentions, mentioned, named_after, named}
 use Rattle.zeus_txn.specs.declared.ops.Op.{Op}
-use Rattle.zeus_txn.specs.declared.ops.Op.TheVariants as ops
-use Rattle.zeus_model.specs.Faults.{is_marked, row_met}
-use Rattle.zeus_model.specs.Places.{Said, Operation, Keyword, Number, Declared, Value as AValue, Place, must, second_word, under, op_keywords, op_forms, behind, OpParts, with_word, with_words, noted, noted_after, named_in, separator, op_place, ops_place}
+use Rattle.zeus_model.specs.Faults.{row_met}
+use Rattle.zeus_model.specs.Places.{Said, Declared, Place, must, second_word, under, op_keywords, op_forms, behind, OpParts, with_word, with_words, noted, noted_after, named_in, separator, op_place, ops_place}
 use Rattle.zeus_model.specs.Tables.{or_else, where_true}
 use Rattle.zeus_model.specs.Words.{is_among, is_name}
 use Rattle.zeus_model.specs.declared.fault.Kind.{Kind}
@@ -22,11 +21,10 @@ use Rattle.script_lang.specs.Gathered.{takes_object}
 use Rattle.script_lang.specs.Names.{find, name_of_word}
 use Rattle.script_lang.specs.Numbers.{digits_from, number_of}
 use Rattle.script_lang.specs.Operations.{op_word_of, object_of_word, operand_at, op_rest_at, op_at, ops_after, ops_at}
-use Rattle.script_lang.specs.Reads.{◌>>=◌, or_fault, word_at}
+use Rattle.script_lang.specs.Reads.{◌>>=◌, or_fault}
 use Rattle.script_lang.specs.Values.{value_of, text_of}
 use Rattle.script_lang.proofs.FindLaws.{bytes_eq-true, bytes_eq-same, find-sound}
-use Rattle.script_lang.proofs.FirstWord.{Rows, next, first_fault, first_fault-same, Tells, tells_bind, tells_ok, tells_err, row_of, reads, word_first, Next, stops, passes}
-use Rattle.script_lang.proofs.Naming.{and_true}
+use Rattle.script_lang.proofs.FirstWord.{Rows, next, first_fault, first_fault-same, Tells, tells_bind, tells_ok, tells_err, row_of, reads, word_first, stops, passes}
 use Rattle.script_lang.proofs.OpLaws.{op_text, HasWord, op_word_of-sound}
 use Rattle.script_lang.proofs.RowLaws.{table, number_told, value_told, among_none, among_some}
 use Rattle.script_lang.proofs.Sound.{IfRead, read_bind, read_ok, read_err, read_cond, read_or, read_is}

@@ -1,26 +1,24 @@
 -- The rows that single words meet, and what reading says of these words.
-use Rattle.std.proofs.Common.{◌≡◌, ℕ, zero, suc, ◌+◌, ◌-◌, ◌*◌, ◌<◌, ◌≤◌, ◌^◌, Bool, true, false, cond, List, [], ◌∷◌, length, drop, Option, Some, None, Result, Ok, Err, refl, sym, ap, ◌∙◌, arith}
-use Rattle.std.specs.Prelude.{◌&&◌, ◌||◌, ◌==◌, not, nat_lt, nat_le, slice_index, decimal, codes, option_map}
+use Rattle.std.proofs.Common.{◌≡◌, ℕ, suc, ◌+◌, ◌-◌, ◌*◌, ◌<◌, ◌^◌, Bool, true, false, cond, List, [], ◌∷◌, drop, Option, Some, None, Ok, Err, refl, ap, ◌∙◌, arith}
+use Rattle.std.specs.Prelude.{◌&&◌, ◌||◌, not, nat_lt, nat_le, decimal, option_map}
 use Rattle.std.specs.Str.{bytes_eq}
 use Rattle.std.proofs.lemmas.Bool.{lt-ltb, ltb-true}
 use Rattle.std.proofs.lemmas.Bool.Decides.{nat_tests}
 use Rattle.std.proofs.lemmas.Fmt.{digits_value-decimal}
 use Rattle.std.proofs.lemmas.Slice.Eq.{bytes_eq-Decides}
-use Rattle.zeus_base.specs.declared.value.Value.{Value}
-use Rattle.zeus_base.specs.declared.value.Value.TheVariants as values
-use Rattle.zeus_model.specs.Faults.{is_wrong, is_marked, is_no_text, is_no_number, is_out_of_range, is_no_name, is_owner, is_twice, is_unknown, is_too_long, is_not_live, row_met}
-use Rattle.zeus_model.specs.Places.{Number, Node, Value as AValue, NewName, Place, must, ends}
+use Rattle.zeus_model.specs.Faults.{is_wrong, is_marked, is_no_text, is_no_number, is_out_of_range, is_no_name, is_twice, is_unknown, is_too_long, is_not_live, row_met}
+use Rattle.zeus_model.specs.Places.{Number, Value as AValue, NewName, must, ends}
 use Rattle.zeus_model.specs.Tables.{or_else, where_true}
 use Rattle.zeus_model.specs.Words.{digits_said, number_in, is_number, is_name, is_text, is_among}
 use Rattle.zeus_model.specs.declared.fault.Kind.{Kind}
 use Rattle.zeus_model.specs.declared.fault.Kind.TheVariants as kinds
 use Rattle.script_lang.specs.Names.{find, name_of_word}
 use Rattle.script_lang.specs.Numbers.{number_of, range_of, range_at, number_at}
-use Rattle.script_lang.specs.Objects.{vacant, new_name_of}
-use Rattle.script_lang.specs.Reads.{◌>>=◌, or_fault, ended}
+use Rattle.script_lang.specs.Objects.{new_name_of}
+use Rattle.script_lang.specs.Reads.{or_fault, ended}
 use Rattle.script_lang.specs.Values.{text_of, value_of, value_at}
 use Rattle.script_lang.proofs.FindLaws.{bytes_eq-true}
-use Rattle.script_lang.proofs.FirstWord.{Rows, next, first_fault, Tells, tells_bind, tells_ok, tells_err, row_of, reads, word_first, Next, stops}
+use Rattle.script_lang.proofs.FirstWord.{Rows, first_fault, Tells, tells_bind, tells_ok, tells_err, row_of, reads, word_first, Next, stops}
 use Rattle.script_lang.proofs.NumberLaws.{read_on, own, number_of-sound, number_of-decimal}
 
 -- opens the table

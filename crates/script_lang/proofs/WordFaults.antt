@@ -1,8 +1,8 @@
 -- A fault of a word is that of the first word of its line that does not fit, and its kind the first row that this word meets.
-use Rattle.std.proofs.Common.{◌≡◌, ℕ, suc, ◌+◌, ◌-◌, ◌<◌, ◌≤◌, ◌^◌, Bool, true, false, cond, List, [], ◌∷◌, ◌++◌, length, take, Option, Some, None, Result, Ok, Err, refl, sym, ap, ◌∙◌, arith, append_assoc, append-nil, subst}
-use Rattle.std.specs.Prelude.{codes, decimal, map, ◌==◌}
+use Rattle.std.proofs.Common.{◌≡◌, ℕ, suc, ◌+◌, ◌-◌, Bool, true, false, cond, List, [], ◌∷◌, ◌++◌, length, take, Option, Some, Result, Ok, Err, refl, sym, ap, ◌∙◌, arith, append_assoc, append-nil, subst}
+use Rattle.std.specs.Prelude.{codes, map, ◌==◌}
 use Rattle.std.proofs.lemmas.Bool.{ne_eqb}
-use Rattle.zeus_model.specs.Faults.{row_met, IsFaultyWord, lines_of, IsWordFault, IsOfWord}
+use Rattle.zeus_model.specs.Faults.{IsFaultyWord, lines_of, IsWordFault, IsOfWord}
 use Rattle.zeus_model.specs.Places.{Said, first_word, second_word, last_line, beginning, step_keywords, under, order, said}
 use Rattle.zeus_model.specs.Spelling.{step_words}
 use Rattle.zeus_model.specs.Tables.{nth}
@@ -10,11 +10,10 @@ use Rattle.zeus_model.specs.Words.{is_among, number_in}
 use Rattle.zeus_model.specs.declared.fault.Kind.{Kind}
 use Rattle.zeus_model.specs.declared.fault.Kind.TheVariants as kinds
 use Rattle.zeus_model.specs.declared.fault.ScriptFault.{ScriptFault}
-use Rattle.script_lang.specs.declared.opened.TheConstants.{LATEST_VERSION}
 use Rattle.script_lang.specs.declared.stage.Stage.{Stage}
 use Rattle.script_lang.specs.declared.stage.Stage.TheVariants as stages
 use Rattle.script_lang.specs.Cut.{cut}
-use Rattle.script_lang.specs.Drafts.{State, more, body_taken, line_taken}
+use Rattle.script_lang.specs.Drafts.{State, body_taken, line_taken}
 use Rattle.script_lang.specs.Opened.{opening}
 use Rattle.script_lang.specs.Reading.{start, fault_at, is_last, unended, line_done, lines_taken}
 use Rattle.script_lang.specs.Reads.{◌>>=◌, word_at}
@@ -23,7 +22,7 @@ use Rattle.script_lang.proofs.BodySound.{Goes, line_taken-sound}
 use Rattle.script_lang.proofs.DraftFits.{HasVersion, HasNodes, HasSlots, HeadFits, BodyFits, Fits, declared_lines, lines_at, Adds}
 use Rattle.script_lang.proofs.FaultReached.{kind_there}
 use Rattle.script_lang.proofs.FaultShared.{failed, at_line}
-use Rattle.script_lang.proofs.FirstWord.{first_fault, Found, found, Tells, tells_bind, tells_fault, word_first}
+use Rattle.script_lang.proofs.FirstWord.{first_fault, found, Tells, tells_bind, tells_fault, word_first}
 use Rattle.script_lang.proofs.LineOrder.{words_at, words_behind, FollowsMore, last_line-more, line_follows}
 use Rattle.script_lang.proofs.LineRows.{all_forms, line_rows, Any, said_of, version_told, nodes_told, slots_told, directory_told}
 use Rattle.script_lang.proofs.LinesSaid.{beginning-all, beginning-none, no_object_step, no_tx_step, a_step, length-map, declared_said}

@@ -1,5 +1,5 @@
 -- Bytes cut at a separator, and put together again.
-use Rattle.std.specs.Prelude.{◌≡◌, ℕ, ◌==◌, List, [], ◌∷◌, ◌++◌, Option, Some, None, if◌then◌else◌}
+use Rattle.std.specs.Prelude.{◌≡◌, ℕ, List, [], ◌∷◌, ◌++◌, Option, Some, None}
 use Rattle.std.proofs.Common.{Bor}
 unfoldable pub use Rattle.zeus_model.specs.Words.{with_byte, cut}
 

@@ -1,6 +1,5 @@
 -- Values as words: a decimal number, or in version 2 `'` and a text.
-use Rattle.std.specs.Prelude.{ℕ, Bool, ◌&&◌, ◌==◌, nat_lt, nat_le, List, Result, Ok, Err, length, drop, slice_index, if◌then◌else◌}
-use Rattle.std.specs.List.{list_all}
+use Rattle.std.specs.Prelude.{ℕ, ◌&&◌, ◌==◌, List, Result, Ok, Err, drop, slice_index, if◌then◌else◌}
 use Rattle.zeus_base.specs.declared.value.Value.{Value}
 use Rattle.zeus_base.specs.declared.value.Value.TheVariants as values
 use Rattle.zeus_model.specs.declared.fault.Kind.{Kind}

@@ -139,7 +139,8 @@ pub fn read_script(alloc: Global, bytes: &[u8], live: bool) -> Result<Script, Re
     ensures first { (f : ScriptFault) → IsErrOf result (ReadScript.Fault f) → f.line ≢ 0 → IsFirstFault (IsOpened live) bytes.now f.line }
     // Its kind tells whether it is extra, missing or not ended.
     ensures kind { (f : ScriptFault) → IsErrOf result (ReadScript.Fault f) → f.line ≢ 0 → IsKindOfLine (IsOpened live) bytes.now f.line f.kind }
-    // Any other kind is the first row that the first word of the line that does not fit meets.
+    // Any other kind is the first row that is met by the first word of the line that does not fit. The clauses so leave
+    // one fault for each input (`one_fault`).
     ensures word { (f : ScriptFault) → IsErrOf result (ReadScript.Fault f) → IsOfWord f.kind → IsWordFault (opening live) bytes.now f.line f.kind }
 {
     script_of_bytes(alloc, bytes, live)

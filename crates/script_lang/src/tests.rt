@@ -173,7 +173,7 @@ fn faults_of_the_head(rt: HostRuntime) -> Result<(), Fail> {
 }
 
 // The same of texts behind the first lines.
-static BODY_FAULTS: [(&str, u32, Kind); 44] = [
+static BODY_FAULTS: [(&str, u32, Kind); 45] = [
     ("object x 5 0\n", 6, Kind::Twice),
     ("object abcdefghijklmnopq 5 0\n", 6, Kind::Name),
     ("object 4x 5 0\n", 6, Kind::Name),
@@ -210,6 +210,7 @@ static BODY_FAULTS: [(&str, u32, Kind); 44] = [
     ("run\ntry 0 1\n", 7, Kind::Range),
     ("run\ndeliver 0 1 4294967296\n", 7, Kind::Range),
     ("run\ninstall 0 0\n", 7, Kind::Range),
+    ("run\ninstall 0 4294967296\n", 7, Kind::Range),
     ("run\nview 1 0\n", 7, Kind::Twice),
     ("run\ntick 0 0\n", 7, Kind::Word),
     ("run\nwalk\n", 7, Kind::Word),

@@ -9,7 +9,7 @@ use Rattle.zeus_model.specs.Words.{cut, is_among, number_in, is_number, is_name,
 
 -- ---- the rows of the table of kinds: which words meet them, by what is wanted
 
--- no word may stand here, or none but certain words
+-- word: no word may stand here, or another one than this
 unfoldable pub is_wrong : Want → List ℕ → Bool
 is_wrong Nothing w = true
 is_wrong (First words objects txs steps live) w = not (is_among w words)
@@ -21,25 +21,25 @@ is_wrong _ w = false
 abbrev pub is_marked : ℕ → List ℕ → Bool
 is_marked version w = (version == 2) && (slice_index w 0 == 39)
 
--- behind the `'` of a value stands no text
+-- text: behind the `'` of a value stands no text
 unfoldable pub is_no_text : Want → List ℕ → Bool
 is_no_text (Value version) w = is_marked version w && not (is_text (drop 1 w))
 is_no_text _ w = false
 
--- no number, where one is wanted
+-- number: no number, where one is wanted
 unfoldable pub is_no_number : Want → List ℕ → Bool
 is_no_number (Number lowest limit) w = not (is_number w)
 is_no_number (Node nodes lowest owner) w = not (is_number w)
 is_no_number (Value version) w = not (is_marked version w) && not (is_number w)
 is_no_number _ w = false
 
--- a number out of its range
+-- range: a number out of its range
 unfoldable pub is_out_of_range : Want → List ℕ → Bool
 is_out_of_range (Number lowest limit) w = not (nat_le lowest (number_in w) && nat_lt (number_in w) limit)
 is_out_of_range (Node nodes lowest owner) w = not (nat_lt (number_in w) nodes)
 is_out_of_range _ w = false
 
--- no name, where one is wanted
+-- name: no name, where one is wanted
 unfoldable pub is_no_name : Want → List ℕ → Bool
 is_no_name (NewName names) w = not (is_name w)
 is_no_name (Declared names named) w = not (is_name w)
@@ -50,18 +50,18 @@ unfoldable pub is_owner : Option ℕ → ℕ → Bool
 is_owner None n = false
 is_owner (Some owner) n = n == owner
 
--- a name that was declared before; a node that is not above the one listed before it, or is the owner
+-- twice: a name that was declared before; a node that is not above the one listed before it, or is the owner
 unfoldable pub is_twice : Want → List ℕ → Bool
 is_twice (NewName names) w = is_among w names
 is_twice (Node nodes lowest owner) w = nat_lt (number_in w) lowest || is_owner owner (number_in w)
 is_twice _ w = false
 
--- the name of no declared object
+-- unknown: the name of no declared object
 unfoldable pub is_unknown : Want → List ℕ → Bool
 is_unknown (Declared names named) w = not (is_among w names)
 is_unknown _ w = false
 
--- a line or operation more than a script may have, or a ninth object of a transaction
+-- long: at its first word, a line or operation more than a script may have; at its name, a ninth object of a transaction
 unfoldable pub is_too_long : Want → List ℕ → Bool
 is_too_long (First words objects txs steps live) w =
     (bytes_eq w (codes "object") && (objects == 256)) || (bytes_eq w (codes "tx") && (txs == 10000))
@@ -70,13 +70,13 @@ is_too_long (Operation words before) w = before == 16
 is_too_long (Declared names named) w = not (is_among w named) && nat_le 8 (length named)
 is_too_long _ w = false
 
--- a transaction more than a live run takes, or a step
+-- live: at its first word, a transaction more than a live run takes, or a step
 unfoldable pub is_not_live : Want → List ℕ → Bool
 is_not_live (First words objects txs steps live) w =
     ((bytes_eq w (codes "tx") && (txs == 1000)) || is_among w step_keywords) && live
 is_not_live _ w = false
 
--- the table: the first row that a word meets; where the line ends before its time, a word is missing
+-- the table: the first row that a word meets. Where a word has to stand and the line ends, the row is that of the word
 unfoldable pub row_met : Place → Option (List ℕ) → Option Kind
 row_met p None = where_true (not p.may_end) kinds.Word
 row_met p (Some w) =
@@ -111,7 +111,8 @@ pub record IsFaultyWord (o : Opening) (d : Said) (ws : List (List ℕ)) (j : ℕ
 abbrev pub lines_of : List ℕ → List (List (List ℕ))
 lines_of bytes = map (cut 32) (cut 10 bytes)
 
--- line n, counted from 1, has a first word that does not fit behind what the lines before it say, and this is its kind
+-- line n, counted from 1, has a first word that does not fit, by what the lines before it say, and this is the first row
+-- that it meets
 pub record IsWordFault (o : Opening) (bytes : List ℕ) (n : ℕ) (kind : Kind) : Type 0 where
   pub index : ℕ
   pub word : IsFaultyWord o (said o (take (n - 1) (lines_of bytes))) (nth [] (lines_of bytes) (n - 1)) index kind

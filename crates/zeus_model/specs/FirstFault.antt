@@ -1,4 +1,4 @@
--- Which line of bytes is the first faulty one, where scripts with this property are read.
+-- Which line of bytes is the first faulty one, and the kinds of a line as a whole. `Opened` says which scripts are read.
 use Rattle.std.specs.Prelude.{◌≡◌, ◌≢◌, ◌<◌, ◌≤◌, ◌-◌, ◌↔◌, ℕ, zero, suc, ◌==◌, List, [], ◌∷◌, length, if◌then◌else◌}
 use Rattle.zeus_model.specs.declared.fault.Kind.{Kind}
 use Rattle.zeus_model.specs.declared.fault.Kind.TheVariants as kinds

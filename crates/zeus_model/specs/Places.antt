@@ -46,14 +46,16 @@ ends = record { want = Nothing; may_end = true }
 
 -- ---- what the lines before say
 
--- what stands in a table under a word
+-- what stands in a table under a word, or else this
 unfoldable pub under : {A : Type 0} → A → List ℕ → List (List ℕ × A) → A
 under other w [] = other
 under other w (row ∷ rows) = if bytes_eq w row.0 then row.1 else under other w rows
 
+-- the word that a line begins with
 abbrev pub first_word : List (List ℕ) → List ℕ
 first_word l = nth [] l 0
 
+-- the word behind it
 abbrev pub second_word : List (List ℕ) → List ℕ
 second_word l = nth [] l 1
 
@@ -62,7 +64,7 @@ unfoldable pub beginning : List (List ℕ) → List (List (List ℕ)) → List (
 beginning words [] = []
 beginning words (l ∷ ls) = if is_among (first_word l) words then l ∷ beginning words ls else beginning words ls
 
--- the last line, or one without words
+-- the last line; before the first line there is one without words
 unfoldable pub last_line : List (List (List ℕ)) → List (List ℕ)
 last_line [] = []
 last_line (l ∷ []) = l
@@ -72,7 +74,7 @@ last_line (l ∷ k ∷ ls) = last_line (k ∷ ls)
 abbrev pub step_keywords : List (List ℕ)
 step_keywords = codes "begin" ∷ codes "try" ∷ codes "deliver" ∷ codes "tick" ∷ codes "stop" ∷ codes "view" ∷ codes "install" ∷ []
 
--- which words may begin the line behind one with this first word
+-- which words may begin a line, by the first word of the line before it: of the first line, the line without words
 unfoldable pub order : Opening → List (List ℕ × List (List ℕ))
 order o =
     ([], codes "zeus" ∷ [])
@@ -96,7 +98,7 @@ pub record Said : Type 0 where
   pub txs : ℕ
   pub steps : ℕ
 
--- behind `run` and behind each step a step or `end` may follow
+-- what lines say: each number and name stands at its place of its line; behind `run` and behind a step may stand a step or `end`
 unfoldable pub said : Opening → List (List (List ℕ)) → Said
 said o ls = record {
   next = under (codes "end" ∷ step_keywords) (first_word (last_line ls)) (order o);
@@ -128,6 +130,7 @@ pub record Form : Type 0 where
   pub wants : List Want
   pub tail : Tail
 
+-- the lines with this first word
 abbrev form : List ℕ → List Want → Tail → List ℕ × Form
 form keyword wants tail = (keyword, record { wants = wants; tail = tail })
 
@@ -184,16 +187,17 @@ unfoldable pub above : ℕ → List (List ℕ) → ℕ
 above lowest [] = lowest
 above lowest (w ∷ ws) = above (suc (number_in w)) ws
 
+-- whether there is a word
 unfoldable pub some_words : List (List ℕ) → Bool
 some_words [] = false
 some_words (w ∷ ws) = true
 
--- behind these nodes of a directory
+-- behind these nodes of a directory: as many as there are may stand in it, and one has to
 unfoldable pub directory_place : ℕ → List (List ℕ) → Place
 directory_place nodes ws =
     if length ws == nodes then ends else record { want = Node nodes (above 0 ws) None; may_end = some_words ws }
 
--- behind these nodes of another list
+-- behind these nodes of another list, which may end anywhere
 abbrev pub node_place : ℕ → Option ℕ → List (List ℕ) → Place
 node_place nodes owner ws = record { want = Node nodes (above 0 ws) owner; may_end = true }
 
@@ -209,6 +213,7 @@ with_word p w =
     then record { finished = p.finished ++ p.last ∷ []; last = [] }
     else record { finished = p.finished; last = p.last ++ w ∷ [] }
 
+-- words of operations, read behind others
 unfoldable pub with_words : OpParts → List (List ℕ) → OpParts
 with_words p [] = p
 with_words p (w ∷ ws) = with_words (with_word p w) ws
@@ -217,6 +222,7 @@ with_words p (w ∷ ws) = with_words (with_word p w) ws
 unfoldable pub noted : List (List ℕ) → List ℕ → List (List ℕ)
 noted names w = if is_among w names then names else names ++ w ∷ []
 
+-- the names with those that operations name behind their first words
 unfoldable pub noted_after : List (List ℕ) → List (List (List ℕ)) → List (List ℕ)
 noted_after names [] = names
 noted_after names (op ∷ ops) = noted_after (noted names (second_word op)) ops
@@ -238,6 +244,7 @@ op_place d finished (w ∷ ws) = behind (under [] w (op_forms d (named_in finish
 unfoldable pub ops_place : Said → OpParts → List (List ℕ) → Place
 ops_place d p ws = op_place d (with_words p ws).finished (with_words p ws).last
 
+-- before the first word of operations
 abbrev pub no_parts : OpParts
 no_parts = record { finished = []; last = [] }
 
@@ -257,9 +264,11 @@ tail_place d Replicas all ws = node_place d.nodes (Some (number_in (nth [] all 2
 tail_place d Members all ws = node_place d.nodes None ws
 tail_place d Operations all ws = tx_place d ws
 
+-- a line with another first word, which never fits
 abbrev pub no_form : Form
 no_form = record { wants = []; tail = Ends }
 
+-- behind these words of a line of this form, its first word aside
 unfoldable pub form_place : Said → Form → List (List ℕ) → Place
 form_place d f ws = behind f.wants (tail_place d f.tail ws) ws
 
