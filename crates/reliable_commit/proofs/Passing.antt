@@ -1,55 +1,34 @@
 -- What passes from the front of a stream, by what a node has of it alone.
-use Rattle.std.proofs.Common.{ℕ, zero, suc, ◌≡◌, ◌<◌, ◌≤◌, ◌+◌, ◌-◌, ◌==◌, Bool, true, false, nat_lt, List, [], ◌∷◌, ◌++◌, Option, Some, length, take, drop, map, refl, sym, ap, ◌∙◌, arith}
-use Rattle.std.specs.List.{slice_get}
-use Rattle.std.specs.Prelude.{All}
+use Rattle.std.proofs.Common.{ℕ, zero, suc, ◌≡◌, ◌≤◌, ◌+◌, ◌-◌, Bool, true, false, nat_lt, List, [], ◌∷◌, Option, length, take, drop, map, refl, sym, ap, ◌∙◌, arith}
 use Rattle.std.proofs.lemmas.Bool.{eq-eqb, ltb-false, ne_eqb, lt-ltb, le-ltb}
-use Rattle.zeus_base.specs.Nodes.{join, meet, without}
+use Rattle.zeus_base.specs.Nodes.{meet, without}
 use Rattle.zeus_base.specs.TableLaws.{nth-put_same}
 use Rattle.zeus_base.specs.declared.order.Stream.{Stream}
-use Rattle.zeus_base.specs.declared.step.Passed.{Passed}
 use Rattle.zeus_packet.specs.declared.letter.Body.{Body}
 use Rattle.zeus_packet.specs.declared.letter.Body.TheVariants.{RVal}
-use Rattle.zeus_packet.specs.declared.letter.Letter.{Letter}
 use Rattle.zeus_model.specs.declared.state.Copy.{Copy}
 use Rattle.zeus_model.specs.declared.state.Kept.{Kept}
 use Rattle.zeus_model.specs.declared.state.Pending.{Pending}
 use Rattle.zeus_model.specs.Act.{to_each}
-use Rattle.zeus_model.specs.Commit.{advance_kept, advance_kept_by, advance_own, advance_own_by, as_kept, each_write, followers_of, passes, passing, pass_kept, pass_own, validated, writes_of}
-use Rattle.zeus_model.specs.State.{Node, Slot, StreamLog, log, no_log, no_slot, own_stream, slot}
+use Rattle.zeus_model.specs.Commit.{advance_kept, advance_kept_by, advance_own, advance_own_by, as_kept, each_write, followers_of, passes_at, passing, pass_kept, pass_own, validated, writes_of}
+use Rattle.zeus_model.specs.State.{Node, Slot, StreamLog, log, no_slot, own_stream, slot}
 use Rattle.zeus_model.specs.Tables.{front}
-use Rattle.commit_pipeline.specs.Pipes as pipes
 use Rattle.commit_pipeline.specs.Pipes.{Waiting}
 use Rattle.follower_log.specs.StreamLaws.{log_at-with_log_at}
-use Rattle.follower_log.specs.Streams as streams
-use Rattle.follower_log.specs.Streams.{log_at, with_log_at}
-use Rattle.reliable_commit.specs.Advancing.{IsMemberWith, IsOwnWith, named_of, passed_by, told_of}
+use Rattle.follower_log.specs.Streams.{log_at}
+use Rattle.reliable_commit.specs.Advancing.{IsMemberWith, IsOwnWith, passed_by, told_of}
 use Rattle.reliable_commit.specs.Following.{raised_copies, raised_logs}
 use Rattle.reliable_commit.specs.declared.advance.Advance.{Advance}
 
 -- ---- how many entries pass
 
-same_front : (p q : Kept → Bool) (ks : List Kept) → ((k : Kept) → p k ≡ q k) → front p ks ≡ front q ks
-unfolding front
-same_front p q [] h = refl
-same_front p q (k ∷ ks) h = rw (h k, same_front p q ks h) refl
-
-passes-own : (n : Node) (k : Kept) → passes n k ≡ pipes.passes_at n.me n.members k
-unfolding passes pipes.passes_at
-passes-own n k = refl
-
-passes-kept : (n : Node) (k : Kept) → passes n k ≡ streams.passes_at n.me n.members k
-unfolding passes streams.passes_at
-passes-kept n k = refl
-
-pub own_passing : (n : Node) (s k : ℕ) (cs : List (Option Copy)) (w : Waiting) (me : ℕ) (members : List ℕ) → IsOwnWith n s cs w me members → k ≡ front (pipes.passes_at me members) (map as_kept w.pending) → passing n (map as_kept (slot n s).pending) ≡ k
+pub own_passing : (n : Node) (s k : ℕ) (cs : List (Option Copy)) (w : Waiting) (me : ℕ) (members : List ℕ) → IsOwnWith n s cs w me members → k ≡ front (passes_at me members) (map as_kept w.pending) → passing n (map as_kept (slot n s).pending) ≡ k
 own_passing n s k cs w me members h is =
-    same_front (passes n) (pipes.passes_at n.me n.members) (map as_kept (slot n s).pending) (passes-own n)
-    ∙ rw (h.me, h.members, h.pending) (sym is)
+    rw (h.me, h.members, h.pending) (sym is)
 
-pub kept_passing : (n : Node) (s : Stream) (k : ℕ) (cs : List (Option Copy)) (ls : List (List StreamLog)) (me : ℕ) (members : List ℕ) → IsMemberWith n cs ls me members → k ≡ front (streams.passes_at me members) (log_at ls s).kept → passing n (log n s).kept ≡ k
+pub kept_passing : (n : Node) (s : Stream) (k : ℕ) (cs : List (Option Copy)) (ls : List (List StreamLog)) (me : ℕ) (members : List ℕ) → IsMemberWith n cs ls me members → k ≡ front (passes_at me members) (log_at ls s).kept → passing n (log n s).kept ≡ k
 kept_passing n s k cs ls me members h is =
-    same_front (passes n) (streams.passes_at n.me n.members) (log n s).kept (passes-kept n)
-    ∙ rw (h.node.me, h.members, h.node.logs) (sym is)
+    rw (h.node.me, h.members, h.node.logs) (sym is)
 
 -- ---- letters of the node after the pass
 
