@@ -44,10 +44,10 @@ counts_here w number from p h e =
     let here = slice_get_within w.pending (number - w.done) p e in
     rw (le-ltb number w.done h, lt-ltb number (w.done + length w.pending) (omega arith), nth_found no_pending w.pending (number - w.done) p (sym e)) refl
 
--- the same of entries of which none has passed
 sub-zero : (n : ℕ) → n - 0 ≡ n
 sub-zero n = omega arith
 
+-- the same where no entry has passed, so that a number is a place
 pub counts_none : (ps : List Pending) (place from : ℕ) → slice_get ps place ≡ None → counts record { done = 0; pending = ps } place from ≡ false
 counts_none ps place from e = counts_past record { done = 0; pending = ps } place from (omega arith) (rw (sub-zero place) e)
 
