@@ -63,7 +63,8 @@ fn config(alloc: Global) -> Result<Config, AllocError>
 fn start(alloc: Global, config: &Config) -> Result<Stored, NoMemory>
     ensures { IfOk result (λ log. HasStreams config.now log) }
 {
-    Stored::new(alloc, config)
+    let log = Stored::new(alloc, config)?;
+    Ok(log)
 }
 
 /// Stores the first entry of the stream.
