@@ -4,3 +4,4 @@ pub mod Within
 pub mod Writing
 pub mod Passing
 pub mod Steps
+pub mod Starting

@@ -20,10 +20,10 @@ loop-turn-preserved c =
     let low : place < c.args.count = omega arith in
     elim c.match-kept.branch [
       | in-Some w ↦
-        let is : Some (w.in-Some.entry.now) ≡ slice_get (log_at c.args.log.now c.args.s.now).kept place = rw there at w.in-Some.ensures in
-        rw (w.all-is, w.join-all.ensures, c.loop-turn.invariant, ← next) (sym (followers-step (log_at c.args.log.now c.args.s.now).kept c.args.count place (w.in-Some.entry.now) low is))
+          let is : Some (w.in-Some.entry.now) ≡ slice_get (log_at c.args.log.now c.args.s.now).kept place = rw there at w.in-Some.ensures in
+          rw (w.all-is, w.join-all.ensures, c.loop-turn.invariant, ← next) (sym (followers-step (log_at c.args.log.now c.args.s.now).kept c.args.count place (w.in-Some.entry.now) low is))
       | in_default w ↦
-        let past = found (log_at c.args.log.now c.args.s.now).kept place (rw there at w.in_default.ensures) in
-        let few = c.requires.few in
-        absurd (omega (arith, past, few))
+          let past = found (log_at c.args.log.now c.args.s.now).kept place (rw there at w.in_default.ensures) in
+          let few = c.requires.few in
+          absurd (omega (arith, past, few))
     ]

@@ -20,10 +20,10 @@ loop-turn-preserved c =
     let low : place < c.args.count = omega arith in
     elim c.match-pending.branch [
       | in-Some w ↦
-        let is : Some (as_kept w.in-Some.entry.now) ≡ slice_get (map as_kept c.args.pipe.now.pending) place = as_kept-found c.args.pipe.now.pending place w.in-Some.entry.now (rw there at w.in-Some.ensures) in
-        rw (w.all-is, w.join-all.ensures, c.loop-turn.invariant, ← next) (sym (followers-step (map as_kept c.args.pipe.now.pending) c.args.count place (as_kept w.in-Some.entry.now) low is))
+          let is : Some (as_kept w.in-Some.entry.now) ≡ slice_get (map as_kept c.args.pipe.now.pending) place = as_kept-found c.args.pipe.now.pending place w.in-Some.entry.now (rw there at w.in-Some.ensures) in
+          rw (w.all-is, w.join-all.ensures, c.loop-turn.invariant, ← next) (sym (followers-step (map as_kept c.args.pipe.now.pending) c.args.count place (as_kept w.in-Some.entry.now) low is))
       | in_default w ↦
-        let past = found c.args.pipe.now.pending place (rw there at w.in_default.ensures) in
-        let few = c.requires in
-        absurd (omega (arith, past, few))
+          let past = found c.args.pipe.now.pending place (rw there at w.in_default.ensures) in
+          let few = c.requires in
+          absurd (omega (arith, past, few))
     ]
