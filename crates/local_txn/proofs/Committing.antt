@@ -26,6 +26,8 @@ use Rattle.zeus_model.specs.State.{Node, copy, entry, no_entry, value_of, versio
 use Rattle.zeus_model.specs.Tables.{first_of, nth, or_else, put, where_true}
 use Rattle.object_table.specs.declared.hold.Hold.{Hold}
 use Rattle.object_table.specs.Table.{AreWithin, CanHold, after_write, each_held, held, hold_count, hold_slot, next_write}
+use Rattle.object_table.specs.HoldLaws.{hold_count-held}
+use Rattle.local_txn.specs.HeldLaws.{held-once, held-other, naming-more, naming-same}
 use Rattle.local_txn.specs.Tries.{AreNamed, AreNext, AreRising, CanHoldEach, IsNext, held_at, naming, node_of}
 
 -- ---- the named objects are different ones
@@ -306,3 +308,23 @@ replicas_same n m [] e = refl
 replicas_same n m (w ∷ ws) e =
     ap (λ (es : List Entry). join (nth no_entry es w.obj).place.replicas (replicas_of n ws)) e
     ∙ ap (join (entry m w.obj).place.replicas) (replicas_same n m ws e)
+
+-- ---- the slot still holds no object more often than entries name it
+
+held_before : (s k : ℕ) (h : Option Hold) → CanHold s h → (hold_slot h ≡ Some s → hold_count h ≤ k) → hold_count h ≤ k
+unfolding CanHold hold_slot hold_count
+held_before s k None can count = omega arith
+held_before s k (Some h) can count = count (ap Some can.0)
+
+pub named_kept : (s : ℕ) (holds : List (Option Hold)) (ps : List Pending) (p : Pending) (tx : List Op) → p.named ≡ named tx → None ≡ first_of (held_at s holds) (named tx) → AreNamed s holds ps → length ps < 16 → AreNamed s (each_held s holds (named tx)) (ps ++ p ∷ [])
+named_kept s holds ps p tx e free counts room = λ x here.
+    elim (mentions x (named tx)) as (λ b. mentions x (named tx) ≡ b → hold_count (nth None (each_held s holds (named tx)) x) ≤ naming x (ps ++ p ∷ [])) [
+      | true ↦ λ m.
+          let can = can_hold s x (nth None holds x) ps (free_at s holds x (free_all s holds (named tx) x free m)) (counts x) room in
+          let before = held_before s (naming x ps) (nth None holds x) can (counts x) in
+          rw (held-once s holds (named tx) x (distinct-named tx) m, naming-more x ps p (rw e m))
+          (omega (arith, before, hold_count-held s (nth None holds x)))
+      | false ↦ λ m.
+          let same = held-other s holds (named tx) x m in
+          rw (same, naming-same x ps p (rw e m)) (counts x (rw same at here))
+    ] refl

@@ -1,7 +1,8 @@
 //! The write part of a try.
-ghost use Rattle.std.specs.Prelude.{◌≡◌, ◌<◌, All, length};
+ghost use Rattle.std.specs.Prelude.{◌≡◌, ◌≢◌, ◌<◌, ℕ, List, All, length};
 ghost use Rattle.zeus_model.specs.Local.{write_cause, write_row};
 ghost use Rattle.zeus_model.specs.State.{Node, slot as slot_of};
+ghost use Rattle.zeus_model.specs.declared.state.Pending.{Pending};
 ghost use Rattle.zeus_txn.specs.Ops.{named};
 ghost use Rattle.local_txn.specs.Tries.{AreNamed, IsNodeOf, after_try, holds_after, tried_as};
 
@@ -36,7 +37,8 @@ pub enum WriteTry {
 /// replicas of the written objects by the settled placements, without the node.
 ///
 /// The clauses speak of every node that this is: one with these entries, copies and this slot, whose holders the table
-/// knows. No memory is taken.
+/// knows. No memory is taken. What the slot holds stays named by its pending entries, and what another slot holds by those
+/// of that one.
 pub fn try_write(
     copies: &mut Copies,
     dir: &Dir,
@@ -54,6 +56,9 @@ pub fn try_write(
     ensures pending { (n : Node) → IsNodeOf me dir.now copies.old slot pipe.old n → pipe.new.pending ≡ (slot_of (after_try n slot (record { id = id; tx = tx.now }) (write_cause n slot tx.now)) slot).pending }
     ensures done { pipe.new.done ≡ pipe.old.done }
     ensures holds { (n : Node) → IsNodeOf me dir.now copies.old slot pipe.old n → copies.new.holds ≡ holds_after slot copies.old.holds tx.now (write_cause n slot tx.now) }
+    ensures named { AreNamed slot copies.new.holds pipe.new.pending }
+    ensures others { (t : ℕ) (ps : List Pending) → t ≢ slot → AreNamed t copies.old.holds ps → AreNamed t copies.new.holds ps }
+    ensures objects { length copies.new.copies ≡ length copies.old.copies }
 {
     match cause(copies, dir, pipe, me, slot, tx) {
         Some(cause) => cause,

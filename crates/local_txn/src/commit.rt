@@ -1,7 +1,8 @@
 //! The commit of a transaction that nothing stands against.
-ghost use Rattle.std.specs.Prelude.{◌≡◌, ◌+◌, ◌<◌, ◌∷◌, ◌++◌, [], All, length};
+ghost use Rattle.std.specs.Prelude.{◌≡◌, ◌≢◌, ◌+◌, ◌<◌, ◌∷◌, ◌++◌, ℕ, List, [], All, length};
 ghost use Rattle.zeus_model.specs.Commit.{each_write};
 ghost use Rattle.zeus_model.specs.Local.{new_writes, replicas_of, rewritten_copy, run_here};
+ghost use Rattle.zeus_model.specs.declared.state.Pending.{Pending};
 ghost use Rattle.zeus_txn.specs.Ops.{named};
 ghost use Rattle.object_table.specs.Table.{AreWithin, each_held};
 ghost use Rattle.local_txn.specs.Tries.{AreNamed, AreNext, AreRising, CanHoldEach, IsClear, entry_here, node_of, tried_as, writes_here};
@@ -36,6 +37,9 @@ pub(crate) fn commit(
     ensures holds { copies.new.holds ≡ each_held slot copies.old.holds (named tx.now) }
     ensures pending { pipe.new.pending ≡ pipe.old.pending ++ entry_here (node_of me dir.now copies.old.copies) id tx.now ∷ [] }
     ensures done { pipe.new.done ≡ pipe.old.done }
+    ensures named { AreNamed slot copies.new.holds pipe.new.pending }
+    ensures others { (t : ℕ) (ps : List Pending) → t ≢ slot → AreNamed t copies.old.holds ps → AreNamed t copies.new.holds ps }
+    ensures objects { length copies.new.copies ≡ length copies.old.copies }
 {
     let ran = run_on(copies, tx);
     let writes = new_writes(copies, &ran.writes);
@@ -96,6 +100,7 @@ fn write_each(copies: &mut Copies, writes: &Writes)
     requires { AreNext copies.old.copies writes.now }
     ensures copies { copies.new.copies ≡ each_write rewritten_copy copies.old.copies writes.now }
     ensures holds { copies.new.holds ≡ copies.old.holds }
+    ensures objects { length copies.new.copies ≡ length copies.old.copies }
 {
     for write in writes.as_slice() {
         copies.write(write.obj, write.value);

@@ -6,9 +6,10 @@ use Rattle.zeus_model.specs.Local.{rewritten_copy}
 use Rattle.zeus_model.specs.State.{value_of}
 use Rattle.zeus_model.specs.Tables.{nth}
 use Rattle.object_table.specs.WriteLaws.{length-each_write}
+use Rattle.local_txn.specs.HeldLaws.{named-others}
 use Rattle.local_txn.specs.Tries.{node_of, tried_as}
 use Rattle.local_txn.proofs.Answering.{entry_made, writes_made}
-use Rattle.local_txn.proofs.Committing.{can_hold_named, writes_next, writes_within}
+use Rattle.local_txn.proofs.Committing.{can_hold_named, named_kept, writes_next, writes_within}
 use Rattle.local_txn.proofs.Worn.{run_rising}
 use Rattle.local_txn.proofs.commit.commit.Goals as goal
 
@@ -74,3 +75,12 @@ returns-in-Ok-clause-pending c =
     let followers = rw c.replicas.ensures at c.without-followers.ensures in
     rw (c.in-Ok.ensures.after, c.named-named.ensures, c.empty.ensures)
     (ap (λ (p : Pending). c.args.pipe.now.pending ++ p ∷ []) (entry_made c.args.me c.args.dir.now copies c.args.id c.args.tx.now _ _ _ reply made followers))
+
+pub returns-in-Ok-clause-named : goal.returns-in-Ok-clause-named
+returns-in-Ok-clause-named c =
+    rw (c.in-Ok.ensures.after, c.hold_each.ensures.holds, c.write_each.ensures.holds, c.duplicate-held.ensures, c.named-named.ensures)
+    (named_kept c.args.slot c.args.copies.now.holds c.args.pipe.now.pending _ c.args.tx.now refl c.requires.clear.free c.requires.holds c.requires.clear.room)
+
+pub returns-in-Ok-clause-others : goal.returns-in-Ok-clause-others
+returns-in-Ok-clause-others c = λ t ps other counts.
+    rw (c.hold_each.ensures.holds, c.write_each.ensures.holds) (named-others c.args.slot t _ c.args.copies.now.holds ps other counts)

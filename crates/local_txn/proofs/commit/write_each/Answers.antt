@@ -27,6 +27,7 @@ loop-write-preserved c =
       same = rw written (each_write-step c.loop-write.copies.copies c.args.writes.now _ _ here is ∙ c.loop-write.invariant.same);
       next = rw written next.1;
       holds = c.write.ensures.holds ∙ c.loop-write.invariant.holds;
+      objects = c.write.ensures.objects ∙ c.loop-write.invariant.objects;
     }
 
 pub returns-clause-copies : goal.returns-clause-copies

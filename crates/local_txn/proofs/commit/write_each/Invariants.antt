@@ -1,4 +1,4 @@
-use Rattle.std.proofs.Common.{◌≡◌, drop}
+use Rattle.std.proofs.Common.{◌≡◌, drop, length}
 use Rattle.zeus_model.specs.Commit.{each_write}
 use Rattle.zeus_model.specs.Local.{rewritten_copy}
 use Rattle.local_txn.specs.Tries.{AreNext}
@@ -12,4 +12,5 @@ invariant-loop-write l = record {
       ≡ each_write rewritten_copy l.initial.copies.copies l.writes;
   next : AreNext l.copies.copies (drop l.write-index l.writes);
   holds : l.copies.holds ≡ l.initial.copies.holds;
+  objects : length l.copies.copies ≡ length l.initial.copies.copies;
 }
