@@ -8,7 +8,6 @@ use Rattle.zeus_model.specs.declared.answer.Outcome.TheVariants.{Taken, Again as
 use Rattle.zeus_model.specs.declared.state.Gather.{Gather}
 use Rattle.zeus_model.specs.Ownership.{gather_for, greater_gather, is_decidable, is_noted, noted}
 use Rattle.zeus_model.specs.State.{Node}
-use Rattle.zeus_model.specs.Tables.{nth, put}
 use Rattle.arbitration.specs.declared.gathers.Ack.{Ack}
 use Rattle.arbitration.specs.declared.gathers.Ack.TheVariants.{New, Again, Older}
 use Rattle.arbitration.specs.declared.gathers.Decision.{Decision}

@@ -6,7 +6,7 @@ use Rattle.zeus_packet.specs.declared.write.Content.{Content}
 use Rattle.zeus_model.specs.declared.answer.Outcome.TheVariants.{Taken, Again}
 use Rattle.zeus_model.specs.declared.state.Gather.{Gather}
 use Rattle.zeus_model.specs.Act.{Act, still, just, did_then}
-use Rattle.zeus_model.specs.Ownership.{decide, decide_gathered, decide_on, decide_with, gather_for, gather_or_older, greater_gather, is_decidable, is_noted, noted, take_ack}
+use Rattle.zeus_model.specs.Ownership.{decide, decide_gathered, decide_on, decide_with, gather_for, gather_or_older, greater_gather, is_decidable, is_noted, take_ack}
 use Rattle.zeus_model.specs.State.{Node, gather, with_gather}
 use Rattle.arbitration.specs.declared.gathers.Decision.{Decision}
 use Rattle.arbitration.specs.Gathering.{ack_at, ack_by, decision_of, decision_with, gathered, gathered_by, outcome_of}

@@ -1,5 +1,5 @@
 -- Which streams there are at the start.
-use Rattle.std.specs.Prelude.{ℕ, ◌≡◌, List, replicate}
+use Rattle.std.specs.Prelude.{◌≡◌, List, replicate}
 use Rattle.zeus_base.specs.declared.config.Config.{Config}
 use Rattle.zeus_model.specs.State.{StreamLog, no_log}
 use Rattle.follower_log.specs.StreamLaws.{IsStreamOf-start}

@@ -1,4 +1,4 @@
-use Rattle.std.proofs.Common.{◌≡◌, true, false, sym, arith}
+use Rattle.std.proofs.Common.{◌≡◌, true, false, arith}
 use Rattle.zeus_model.specs.Ownership.{is_decidable}
 use Rattle.arbitration.proofs.Noting.{decision-made, decision-not}
 use Rattle.arbitration.proofs.gathers.decision_of.Goals as goal

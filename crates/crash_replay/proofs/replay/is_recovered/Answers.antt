@@ -1,4 +1,4 @@
-use Rattle.std.proofs.Common.{◌∙◌, None, is_none, ap}
+use Rattle.std.proofs.Common.{◌∙◌, is_none, ap}
 use Rattle.crash_replay.proofs.Searching.{is_none-from, none_stored-outside}
 use Rattle.crash_replay.proofs.replay.is_recovered.Goals as goal
 

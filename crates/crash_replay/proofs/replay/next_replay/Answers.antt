@@ -1,4 +1,4 @@
-use Rattle.std.proofs.Common.{◌≡◌, ◌∙◌, true, false, refl, sym, arith}
+use Rattle.std.proofs.Common.{◌≡◌, ◌∙◌, true, false, sym, arith}
 use Rattle.zeus_base.specs.Nodes.{has}
 use Rattle.zeus_model.specs.Tables.{below}
 use Rattle.crash_replay.proofs.Searching.{from_node-found, from_node-member, from_node-none, from_node-passed, next_stored-known}
