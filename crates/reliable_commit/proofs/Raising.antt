@@ -15,7 +15,7 @@ use Rattle.object_table.specs.WriteLaws.{each_write-append, each_write-nil}
 use Rattle.follower_log.specs.StreamLaws.{IsStreamOf-with_log_at, log_at-with_log_at, with_log_at-with_log_at}
 use Rattle.follower_log.specs.Streams.{IsStreamOf, log_at, lowest_below, raised_by_one, raised_rest, with_log_at}
 use Rattle.reliable_commit.specs.Following.{IsFollowed, raised_copies, raised_logs}
-use Rattle.reliable_commit.proofs.Within.{AreWithin-left, AreWithin-nil, IsFollowed-with_log_at, within_rest}
+use Rattle.reliable_commit.specs.FollowLaws.{AreWithin-left, AreWithin-nil, IsFollowed-with_log_at, within_rest}
 
 -- ---- the lowest entry
 

@@ -13,7 +13,7 @@ use Rattle.object_table.specs.Table.{AreWithin, each_unheld}
 use Rattle.object_table.specs.WriteLaws.{each_write-append, each_write-nil}
 use Rattle.object_table.specs.declared.hold.Hold.{Hold}
 use Rattle.reliable_commit.specs.Advancing.{named_of}
-use Rattle.reliable_commit.proofs.Within.{AreWithin-left, AreWithin-right}
+use Rattle.reliable_commit.specs.FollowLaws.{AreWithin-left, AreWithin-right}
 use Rattle.reliable_commit.proofs.Writing.{unheld-append, unheld-nil}
 
 -- ---- entries one by one

@@ -15,7 +15,7 @@ use Rattle.zeus_model.specs.State.{Node, StreamLog, log}
 use Rattle.follower_log.specs.Streams.{log_at}
 use Rattle.object_table.specs.Table.{AreWithin}
 use Rattle.reliable_commit.specs.Following.{IsFollowed, IsNodeWith, raised_copies, raised_logs}
-use Rattle.reliable_commit.proofs.Within.{IsFollowed-with_log_at, within_more}
+use Rattle.reliable_commit.specs.FollowLaws.{IsFollowed-with_log_at, within_more}
 
 -- ---- entries that have passed elsewhere
 
