@@ -1,28 +1,24 @@
 -- What passes from the front of a stream, by what a node has of it alone.
-use Rattle.std.proofs.Common.{ℕ, zero, suc, ◌≡◌, ◌<◌, ◌≤◌, ◌+◌, ◌-◌, ◌==◌, Bool, true, false, nat_lt, List, [], ◌∷◌, ◌++◌, Option, Some, length, take, drop, map, refl, sym, ap, ◌∙◌, arith}
-use Rattle.std.specs.List.{slice_get}
-use Rattle.std.specs.Prelude.{All}
+use Rattle.std.proofs.Common.{ℕ, zero, suc, ◌≡◌, ◌≤◌, ◌+◌, ◌-◌, Bool, true, false, nat_lt, List, [], ◌∷◌, Option, length, take, drop, map, refl, sym, ap, ◌∙◌, arith}
 use Rattle.std.proofs.lemmas.Bool.{eq-eqb, ltb-false, ne_eqb, lt-ltb, le-ltb}
-use Rattle.zeus_base.specs.Nodes.{join, meet, without}
+use Rattle.zeus_base.specs.Nodes.{meet, without}
 use Rattle.zeus_base.specs.TableLaws.{nth-put_same}
 use Rattle.zeus_base.specs.declared.order.Stream.{Stream}
-use Rattle.zeus_base.specs.declared.step.Passed.{Passed}
 use Rattle.zeus_packet.specs.declared.letter.Body.{Body}
 use Rattle.zeus_packet.specs.declared.letter.Body.TheVariants.{RVal}
-use Rattle.zeus_packet.specs.declared.letter.Letter.{Letter}
 use Rattle.zeus_model.specs.declared.state.Copy.{Copy}
 use Rattle.zeus_model.specs.declared.state.Kept.{Kept}
 use Rattle.zeus_model.specs.declared.state.Pending.{Pending}
 use Rattle.zeus_model.specs.Act.{to_each}
 use Rattle.zeus_model.specs.Commit.{advance_kept, advance_kept_by, advance_own, advance_own_by, as_kept, each_write, followers_of, passes, passing, pass_kept, pass_own, validated, writes_of}
-use Rattle.zeus_model.specs.State.{Node, Slot, StreamLog, log, no_log, no_slot, own_stream, slot}
+use Rattle.zeus_model.specs.State.{Node, Slot, StreamLog, log, no_slot, own_stream, slot}
 use Rattle.zeus_model.specs.Tables.{front}
 use Rattle.commit_pipeline.specs.Pipes as pipes
 use Rattle.commit_pipeline.specs.Pipes.{Waiting}
 use Rattle.follower_log.specs.StreamLaws.{log_at-with_log_at}
 use Rattle.follower_log.specs.Streams as streams
 use Rattle.follower_log.specs.Streams.{log_at, with_log_at}
-use Rattle.reliable_commit.specs.Advancing.{IsMemberWith, IsOwnWith, named_of, passed_by, told_of}
+use Rattle.reliable_commit.specs.Advancing.{IsMemberWith, IsOwnWith, passed_by, told_of}
 use Rattle.reliable_commit.specs.Following.{raised_copies, raised_logs}
 use Rattle.reliable_commit.specs.declared.advance.Advance.{Advance}
 

@@ -1,5 +1,5 @@
 -- The streams at the start, and a pipe with one entry.
-use Rattle.std.proofs.Common.{ℕ, ◌≡◌, ◌<◌, List, [], ◌∷◌, ◌++◌, map, refl, sym, arith, Ok, Err}
+use Rattle.std.proofs.Common.{ℕ, ◌≡◌, List, [], ◌∷◌, ◌++◌, map, arith, Ok, Err}
 use Rattle.std.specs.Prelude.{All, IfOk, Result, replicate}
 use Rattle.std.proofs.lemmas.List.Elements.{All-head, All-tail, All-cons}
 use Rattle.zeus_model.specs.declared.state.Pending.{Pending}

@@ -1,4 +1,4 @@
-use Rattle.std.proofs.Common.{◌≡◌, ◌<◌, ◌∙◌, length, ap}
+use Rattle.std.proofs.Common.{◌∙◌}
 use Rattle.zeus_model.specs.Commit.{applied}
 use Rattle.reliable_commit.specs.FollowLaws.{AreWithin-at}
 use Rattle.reliable_commit.proofs.Writing.{each_write-at, each_write-end}
