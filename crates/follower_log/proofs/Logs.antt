@@ -10,7 +10,7 @@ use Rattle.zeus_base.specs.declared.order.Stream.{Stream}
 use Rattle.zeus_packet.specs.declared.letter.RInv.{RInv}
 use Rattle.zeus_model.specs.declared.state.Kept.{Kept}
 use Rattle.zeus_model.specs.Commit.{acked_kept, is_within, next_kept, no_kept, on_kept_rack, stored_rinv}
-use Rattle.zeus_model.specs.State.{Node, StreamLog, log, no_log, with_log}
+use Rattle.zeus_model.specs.State.{Node, StreamLog, log, no_log}
 use Rattle.zeus_model.specs.Tables.{front}
 use Rattle.follower_log.specs.StreamLaws.{log_at-with_log_at}
 use Rattle.follower_log.specs.Streams.{IsStreamOf, log_at, outcome_of, outcome_of_ack, raised_by_one, raised_rest, with_log_at}

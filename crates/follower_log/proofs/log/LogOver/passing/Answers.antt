@@ -1,4 +1,4 @@
-use Rattle.std.proofs.Common.{◌≡◌, ◌<◌, ◌≤◌, length, sym, ap, ◌∙◌, add-one, arith}
+use Rattle.std.proofs.Common.{length, sym, ap, ◌∙◌, add-one, arith}
 use Rattle.zeus_model.specs.State.{StreamLog}
 use Rattle.follower_log.specs.Streams.{passes_at}
 use Rattle.follower_log.proofs.Logs.{found_within, front-end, front-step, front-stop, missing_past}
