@@ -1,6 +1,5 @@
 pub mod Raising
 pub mod Taking
-pub mod Within
 pub mod Writing
 pub mod Passing
 pub mod Steps

@@ -1,21 +1,18 @@
 -- Stored entries of a stream that have passed elsewhere, taken out one by one.
-use Rattle.std.proofs.Common.{ℕ, zero, suc, ◌≡◌, ◌<◌, ◌≤◌, ◌+◌, ◌-◌, Bool, true, false, nat_lt, List, [], ◌∷◌, ◌++◌, Option, Some, None, length, take, drop, refl, sym, ap, ◌∙◌, arith, inl, inr, if◌then◌else◌}
+use Rattle.std.proofs.Common.{ℕ, zero, suc, ◌≡◌, ◌<◌, ◌+◌, ◌-◌, Bool, true, false, nat_lt, List, [], ◌∷◌, Option, Some, None, length, take, drop, refl, sym, ap, ◌∙◌, arith, inl, inr, if◌then◌else◌}
 use Rattle.std.specs.List.{slice_get}
-use Rattle.std.proofs.lemmas.Bool.{cases_eq, cases_order, lt-ltb, le-ltb, ltb-true}
-use Rattle.zeus_base.specs.TableLaws.{nth-put_other, nth-put_same}
-use Rattle.zeus_base.specs.Tables.{nth, put}
+use Rattle.std.proofs.lemmas.Bool.{cases_order, lt-ltb, le-ltb, ltb-true}
 use Rattle.zeus_base.specs.declared.order.Stream.{Stream}
-use Rattle.zeus_packet.specs.declared.write.Write.{Write}
 use Rattle.zeus_model.specs.declared.state.Copy.{Copy}
 use Rattle.zeus_model.specs.declared.state.Kept.{Kept}
 use Rattle.zeus_model.specs.Commit.{each_write, validated, writes_of}
-use Rattle.zeus_model.specs.State.{Node, StreamLog, no_log}
+use Rattle.zeus_model.specs.State.{StreamLog}
 use Rattle.object_table.specs.Table.{AreWithin}
 use Rattle.object_table.specs.WriteLaws.{each_write-append, each_write-nil}
-use Rattle.follower_log.specs.StreamLaws.{IsStreamOf-with_log_at, log_at-with_log_at, with_log_at-with_log_at}
-use Rattle.follower_log.specs.Streams.{IsStreamOf, log_at, lowest_below, raised_by_one, raised_rest, with_log_at}
+use Rattle.follower_log.specs.StreamLaws.{log_at-with_log_at, with_log_at-with_log_at}
+use Rattle.follower_log.specs.Streams.{log_at, lowest_below, raised_by_one, raised_rest, with_log_at}
 use Rattle.reliable_commit.specs.Following.{IsFollowed, raised_copies, raised_logs}
-use Rattle.reliable_commit.proofs.Within.{AreWithin-left, AreWithin-nil, IsFollowed-with_log_at, within_rest}
+use Rattle.reliable_commit.specs.FollowLaws.{AreWithin-left, AreWithin-nil, IsFollowed-with_log_at, within_rest}
 
 -- ---- the lowest entry
 

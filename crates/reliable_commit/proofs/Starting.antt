@@ -1,28 +1,17 @@
 -- The streams at the start, and a pipe with one entry.
-use Rattle.std.proofs.Common.{ℕ, ◌≡◌, ◌<◌, List, [], ◌∷◌, ◌++◌, map, refl, sym, arith, Ok, Err}
+use Rattle.std.proofs.Common.{ℕ, ◌≡◌, List, [], ◌∷◌, ◌++◌, map, arith, Ok, Err}
 use Rattle.std.specs.Prelude.{All, IfOk, Result, replicate}
 use Rattle.std.proofs.lemmas.List.Elements.{All-head, All-tail, All-cons}
-use Rattle.zeus_base.specs.Tables.{nth}
-use Rattle.zeus_base.specs.declared.order.Stream.{Stream}
 use Rattle.zeus_model.specs.declared.state.Pending.{Pending}
 use Rattle.zeus_model.specs.Commit.{as_kept, writes_of}
 use Rattle.zeus_model.specs.State.{StreamLog, no_log}
 use Rattle.object_table.specs.Table.{AreWithin}
-use Rattle.follower_log.specs.StreamLaws.{IsStreamOf-start}
 use Rattle.reliable_commit.specs.Advancing.{named_of}
 use Rattle.reliable_commit.specs.Following.{IsFollowed}
-use Rattle.reliable_commit.proofs.Within.{AreWithin-append, AreWithin-nil}
-
--- the stream of the first node and slot, of three nodes with one slot each
-abbrev first_stream : Stream
-first_stream = record { node = 0; slot = 0 }
-
-start_followed : IsFollowed 1 (replicate 3 (replicate 1 no_log)) first_stream
-unfolding nth writes_of AreWithin
-start_followed = record { stream = IsStreamOf-start 3 1 first_stream (omega arith) (omega arith); within = tt }
+use Rattle.reliable_commit.specs.FollowLaws.{AreWithin-append, AreWithin-nil, IsFollowed-start}
 
 pub start_if : {E : Type 0} (r : Result (List (List StreamLog)) E) → IfOk r (λ logs. logs ≡ replicate 3 (replicate 1 no_log)) → IfOk r (λ logs. IsFollowed 1 logs record { node = 0; slot = 0 })
-start_if (Ok logs) h = rw h start_followed
+start_if (Ok logs) h = rw h (IsFollowed-start 1 3 1 record { node = 0; slot = 0 } (omega arith) (omega arith))
 start_if (Err e) h = tt
 
 pub one_entry : (p : Pending) → AreWithin 1 p.writes → AreWithin 1 (writes_of (map as_kept (p ∷ [])))

@@ -1,10 +1,9 @@
 -- Loops over entries, from the first on.
-use Rattle.std.proofs.Common.{ℕ, zero, suc, ◌≡◌, ◌<◌, ◌≤◌, ◌+◌, ◌-◌, List, [], ◌∷◌, ◌++◌, Option, Some, None, length, take, drop, map, refl, sym, ap, ◌∙◌, arith}
+use Rattle.std.proofs.Common.{ℕ, zero, suc, ◌≡◌, ◌<◌, ◌≤◌, List, [], ◌∷◌, ◌++◌, Option, Some, None, length, take, drop, map, refl, sym, arith}
 use Rattle.std.specs.List.{slice_get}
 use Rattle.std.specs.Prelude.{All}
 use Rattle.std.proofs.lemmas.List.Elements.{All-head, All-tail, All-nil, All-cons}
 use Rattle.zeus_base.specs.Nodes.{join}
-use Rattle.zeus_packet.specs.declared.write.Write.{Write}
 use Rattle.zeus_model.specs.declared.state.Copy.{Copy}
 use Rattle.zeus_model.specs.declared.state.Kept.{Kept}
 use Rattle.zeus_model.specs.declared.state.Pending.{Pending}
@@ -13,7 +12,7 @@ use Rattle.object_table.specs.Table.{AreWithin, each_unheld}
 use Rattle.object_table.specs.WriteLaws.{each_write-append, each_write-nil}
 use Rattle.object_table.specs.declared.hold.Hold.{Hold}
 use Rattle.reliable_commit.specs.Advancing.{named_of}
-use Rattle.reliable_commit.proofs.Within.{AreWithin-left, AreWithin-right}
+use Rattle.reliable_commit.specs.FollowLaws.{AreWithin-left, AreWithin-right}
 use Rattle.reliable_commit.proofs.Writing.{unheld-append, unheld-nil}
 
 -- ---- entries one by one

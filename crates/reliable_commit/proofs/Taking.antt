@@ -1,5 +1,5 @@
 -- What a follower does with the letters of a stream, by its copies and streams alone.
-use Rattle.std.proofs.Common.{ℕ, ◌≡◌, ◌<◌, ◌≤◌, ◌-◌, ◌==◌, Bool, true, false, nat_lt, List, [], ◌∷◌, ◌++◌, Option, None, length, refl, sym, ap, ◌∙◌, arith}
+use Rattle.std.proofs.Common.{ℕ, ◌≡◌, ◌<◌, ◌≤◌, ◌==◌, Bool, true, false, nat_lt, List, [], ◌∷◌, ◌++◌, Option, None, length, refl, sym, ap, ◌∙◌}
 use Rattle.std.proofs.lemmas.Bool.{eq-eqb, eqb-true, false≢true, ne_eqb, lt-ltb, le-ltb}
 use Rattle.zeus_base.specs.declared.order.Stream.{Stream}
 use Rattle.zeus_packet.specs.declared.letter.Body.TheVariants.{RAck}
@@ -15,7 +15,7 @@ use Rattle.zeus_model.specs.State.{Node, StreamLog, log}
 use Rattle.follower_log.specs.Streams.{log_at}
 use Rattle.object_table.specs.Table.{AreWithin}
 use Rattle.reliable_commit.specs.Following.{IsFollowed, IsNodeWith, raised_copies, raised_logs}
-use Rattle.reliable_commit.proofs.Within.{IsFollowed-with_log_at, within_more}
+use Rattle.reliable_commit.specs.FollowLaws.{IsFollowed-with_log_at, within_more}
 
 -- ---- entries that have passed elsewhere
 

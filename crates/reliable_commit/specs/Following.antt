@@ -1,5 +1,5 @@
 -- What a follower answers to the letters of a stream, and what it then has of copies and streams.
-use Rattle.std.specs.Prelude.{ℕ, ◌≡◌, ◌-◌, List, [], ◌∷◌, length, take, drop, nat_lt, Option, if◌then◌else◌}
+use Rattle.std.specs.Prelude.{ℕ, ◌≡◌, ◌-◌, List, [], ◌∷◌, take, drop, nat_lt, Option, if◌then◌else◌}
 use Rattle.zeus_base.specs.declared.order.Stream.{Stream}
 use Rattle.zeus_packet.specs.declared.letter.Body.TheVariants.{RAck}
 use Rattle.zeus_packet.specs.declared.letter.Letter.{Letter}

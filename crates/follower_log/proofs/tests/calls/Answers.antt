@@ -1,4 +1,3 @@
-use Rattle.follower_log.specs.Streams.{IsStreamOf}
 use Rattle.follower_log.proofs.tests.calls.Goals as goal
 
 pub passing-both-requires : goal.passing-both-requires

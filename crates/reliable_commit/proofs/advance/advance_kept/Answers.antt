@@ -1,6 +1,5 @@
-use Rattle.std.proofs.Common.{◌≡◌, ◌≤◌, ◌+◌, ◌-◌, ℕ, List, sym, ap, ◌∙◌, arith}
+use Rattle.std.proofs.Common.{◌+◌, ℕ, List, ap, ◌∙◌, arith}
 use Rattle.zeus_base.specs.Nodes.{meet, without}
-use Rattle.follower_log.specs.Streams.{log_at}
 use Rattle.reliable_commit.specs.declared.advance.Advance.{Advance}
 use Rattle.reliable_commit.proofs.Passing.{copies_of, done_raised, is_replay, kept_copies, kept_letters, kept_logs, kept_passed, kept_passing, logs_of}
 use Rattle.reliable_commit.proofs.advance.advance_kept.Goals as goal

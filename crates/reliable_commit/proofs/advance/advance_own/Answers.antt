@@ -1,4 +1,4 @@
-use Rattle.std.proofs.Common.{◌≡◌, ◌≤◌, ◌+◌, ◌-◌, ℕ, List, sym, ap, ◌∙◌, arith}
+use Rattle.std.proofs.Common.{ℕ, List, ap, ◌∙◌}
 use Rattle.zeus_base.specs.Nodes.{meet, without}
 use Rattle.reliable_commit.specs.declared.advance.Advance.{Advance}
 use Rattle.reliable_commit.proofs.Passing.{is_advance, own_copies, own_done, own_letters, own_passed, own_passing, own_pending}

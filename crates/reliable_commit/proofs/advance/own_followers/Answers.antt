@@ -1,8 +1,6 @@
-use Rattle.std.proofs.Common.{◌≡◌, ◌<◌, ◌≤◌, ◌+◌, ◌-◌, ℕ, Some, suc, length, map, refl, sym, ap, ◌∙◌, arith}
+use Rattle.std.proofs.Common.{◌≡◌, ◌<◌, ◌+◌, ◌-◌, ℕ, Some, suc, map, sym, ◌∙◌, arith}
 use Rattle.std.specs.List.{slice_get}
-use Rattle.zeus_base.specs.Nodes.{join}
 use Rattle.zeus_model.specs.Commit.{as_kept}
-use Rattle.follower_log.specs.Streams.{log_at}
 use Rattle.reliable_commit.proofs.Steps.{as_kept-found, followers-none, followers-step, found}
 use Rattle.reliable_commit.proofs.advance.own_followers.Goals as goal
 use Rattle.reliable_commit.proofs.advance.own_followers.Goals.{in-Some, in_default}

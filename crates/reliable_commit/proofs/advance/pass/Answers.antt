@@ -1,8 +1,6 @@
-use Rattle.std.proofs.Common.{◌≡◌, ◌<◌, ◌≤◌, ◌+◌, ◌-◌, ℕ, suc, length, refl, sym, ap, ◌∙◌, arith}
-use Rattle.std.specs.Prelude.{All}
+use Rattle.std.proofs.Common.{◌≡◌, ◌<◌, ◌+◌, ◌-◌, ℕ, suc, length, sym, ap, ◌∙◌, arith}
 use Rattle.commit_pipeline.specs.Pipes.{Waiting}
-use Rattle.reliable_commit.specs.Advancing.{named_of}
-use Rattle.reliable_commit.proofs.Steps.{first_names, first_writes, none_first, pass-copies, pass-few, pass-holds, pass-rest, pass_none-copies, pass_none-holds, rest_names, rest_writes}
+use Rattle.reliable_commit.proofs.Steps.{first_names, first_writes, pass-copies, pass-few, pass-holds, pass-rest, pass_none-copies, pass_none-holds, rest_names, rest_writes}
 use Rattle.reliable_commit.proofs.Writing.{All-at}
 use Rattle.reliable_commit.proofs.advance.pass.Goals as goal
 

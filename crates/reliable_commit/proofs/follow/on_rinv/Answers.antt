@@ -1,8 +1,8 @@
-use Rattle.std.proofs.Common.{◌≡◌, length, refl, sym, ◌∙◌}
-use Rattle.zeus_model.specs.Commit.{on_rinv, raise, stored_rinv}
+use Rattle.std.proofs.Common.{refl, sym, ◌∙◌}
+use Rattle.zeus_model.specs.Commit.{raise}
 use Rattle.follower_log.specs.Streams.{outcome_of}
 use Rattle.follower_log.specs.declared.stored.Store.TheVariants.{Stored, Again, Gap, Window}
-use Rattle.reliable_commit.specs.Following.{IsNodeWith, rinv_acks, rinv_outcome}
+use Rattle.reliable_commit.specs.Following.{rinv_acks, rinv_outcome}
 use Rattle.reliable_commit.proofs.Taking.{copies_after, on_rinv-other, on_rinv-own, other_is, own_is, raised_node, sent_after, sent_after-raise, stored_copies, stored_followed, stored_sent}
 use Rattle.reliable_commit.proofs.follow.on_rinv.Goals as goal
 

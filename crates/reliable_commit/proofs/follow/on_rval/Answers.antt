@@ -1,8 +1,4 @@
-use Rattle.std.proofs.Common.{◌≡◌, ◌<◌, ◌≤◌, refl, sym, ◌∙◌}
-use Rattle.zeus_base.specs.declared.order.Stream.{Stream}
-use Rattle.zeus_model.specs.State.{StreamLog}
-use Rattle.zeus_model.specs.Commit.{on_rval}
-use Rattle.follower_log.specs.Streams.{log_at}
+use Rattle.std.proofs.Common.{◌≡◌, refl, sym, ◌∙◌}
 use Rattle.reliable_commit.specs.Following.{rval_outcome}
 use Rattle.reliable_commit.proofs.Taking.{done_high, done_low, on_rval-again, on_rval-own, on_rval-taken, other_is, own_is, raised_node}
 use Rattle.reliable_commit.proofs.follow.on_rval.Goals as goal

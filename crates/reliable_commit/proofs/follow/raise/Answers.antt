@@ -1,6 +1,5 @@
-use Rattle.std.proofs.Common.{◌≡◌, length, refl, ◌∙◌}
+use Rattle.std.proofs.Common.{refl, ◌∙◌}
 use Rattle.follower_log.specs.StreamLaws.{log_at-with_log_at, none_lowest}
-use Rattle.follower_log.specs.Streams.{log_at}
 use Rattle.reliable_commit.proofs.Raising.{followed_rest, followed_step, lowest, raised_copies-none, raised_copies-step, raised_logs-none, raised_logs-step, smaller, within_lowest}
 use Rattle.reliable_commit.proofs.follow.raise.Goals as goal
 

@@ -1,6 +1,6 @@
-use Rattle.std.proofs.Common.{◌≡◌, ◌<◌, ◌∙◌, length, ap}
+use Rattle.std.proofs.Common.{◌∙◌}
 use Rattle.zeus_model.specs.Commit.{applied}
-use Rattle.reliable_commit.proofs.Within.{AreWithin-at}
+use Rattle.reliable_commit.specs.FollowLaws.{AreWithin-at}
 use Rattle.reliable_commit.proofs.Writing.{each_write-at, each_write-end}
 use Rattle.reliable_commit.proofs.writes.apply_each.Goals as goal
 

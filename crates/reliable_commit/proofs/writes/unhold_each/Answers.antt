@@ -1,5 +1,5 @@
-use Rattle.std.proofs.Common.{◌≡◌, ◌<◌, ◌∙◌, length, ap}
-use Rattle.reliable_commit.proofs.Writing.{All-at, unheld-at, unheld-end}
+use Rattle.std.proofs.Common.{◌∙◌}
+use Rattle.reliable_commit.proofs.Writing.{unheld-at, unheld-end}
 use Rattle.reliable_commit.proofs.writes.unhold_each.Goals as goal
 
 pub loop-object-preserved : goal.loop-object-preserved

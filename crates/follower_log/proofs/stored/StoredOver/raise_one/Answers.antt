@@ -1,6 +1,5 @@
-use Rattle.std.proofs.Common.{◌≡◌, ◌<◌, None, Some, length, sym, ◌∙◌, ap, arith}
+use Rattle.std.proofs.Common.{◌<◌, length, arith}
 use Rattle.follower_log.specs.StreamLaws.{IsStreamOf-with_log_at}
-use Rattle.follower_log.specs.Streams.{with_log_at}
 use Rattle.follower_log.proofs.Logs.{log_read, log_written, raised_written, slot_within, with_log_at-same}
 use Rattle.follower_log.proofs.stored.StoredOver.raise_one.Goals as goal
 

@@ -1,7 +1,5 @@
-use Rattle.std.proofs.Common.{◌≡◌, ◌<◌, [], length, sym, ◌∙◌, ap, arith}
-use Rattle.zeus_model.specs.State.{StreamLog}
+use Rattle.std.proofs.Common.{◌<◌, length, arith}
 use Rattle.follower_log.specs.StreamLaws.{IsStreamOf-with_log_at}
-use Rattle.follower_log.specs.Streams.{with_log_at}
 use Rattle.follower_log.proofs.Logs.{log_read, log_written, rest_written, slot_within}
 use Rattle.follower_log.proofs.stored.StoredOver.raise_rest.Goals as goal
 

@@ -1,7 +1,6 @@
-use Rattle.std.proofs.Common.{◌≡◌, ◌<◌, length, sym, ◌∙◌, ap, arith}
+use Rattle.std.proofs.Common.{◌<◌, length, sym, ◌∙◌, arith}
 use Rattle.zeus_model.specs.Commit.{stored_rinv}
 use Rattle.follower_log.specs.StreamLaws.{IsStreamOf-with_log_at}
-use Rattle.follower_log.specs.Streams.{with_log_at}
 use Rattle.follower_log.proofs.Logs.{log_of, log_read, log_written, slot_within, written_of, stored_logs}
 use Rattle.follower_log.proofs.stored.StoredOver.store.Goals as goal
 

@@ -1,22 +1,21 @@
--- Which objects entries write, and which streams a follower has.
-use Rattle.std.proofs.Common.{ℕ, zero, suc, ◌≡◌, ◌<◌, ◌≤◌, ◌+◌, ◌-◌, Bool, true, false, List, [], ◌∷◌, ◌++◌, Some, length, take, drop, map, refl, sym, ap, subst, ◌∙◌, arith, inl, inr, append_assoc}
-use Rattle.std.specs.List.{slice_get}
-use Rattle.std.specs.Prelude.{All}
-use Rattle.std.proofs.Math.ListN.{get_or}
+-- Laws of what is followed: which objects entries write, and which streams there are.
+use Rattle.std.specs.Prelude.{ℕ, zero, suc, ◌≡◌, ◌<◌, ◌-◌, Bool, true, false, ◌&&◌, not, List, [], ◌∷◌, ◌++◌, length, drop, replicate, get_or, refl}
+use Rattle.std.proofs.Common.{sym, ap, ◌∙◌, arith, inl, inr, append_assoc}
 use Rattle.std.proofs.lemmas.Bool.{cases_eq}
-use Rattle.std.proofs.lemmas.List.Elements.{All-head, All-tail, All-nil, All-cons}
+use Rattle.zeus_base.specs.Nodes.{has}
 use Rattle.zeus_base.specs.TableLaws.{nth-put_other, nth-put_same}
 use Rattle.zeus_base.specs.Tables.{nth, put}
 use Rattle.zeus_base.specs.declared.order.Stream.{Stream}
 use Rattle.zeus_packet.specs.declared.write.Write.{Write}
 use Rattle.zeus_model.specs.declared.state.Kept.{Kept}
-use Rattle.zeus_model.specs.Commit.{as_kept, writes_of}
-use Rattle.zeus_model.specs.State.{StreamLog, no_log}
+use Rattle.zeus_model.specs.Commit.{acked_kept, is_within, no_kept, on_kept_rack, writes_of}
+use Rattle.zeus_model.specs.State.{Node, StreamLog, log, no_log}
 use Rattle.object_table.specs.Table.{AreWithin}
-use Rattle.follower_log.specs.StreamLaws.{IsStreamOf-with_log_at, log_at-with_log_at}
+use Rattle.follower_log.specs.StreamLaws.{IsStreamOf-start, IsStreamOf-with_log_at}
 use Rattle.follower_log.specs.Streams.{IsStreamOf, log_at, with_log_at}
 use Rattle.reliable_commit.specs.Following.{IsFollowed}
 
+-- each write is of an object that there is
 pub AreWithin-at : (n : ℕ) (ws : List Write) (i : ℕ) (d : Write) → AreWithin n ws → i < length ws → (get_or ws i d).obj < n
 unfolding AreWithin
 AreWithin-at n [] i d h k = absurd (omega arith)
@@ -42,25 +41,13 @@ pub AreWithin-nil : (n : ℕ) → AreWithin n []
 unfolding AreWithin
 AreWithin-nil n = tt
 
--- the writes of the first entry, and of the others
-pub within_first : (n : ℕ) (ks : List Kept) (e : Kept) → AreWithin n (writes_of ks) → Some e ≡ slice_get ks 0 → AreWithin n e.writes
-unfolding writes_of
-within_first n [] e h is = absurd cc
-within_first n (k ∷ ks) e h is =
-    let same : e ≡ k = cc in
-    rw same (AreWithin-left n k.writes (writes_of ks) h)
-
+-- so do the others than the first entry
 pub within_rest : (n : ℕ) (ks : List Kept) → AreWithin n (writes_of ks) → AreWithin n (writes_of (drop 1 ks))
 unfolding writes_of
 within_rest n [] h = h
 within_rest n (k ∷ ks) h = AreWithin-right n k.writes (writes_of ks) h
 
-pub within_drop : (n i : ℕ) (ks : List Kept) → AreWithin n (writes_of ks) → AreWithin n (writes_of (drop i ks))
-unfolding writes_of
-within_drop n zero ks h = h
-within_drop n (suc i) [] h = h
-within_drop n (suc i) (k ∷ ks) h = within_drop n i ks (AreWithin-right n k.writes (writes_of ks) h)
-
+-- the writes of some entries and then others
 pub writes_of-append : (ks ls : List Kept) → writes_of (ks ++ ls) ≡ writes_of ks ++ writes_of ls
 unfolding writes_of
 writes_of-append [] ls = refl
@@ -95,4 +82,42 @@ IsFollowed-with_log_at n logs s t l h w f =
     record {
       stream = IsStreamOf-with_log_at logs s t l h f.stream;
       within = log_at-either (λ (m : StreamLog). AreWithin n (writes_of m.kept)) logs s t l w f.within;
+    }
+
+-- an entry that gets an acknowledgement writes what it wrote
+within_acked : (k : ℕ) (ks : List Kept) (i from : ℕ) → AreWithin k (writes_of ks) → AreWithin k (writes_of (put no_kept ks i (acked_kept (nth no_kept ks i) from)))
+unfolding writes_of put nth AreWithin
+within_acked k [] zero from h = tt
+within_acked k [] (suc i) from h = within_acked k [] i from h
+within_acked k (e ∷ es) zero from h = h
+within_acked k (e ∷ es) (suc i) from h =
+    AreWithin-append k e.writes (writes_of (put no_kept es i (acked_kept (nth no_kept es i) from))) (AreWithin-left k e.writes (writes_of es) h) (within_acked k es i from (AreWithin-right k e.writes (writes_of es) h))
+
+followed_acked : (k : ℕ) (n : Node) (from : ℕ) (s t : Stream) (number : ℕ) (b : Bool) → (is_within number (log n s).done (length (log n s).kept) && not (has from (nth no_kept (log n s).kept (number - (log n s).done)).acks)) ≡ b → IsFollowed k n.logs s → IsFollowed k n.logs t → IsFollowed k (on_kept_rack n from s number).node.logs t
+unfolding on_kept_rack
+followed_acked k n from s t number true e h g =
+    rw e
+    (IsFollowed-with_log_at k n.logs s t
+    record { done = (log n s).done; kept = put no_kept (log n s).kept (number - (log n s).done) (acked_kept (nth no_kept (log n s).kept (number - (log n s).done)) from) } h.stream
+    (within_acked k (log n s).kept (number - (log n s).done) from h.within) g)
+followed_acked k n from s t number false e h g = rw e g
+
+-- what is followed stays so after an acknowledgement
+pub IsFollowed-on_kept_rack : (k : ℕ) (n : Node) (from : ℕ) (s t : Stream) (number : ℕ) → IsFollowed k n.logs s → IsFollowed k n.logs t → IsFollowed k (on_kept_rack n from s number).node.logs t
+IsFollowed-on_kept_rack k n from s t number h g =
+    followed_acked k n from s t number (is_within number (log n s).done (length (log n s).kept) && not (has from (nth no_kept (log n s).kept (number - (log n s).done)).acks)) refl h g
+
+nth-replicate : {A : Type 0} (d a : A) (n i : ℕ) → i < n → nth d (replicate n a) i ≡ a
+unfolding nth
+nth-replicate d a zero i h = absurd (omega arith)
+nth-replicate d a (suc n) zero h = refl
+nth-replicate d a (suc n) (suc i) h = nth-replicate d a n i (omega arith)
+
+-- at the start each stream that there is is followed
+pub IsFollowed-start : (k nodes slots : ℕ) (s : Stream) → s.node < nodes → s.slot < slots → IsFollowed k (replicate nodes (replicate slots no_log)) s
+unfolding writes_of AreWithin
+IsFollowed-start k nodes slots s h g =
+    record {
+      stream = IsStreamOf-start nodes slots s h g;
+      within = rw (nth-replicate [] (replicate slots no_log) nodes s.node h, nth-replicate no_log no_log slots s.slot g) tt;
     }
