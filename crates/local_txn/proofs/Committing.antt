@@ -133,10 +133,15 @@ can_hold_each : (s objects : ℕ) (holds : List (Option Hold)) (xs : List ℕ) �
 unfolding CanHoldEach
 can_hold_each s objects holds [] d each = tt
 can_hold_each s objects holds (x ∷ xs) d each =
-    let here = each x (mentions-first x xs) in
-    (here.0, (here.1, can_hold_each s objects (put None holds x (Some (held s (nth None holds x)))) xs (distinct-rest x xs d)
-    (λ y m. let there = each y (mentions-later y x xs m) in
-    (there.0, rw (nth-put_other None holds x y (Some (held s (nth None holds x))) (other x y xs d m)) there.1))))
+    let here = each x (mentions-first x xs) in (
+      here.0,
+      (
+        here.1,
+        can_hold_each s objects (put None holds x (Some (held s (nth None holds x)))) xs (distinct-rest x xs d)
+            (λ y m. let there = each y (mentions-later y x xs m) in
+            (there.0, rw (nth-put_other None holds x y (Some (held s (nth None holds x))) (other x y xs d m)) there.1)),
+      ),
+    )
 
 free_at : (s : ℕ) (holds : List (Option Hold)) (x : ℕ) → None ≡ held_at s holds x → None ≡ held_elsewhere s x (hold_slot (nth None holds x))
 unfolding held_at
@@ -183,15 +188,16 @@ unfolding AreNext new_writes keys
 are_next n copies [] d each = tt
 are_next n copies (w ∷ ws) d each =
     let here = each w.0 (mentions-first w.0 (keys ws)) in
-    let write : Write = record { obj = w.0; ver = version_of (copy n w.0) + 1; value = w.1 } in
-    (record { within = here.within; rises = rw here.same here.rises; next = ap (λ c. version_of c + 1) (sym here.same) },
-    are_next n (after_write rewritten_copy copies write) ws (distinct-rest w.0 (keys ws) d)
-    (λ y m. let there = each y (mentions-later y w.0 (keys ws) m) in
-    record {
-      within = rw (length-put None copies w.0 (rewritten_copy write (nth None copies w.0)) here.within) there.within;
-      rises = there.rises;
-      same = nth-put_other None copies w.0 y (rewritten_copy write (nth None copies w.0)) (other w.0 y (keys ws) d m) ∙ there.same;
-    }))
+    let write : Write = record { obj = w.0; ver = version_of (copy n w.0) + 1; value = w.1 } in (
+      record { within = here.within; rises = rw here.same here.rises; next = ap (λ c. version_of c + 1) (sym here.same) },
+      are_next n (after_write rewritten_copy copies write) ws (distinct-rest w.0 (keys ws) d)
+          (λ y m. let there = each y (mentions-later y w.0 (keys ws) m) in
+          record {
+            within = rw (length-put None copies w.0 (rewritten_copy write (nth None copies w.0)) here.within) there.within;
+            rises = there.rises;
+            same = nth-put_other None copies w.0 y (rewritten_copy write (nth None copies w.0)) (other w.0 y (keys ws) d m) ∙ there.same;
+          }),
+    )
 
 rising_key : (copies : List (Option Copy)) (ws : List (ℕ × Value)) (x : ℕ) → AreRising copies ws → mentions x (keys ws) ≡ true → version_of (nth None copies x) ≢ 2 ^ 64 - 1
 unfolding AreRising keys mentions

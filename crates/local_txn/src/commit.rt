@@ -8,8 +8,8 @@ ghost use Rattle.object_table.specs.Table.{AreWithin, each_held};
 ghost use Rattle.local_txn.specs.Tries.{AreNamed, AreNext, AreRising, CanHoldEach, IsClear, entry_here, node_of, tried_as, writes_here};
 ghost use Rattle.zeus_model.specs.declared.answer.Tried.TheVariants.{Committed};
 
-use crate::causes::version;
 use crate::attempt::WriteTry;
+use crate::causes::version;
 use commit_pipeline::{Full, Pending, Pipe};
 use object_table::Copies;
 use owner_entry::Dir;

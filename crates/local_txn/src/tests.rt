@@ -1,5 +1,6 @@
 //! Tests of typical calls.
-ghost use Rattle.std.specs.Prelude.{◌≡◌, ◌<◌, ℕ, All, IfOk, None, OnSome, length, replicate};
+ghost use Rattle.std.specs.Prelude.{◌≡◌, ◌<◌, ℕ, All, IfOk, IfSome, None, length, nat_lt, replicate};
+ghost use Rattle.std.specs.List.{list_all};
 ghost use Rattle.zeus_txn.specs.Ops.{named};
 ghost use Rattle.local_txn.specs.Tries.{AreNamed};
 
@@ -67,12 +68,19 @@ fn start_tables(alloc: Global) -> Result<Tables, Fail>
     })
 }
 
+/// Whether all are x, y and z.
+fn are_known(objects: &[ObjId]) -> bool
+    ensures { result ≡ list_all (λ x. nat_lt x 3) objects.now }
+{
+    objects.iter().all(|object| object.0 < 3)
+}
+
 /// The transaction, where it is one and names x, y and z alone.
 fn transaction(alloc: Global, ops: &[Op]) -> Option<Tx>
-    ensures { OnSome result (λ tx. All (λ x. x < 3) (named tx)) }
+    ensures { IfSome result (λ tx. All (λ x. x < 3) (named tx)) }
 {
     let tx = Tx::new(alloc, ops).ok()?;
-    if tx.named().as_slice().iter().all(|object| object.0 < 3) {
+    if are_known(tx.named().as_slice()) {
         Some(tx)
     } else {
         None
@@ -116,10 +124,20 @@ fn an_owner_commits_until_another_slot_holds(rt: HostRuntime) -> Result<(), Fail
     assert_eq!(rt; tables.copies.holder(Y), Some(SlotId(0)));
     let followers = pipe.pending(0).map(|entry| entry.followers);
     assert_eq!(rt; followers, Some(NodeSet::empty().insert(NodeId(1))));
-    assert!(rt; matches!(attempt(&mut tables.copies, &tables.dir, &mut pipe, 8, &tx), WriteTry::Committed(1, _)));
+    assert!(rt;
+        matches!(
+            attempt(&mut tables.copies, &tables.dir, &mut pipe, 8, &tx),
+            WriteTry::Committed(1, _)
+        )
+    );
     let ops = [Op::Add(X, 1), Op::Put(Z, Value::Num(1))];
     let foreign = transaction(alloc, &ops).expect(&rt, "a transaction");
-    assert!(rt; matches!(attempt(&mut tables.copies, &tables.dir, &mut pipe, 9, &foreign), WriteTry::NotOwner(Z)));
+    assert!(rt;
+        matches!(
+            attempt(&mut tables.copies, &tables.dir, &mut pipe, 9, &foreign),
+            WriteTry::NotOwner(Z)
+        )
+    );
     assert_eq!(rt; pipe.len(), 2);
     Ok(())
 }
@@ -132,7 +150,12 @@ fn an_object_that_another_slot_holds_is_not_written(rt: HostRuntime) -> Result<(
     tables.copies.hold(Y, SlotId(1));
     let ops = [Op::Add(X, 1), Op::Get(Y)];
     let tx = transaction(alloc, &ops).expect(&rt, "a transaction");
-    assert!(rt; matches!(attempt(&mut tables.copies, &tables.dir, &mut pipe, 7, &tx), WriteTry::Held(Y, SlotId(1))));
+    assert!(rt;
+        matches!(
+            attempt(&mut tables.copies, &tables.dir, &mut pipe, 7, &tx),
+            WriteTry::Held(Y, SlotId(1))
+        )
+    );
     assert_eq!(rt; tables.copies.holder(X), None);
     assert_eq!(rt; pipe.len(), 0);
     Ok(())
@@ -150,9 +173,19 @@ fn the_last_version_is_worn_out(rt: HostRuntime) -> Result<(), Fail> {
     tables.copies.place_copy(X, &content);
     let ops = [Op::Add(X, 1)];
     let tx = transaction(alloc, &ops).expect(&rt, "a transaction");
-    assert!(rt; matches!(attempt(&mut tables.copies, &tables.dir, &mut pipe, 7, &tx), WriteTry::WornOut));
+    assert!(rt;
+        matches!(
+            attempt(&mut tables.copies, &tables.dir, &mut pipe, 7, &tx),
+            WriteTry::WornOut
+        )
+    );
     let ops = [Op::Get(X), Op::Add(Y, 1)];
     let tx = transaction(alloc, &ops).expect(&rt, "a transaction");
-    assert!(rt; matches!(attempt(&mut tables.copies, &tables.dir, &mut pipe, 8, &tx), WriteTry::Committed(0, _)));
+    assert!(rt;
+        matches!(
+            attempt(&mut tables.copies, &tables.dir, &mut pipe, 8, &tx),
+            WriteTry::Committed(0, _)
+        )
+    );
     Ok(())
 }
