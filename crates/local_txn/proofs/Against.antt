@@ -9,18 +9,15 @@ use Rattle.zeus_txn.specs.Ops.{named}
 use Rattle.zeus_txn.specs.declared.ops.Op.{Op}
 use Rattle.zeus_model.specs.declared.answer.Tried.{Tried}
 use Rattle.zeus_model.specs.declared.answer.Tried.TheVariants as rules
-use Rattle.zeus_model.specs.declared.state.Current.{Current}
 use Rattle.zeus_model.specs.declared.state.Entry.{Entry}
 use Rattle.zeus_model.specs.declared.state.Pending.{Pending}
-use Rattle.zeus_model.specs.Local.{full_cause, held_elsewhere, holder_cause, owner_cause, worn_cause, write_cause, write_row}
-use Rattle.zeus_model.specs.State.{Node, Slot, holder, next_number, owns, slot}
+use Rattle.zeus_model.specs.Local.{full_cause, held_elsewhere, holder_cause, owner_cause, worn_cause, write_cause}
+use Rattle.zeus_model.specs.State.{Node, holder, next_number, owns, slot}
 use Rattle.zeus_model.specs.Tables.{first_of, nth, or_else, where_true}
-use Rattle.zeus_model.specs.World.{no_node}
 use Rattle.object_table.specs.declared.hold.Hold.{Hold}
 use Rattle.object_table.specs.Table.{Table, hold_slot}
 use Rattle.commit_pipeline.specs.Pipes.{Waiting}
 use Rattle.local_txn.specs.declared.causes.HeldBy.{HeldBy}
-use Rattle.local_txn.specs.declared.attempt.WriteTry.{WriteTry}
 use Rattle.local_txn.specs.declared.attempt.WriteTry.TheVariants.{PipeFull, NotOwner, Held, WornOut}
 use Rattle.local_txn.specs.Tries.{IsNodeOf, cause_as, held_at, node_of, owner_at, owns_at, told_held, told_not_owned, tried_as, worn_at}
 use Rattle.local_txn.proofs.Worn.{worn_is}

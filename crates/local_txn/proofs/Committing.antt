@@ -1,12 +1,11 @@
 -- What a commit writes and holds, one object after another.
-use Rattle.std.proofs.Common.{ℕ, zero, suc, ◌≡◌, ◌≢◌, ◌<◌, ◌≤◌, ◌+◌, ◌-◌, ◌^◌, Bool, true, false, List, [], ◌∷◌, ◌++◌, Option, Some, None, length, take, drop, map, refl, sym, ap, ◌∙◌, subst, add-one, drop-cons, arith, length-append}
+use Rattle.std.proofs.Common.{ℕ, zero, suc, ◌≡◌, ◌≢◌, ◌<◌, ◌≤◌, ◌+◌, ◌-◌, ◌^◌, Bool, true, false, List, [], ◌∷◌, ◌++◌, Option, Some, None, length, take, drop, refl, sym, ap, ◌∙◌, subst, add-one, drop-cons, arith}
 use Rattle.std.specs.Prelude.{◌==◌, ◌||◌, not, All}
-use Rattle.std.specs.List.{list_any}
 use Rattle.std.proofs.Math.ListN.{get_or}
 use Rattle.std.proofs.lemmas.Bool.{eqb-true}
 use Rattle.std.proofs.lemmas.Bool.Decides.{nat_tests}
 use Rattle.std.proofs.lemmas.List.{drop_all, take_more}
-use Rattle.zeus_base.specs.Nodes.{join, without}
+use Rattle.zeus_base.specs.Nodes.{join}
 use Rattle.zeus_base.specs.TableLaws.{length-put, nth-put_other}
 use Rattle.zeus_base.specs.declared.value.Value.{Value}
 use Rattle.zeus_packet.specs.declared.write.Write.{Write}
@@ -14,7 +13,6 @@ use Rattle.zeus_txn.specs.Ops.{mentioned, mentions, named, named_after, object_o
 use Rattle.zeus_txn.specs.OpLaws.{mentions-append, mentions-one, mentioned-new, mentioned-old}
 use Rattle.zeus_txn.specs.RunLaws.{AreDistinct, keys, run-are_of}
 use Rattle.zeus_txn.specs.declared.ops.Op.{Op}
-use Rattle.zeus_txn.specs.declared.reply.Ran.{Ran}
 use Rattle.zeus_model.specs.declared.answer.Tried.{Tried}
 use Rattle.zeus_model.specs.declared.answer.Tried.TheVariants.{Held}
 use Rattle.zeus_model.specs.declared.state.Copy.{Copy}
@@ -28,7 +26,7 @@ use Rattle.object_table.specs.declared.hold.Hold.{Hold}
 use Rattle.object_table.specs.Table.{AreWithin, CanHold, after_write, each_held, held, hold_count, hold_slot, next_write}
 use Rattle.object_table.specs.HoldLaws.{hold_count-held}
 use Rattle.local_txn.specs.HeldLaws.{held-once, held-other, naming-more, naming-same}
-use Rattle.local_txn.specs.Tries.{AreNamed, AreNext, AreRising, CanHoldEach, IsNext, held_at, naming, node_of}
+use Rattle.local_txn.specs.Tries.{AreNamed, AreNext, AreRising, CanHoldEach, IsNext, held_at, naming}
 
 -- ---- the named objects are different ones
 

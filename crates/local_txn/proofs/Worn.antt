@@ -13,11 +13,10 @@ use Rattle.zeus_txn.specs.Run.{effect, added, tested, reaches, given, latest, re
 use Rattle.zeus_txn.specs.declared.ops.Op.{Op}
 use Rattle.zeus_txn.specs.declared.ops.Op.TheVariants.{Get, Put, Add, Need, Same}
 use Rattle.zeus_txn.specs.declared.reply.Ran.{Ran}
-use Rattle.zeus_model.specs.declared.answer.Tried.{Tried}
 use Rattle.zeus_model.specs.declared.answer.Tried.TheVariants.{WornOut}
 use Rattle.zeus_model.specs.declared.state.Copy.{Copy}
 use Rattle.zeus_model.specs.Local.{worn_cause}
-use Rattle.zeus_model.specs.State.{Node, copy, next_number, slot, version_of}
+use Rattle.zeus_model.specs.State.{Node, next_number, slot, version_of}
 use Rattle.zeus_model.specs.Tables.{first_of, nth, or_else, where_true}
 use Rattle.local_txn.specs.Tries.{AreRising, worn_at}
 

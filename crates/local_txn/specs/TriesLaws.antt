@@ -1,5 +1,5 @@
 -- How a try's write part stands in the try of a slot.
-use Rattle.std.specs.Prelude.{ℕ, ◌≡◌, List, Option, Some, None, refl}
+use Rattle.std.specs.Prelude.{ℕ, ◌≡◌, None, refl}
 use Rattle.zeus_base.specs.Nodes.{meet}
 use Rattle.zeus_packet.specs.declared.letter.Body.TheVariants.{RInv}
 use Rattle.zeus_model.specs.declared.answer.Tried.TheVariants.{Committed}

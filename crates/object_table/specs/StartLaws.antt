@@ -1,5 +1,5 @@
 -- The copies at the start.
-use Rattle.std.specs.Prelude.{ℕ, zero, suc, ◌≡◌, Bool, true, false, List, [], ◌∷◌, Option, Some, None, map, refl}
+use Rattle.std.specs.Prelude.{ℕ, zero, suc, ◌≡◌, Bool, true, false, List, [], ◌∷◌, None, map, refl}
 use Rattle.zeus_base.specs.Nodes.{has}
 use Rattle.zeus_base.specs.declared.config.ObjectDecl.{ObjectDecl}
 use Rattle.zeus_model.specs.declared.state.Copy.{Copy}

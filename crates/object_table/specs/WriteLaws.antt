@@ -1,11 +1,11 @@
 -- What writes make of the copies, one after another.
-use Rattle.std.specs.Prelude.{ℕ, zero, suc, ◌≡◌, ◌≢◌, ◌<◌, ◌+◌, List, [], ◌∷◌, ◌++◌, length, take, drop, Option, None, refl}
-use Rattle.std.proofs.Common.{arith, sym, ap, ◌∙◌}
+use Rattle.std.specs.Prelude.{ℕ, ◌≡◌, List, [], ◌∷◌, ◌++◌, length, Option, None, refl}
+use Rattle.std.proofs.Common.{◌∙◌}
 use Rattle.zeus_base.specs.TableLaws.{length-put}
 use Rattle.zeus_packet.specs.declared.write.Write.{Write}
 use Rattle.zeus_model.specs.declared.state.Copy.{Copy}
 use Rattle.zeus_model.specs.Commit.{each_write}
-use Rattle.zeus_model.specs.Tables.{nth, put}
+use Rattle.zeus_model.specs.Tables.{nth}
 use Rattle.object_table.specs.Table.{AreWithin, after_write}
 
 module _ (f : Write → Option Copy → Option Copy) where

@@ -9,14 +9,13 @@ use Rattle.zeus_txn.specs.Ops.{named}
 use Rattle.zeus_txn.specs.declared.ops.Op.{Op}
 use Rattle.zeus_txn.specs.declared.reply.Reply.{Reply}
 use Rattle.zeus_model.specs.declared.state.Copy.{Copy}
-use Rattle.zeus_model.specs.Local.{Hindrance, hindrance, hindrance_at, run_here, unready}
+use Rattle.zeus_model.specs.Local.{Hindrance, hindrance, hindrance_at, unready}
 use Rattle.zeus_model.specs.Ownership.{not_valid}
 use Rattle.zeus_model.specs.State.{Node}
 use Rattle.zeus_model.specs.Tables.{first_of, nth, or_else}
 use Rattle.replica_reads.specs.declared.reads.Hindrance.{Hindrance as Found}
 use Rattle.replica_reads.specs.declared.reads.Hindrance.TheVariants.{Missing, Unready}
-use Rattle.replica_reads.specs.declared.reads.ReadTry.{ReadTry}
-use Rattle.replica_reads.specs.declared.reads.ReadTry.TheVariants.{NoCopy, NotValid, Read}
+use Rattle.replica_reads.specs.declared.reads.ReadTry.TheVariants.{Read}
 use Rattle.replica_reads.specs.Reads.{hindrance_among, read_told, told_hindrance}
 
 -- ---- at one object

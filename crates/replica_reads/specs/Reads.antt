@@ -1,5 +1,5 @@
 -- What a try to read is told.
-use Rattle.std.specs.Prelude.{ℕ, List, Option, Some, None}
+use Rattle.std.specs.Prelude.{List, Option, Some, None}
 use Rattle.zeus_txn.specs.Ops.{named}
 use Rattle.zeus_txn.specs.declared.ops.Op.{Op}
 use Rattle.zeus_txn.specs.declared.reply.Reply.{Reply}

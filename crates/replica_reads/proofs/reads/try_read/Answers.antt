@@ -1,4 +1,4 @@
-use Rattle.std.proofs.Common.{Some, None, ap, refl, sym, ◌∙◌}
+use Rattle.std.proofs.Common.{ap, ◌∙◌}
 use Rattle.zeus_model.specs.Local.{run_here}
 use Rattle.zeus_txn.specs.declared.reply.Ran.{Ran}
 use Rattle.replica_reads.specs.declared.reads.ReadTry.TheVariants.{Read}

@@ -1,4 +1,4 @@
-use Rattle.std.proofs.Common.{None, ap, refl, sym, ◌∙◌}
+use Rattle.std.proofs.Common.{None, ap, ◌∙◌}
 use Rattle.zeus_model.specs.State.{value_of}
 use Rattle.zeus_model.specs.Tables.{nth}
 use Rattle.zeus_txn.specs.Ops.{named}
