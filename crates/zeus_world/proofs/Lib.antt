@@ -12,4 +12,5 @@ mod Sending
 mod Standing
 mod Starting
 mod Trying
+mod TwoNodes
 mod Worlds

@@ -22,9 +22,9 @@ use Rattle.zeus_world.specs.Reached.{IsReached}
 use Rattle.zeus_world.specs.Steps.{IsTaken}
 
 -- a world with the same configuration and transactions
-record IsSame (w v : World) : Type 0 where
-  config : v.config ≡ w.config
-  txs : v.txs ≡ w.txs
+pub record IsSame (w v : World) : Type 0 where
+  pub config : v.config ≡ w.config
+  pub txs : v.txs ≡ w.txs
 
 begins_same : (w : World) (k : ℕ) (o : Option Answer) → IsSame w (begin_or_not w k o).world
 unfolding begin_or_not
@@ -40,7 +40,7 @@ unfolding deliver_or_not received_at
 delivers_same w from to None = record { config = refl; txs = refl }
 delivers_same w from to (Some l) = record { config = refl; txs = refl }
 
-step_same : (w : World) (s : Step) → is_first_step s ≡ true → IsSame w (stepped w s)
+pub step_same : (w : World) (s : Step) → is_first_step s ≡ true → IsSame w (stepped w s)
 unfolding happens step_begin is_first_step
 step_same w (Begin k) h = begins_same w k (begin_refused w k)
 step_same w (Try n s) h = tries_same w n s

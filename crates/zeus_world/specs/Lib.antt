@@ -7,3 +7,4 @@ pub mod Reached
 pub mod Shown
 pub mod Steps
 pub mod Tries
+pub mod TwoNodes

@@ -8,6 +8,8 @@ mod links;
 mod made;
 mod places;
 mod posting;
+#[cfg(test)]
+mod tests;
 mod world;
 
 pub use book::Book;
