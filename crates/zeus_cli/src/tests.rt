@@ -82,6 +82,19 @@ fn each_write_that_fails_leaves_what_was_written_before(rt: HostRuntime) -> Resu
 }
 
 #[test]
+fn a_sink_that_fails_at_its_second_call_keeps_the_first_piece(rt: HostRuntime) -> Result<(), Fail> {
+    let alloc = rt.alloc();
+    let run = words(alloc, &["run"])?;
+    let bytes = Vec::from_slice(alloc, ONE_NODE.as_bytes())?;
+    let mut source = MemSource::new(bytes, 4096, Vec::new(alloc));
+    let mut sink = MemSink::with_room(alloc, 4096, 10, Vec::from_slice(alloc, &[1])?)?;
+    let status = zeus_top(alloc, &run, &mut source, &mut sink);
+    assert_eq!(rt; status, Status::WriteFault);
+    assert_eq!(rt; sink.bytes(), b"report 1\n0".as_slice());
+    Ok(())
+}
+
+#[test]
 fn each_front_of_a_script_wants_a_line_or_its_end(rt: HostRuntime) -> Result<(), Fail> {
     let alloc = rt.alloc();
     let run = words(alloc, &["run"])?;
@@ -109,7 +122,7 @@ fn each_front_of_a_script_wants_a_line_or_its_end(rt: HostRuntime) -> Result<(),
 #[test]
 fn other_words_get_the_line_usage(rt: HostRuntime) -> Result<(), Fail> {
     let alloc = rt.alloc();
-    for texts in [["walk"].as_slice(), &["run", "x"], &[]] {
+    for texts in [["walk"].as_slice(), &["run", "x"], &["storm", "01"], &[]] {
         let mut source = SafeSource::new(Vec::from_slice(alloc, b"zeus 1\n")?);
         let mut sink = SafeSink::with_room(alloc, 100)?;
         let status = zeus_top(alloc, &words(alloc, texts)?, &mut source, &mut sink);
