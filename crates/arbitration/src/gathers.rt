@@ -74,7 +74,7 @@ impl Gathers {
         ensures after { self.new ≡ put None self.old obj (gathered (nth None self.old obj) from p.now content) }
         ensures objects { length self.new ≡ length self.old }
     {
-        let gather = &mut self.gathers[object_place(obj)];
+        let gather = &mut self.gathers[obj.place()];
         take_ack(gather, from, p, &content)
     }
 
@@ -94,7 +94,7 @@ impl Gathers {
     fn gather(&self, obj: ObjId) -> Option<Gather>
         ensures { result ≡ nth None self.now obj }
     {
-        match self.find(object_place(obj)) {
+        match self.find(obj.place()) {
             None => None,
             Some(gather) => *gather,
         }
@@ -112,7 +112,7 @@ impl Gathers {
         ensures after { self.new ≡ put None self.old obj (gather_above stamp (nth None self.old obj)) }
         ensures objects { length self.new ≡ length self.old }
     {
-        let gather = &mut self.gathers[object_place(obj)];
+        let gather = &mut self.gathers[obj.place()];
         *gather = gather_above(stamp, gather);
     }
 
@@ -127,11 +127,6 @@ impl Gathers {
     }
 }
 
-fn object_place(object: ObjId) -> usize
-    ensures { result ≡ object }
-{
-    object.0 as usize
-}
 
 fn collect_gathers(alloc: Global, objects: &[ObjectDecl]) -> Result<Vec<Option<Gather>>, AllocError>
     ensures { IfOk result (λ v. v.items ≡ map start_gather objects.now) }

@@ -11,7 +11,7 @@ use std::alloc::Global;
 use std::marker::Model;
 use zeus_base::{NoMemory, NodeId, NodeSet};
 use zeus_model::Pending;
-use zeus_packet::{PlainWindow, RingWindow, Window};
+use zeus_packet::{NewWindow, PlainWindow, RingWindow, Window};
 
 /// The entries of an own slot that wait for acknowledgements, numbered from how many have passed on, over a window.
 /// With them the pipe keeps the list of the sends that are due. No call but `new` takes memory.
@@ -42,7 +42,7 @@ impl<W: Window<Pending>> Model for PipeOver<W> {
     ghost invariant = { λ p. IsKept (record { done = p.done; pending = W.items p.entries }) p.due };
 }
 
-impl PipeOver<PlainWindow<Pending>> {
+impl<W: NewWindow<Pending> + Drop> PipeOver<W> {
     /// A pipe with no entry, of which none has passed. All memory is taken here.
     ///
     /// # Errors
@@ -52,21 +52,7 @@ impl PipeOver<PlainWindow<Pending>> {
         ensures { IfOk result (λ p. p ≡ record { done = 0; pending = [] }) }
     {
         let due = DueList::new(alloc)?;
-        Ok(PipeOver::empty(PlainWindow::new(alloc)?, due))
-    }
-}
-
-impl PipeOver<RingWindow<Pending>> {
-    /// A pipe with no entry, of which none has passed. All memory is taken here.
-    ///
-    /// # Errors
-    ///
-    /// `NoMemory` where that memory is not there.
-    pub fn new(alloc: Global) -> Result<Self, NoMemory>
-        ensures { IfOk result (λ p. p ≡ record { done = 0; pending = [] }) }
-    {
-        let due = DueList::new(alloc)?;
-        Ok(PipeOver::empty(RingWindow::new(alloc)?, due))
+        Ok(PipeOver::empty(W::empty(alloc)?, due))
     }
 }
 

@@ -7,4 +7,4 @@ mod stored;
 mod tests;
 
 pub use log::LogOver;
-pub use stored::{NewWindow, Store, Stored, StoredOver};
+pub use stored::{Store, Stored, StoredOver};

@@ -8,9 +8,9 @@ ghost use Rattle.follower_log.specs.Streams.{IsStreamOf, log_at, lowest_below, o
 use crate::log::LogOver;
 use std::alloc::Global;
 use std::marker::Model;
-use zeus_base::{Config, NoMemory, NodeId, NodeSet, SlotId, Stream};
+use zeus_base::{Config, NoMemory, NodeId, NodeSet, Stream};
 use zeus_model::Kept;
-use zeus_packet::{PlainWindow, RInv, RingWindow, Window};
+use zeus_packet::{NewWindow, RInv, RingWindow, Window};
 
 /// What becomes of an entry that a letter brings.
 #[derive(Clone, Copy, Debug, PartialEq, Eq)]
@@ -23,29 +23,6 @@ pub enum Store {
     Gap(u32),
     /// As many entries of the stream are stored as can be.
     Window,
-}
-
-/// A window that can be made with no item.
-pub trait NewWindow: Window<Kept> {
-    /// A window with no item. All memory is taken here.
-    ///
-    /// # Errors
-    ///
-    /// `NoMemory` where that memory is not there.
-    fn empty(alloc: Global) -> Result<Self, NoMemory>
-        ensures { IfOk result (λ w. Self.items w ≡ []) };
-}
-
-impl NewWindow for PlainWindow<Kept> {
-    fn empty(alloc: Global) -> Result<PlainWindow<Kept>, NoMemory> {
-        PlainWindow::new(alloc)
-    }
-}
-
-impl NewWindow for RingWindow<Kept> {
-    fn empty(alloc: Global) -> Result<RingWindow<Kept>, NoMemory> {
-        RingWindow::new(alloc)
-    }
 }
 
 /// The streams of one node by slot, seen as the list of them.
@@ -83,7 +60,7 @@ impl<W: Window<Kept>> Model for StoredOver<W> {
     ghost view = { λ l. l.nodes.items };
 }
 
-impl<W: NewWindow + Drop> StoredOver<W> {
+impl<W: NewWindow<Kept> + Drop> StoredOver<W> {
     /// The streams at the start of a run: of none has an entry passed, and none is stored. All memory is taken here.
     ///
     /// # Errors
@@ -102,7 +79,7 @@ impl<W: NewWindow + Drop> StoredOver<W> {
 }
 
 /// The streams of a node at the start of a run.
-fn start_logs<W: NewWindow + Drop>(alloc: Global, count: u8) -> Result<NodeLogs<W>, NoMemory>
+fn start_logs<W: NewWindow<Kept> + Drop>(alloc: Global, count: u8) -> Result<NodeLogs<W>, NoMemory>
     ensures { IfOk result (λ logs. logs ≡ replicate count no_log) }
 {
     let mut slots = Vec::with_capacity(alloc, usize::from(count)).map_err(|_| NoMemory)?;
@@ -124,8 +101,8 @@ impl<W: Window<Kept>> StoredOver<W> {
         ensures after { (n : Node) (from : ℕ) → n.logs ≡ self.old → self.new ≡ (stored_rinv n from r.now).node.logs }
         ensures streams { (t : Stream) → IsStreamOf self.old t → IsStreamOf self.new t }
     {
-        let logs = &mut self.nodes[node_place(r.stream.node)];
-        let log = &mut logs.slots[slot_place(r.stream.slot)];
+        let logs = &mut self.nodes[r.stream.node.place()];
+        let log = &mut logs.slots[r.stream.slot.place()];
         log.store(r)
     }
 
@@ -138,8 +115,8 @@ impl<W: Window<Kept>> StoredOver<W> {
         ensures kept { IsNone result → self.new ≡ self.old }
         ensures streams { (t : Stream) → IsStreamOf self.old t → IsStreamOf self.new t }
     {
-        let logs = &mut self.nodes[node_place(s.node)];
-        let log = &mut logs.slots[slot_place(s.slot)];
+        let logs = &mut self.nodes[s.node.place()];
+        let log = &mut logs.slots[s.slot.place()];
         log.raise_one(done)
     }
 
@@ -151,8 +128,8 @@ impl<W: Window<Kept>> StoredOver<W> {
         ensures after { self.new ≡ raised_rest self.old s done }
         ensures streams { (t : Stream) → IsStreamOf self.old t → IsStreamOf self.new t }
     {
-        let logs = &mut self.nodes[node_place(s.node)];
-        let log = &mut logs.slots[slot_place(s.slot)];
+        let logs = &mut self.nodes[s.node.place()];
+        let log = &mut logs.slots[s.slot.place()];
         log.raise_rest(done);
     }
 
@@ -165,8 +142,8 @@ impl<W: Window<Kept>> StoredOver<W> {
         ensures after { (n : Node) → n.logs ≡ self.old → self.new ≡ (on_kept_rack n from s number).node.logs }
         ensures streams { (t : Stream) → IsStreamOf self.old t → IsStreamOf self.new t }
     {
-        let logs = &mut self.nodes[node_place(s.node)];
-        let log = &mut logs.slots[slot_place(s.slot)];
+        let logs = &mut self.nodes[s.node.place()];
+        let log = &mut logs.slots[s.slot.place()];
         log.ack(number, from)
     }
 
@@ -211,19 +188,9 @@ impl<W: Window<Kept>> StoredOver<W> {
         requires { IsStreamOf self.now s }
         ensures { result.now ≡ log_at self.now s }
     {
-        let logs = &self.nodes[node_place(s.node)];
-        &logs.slots[slot_place(s.slot)]
+        let logs = &self.nodes[s.node.place()];
+        &logs.slots[s.slot.place()]
     }
 }
 
-fn node_place(node: NodeId) -> usize
-    ensures { result ≡ node }
-{
-    usize::from(node.0)
-}
 
-fn slot_place(slot: SlotId) -> usize
-    ensures { result ≡ slot }
-{
-    usize::from(slot.0)
-}

@@ -16,21 +16,6 @@ use Rattle.zeus_model.specs.Tables.{below, first_of, numbers_from, or_else, wher
 use Rattle.zeus_model.specs.World.{World, happens, is_empty, last_view, node, refuse_step, view_or_not, view_refused}
 use Rattle.membership.specs.Views.{IsWorldWith}
 
--- ---- the nodes below a number, one by one
-
-insert-numbers : (i k m : ℕ) → m ≡ i + k → with_node m (numbers_from i k) ≡ numbers_from i (suc k)
-unfolding with_node numbers_from
-insert-numbers i zero m e = let same : m ≡ i = omega arith in rw same refl
-insert-numbers i (suc k) m e =
-    rw (le-ltb m i (omega arith), ne_eqb m i (omega arith)) (ap (λ l. i ∷ l) (insert-numbers (suc i) k m (omega arith)))
-
-pub below_more : (k : ℕ) → with_node k (below k) ≡ below (k + 1)
-below_more k = rw add-one (insert-numbers 0 k k (omega arith))
-
-pub below_none : [] ≡ below 0
-unfolding numbers_from
-below_none = refl
-
 -- ---- the last view, and one by its epoch
 
 last_nth : (v : List ℕ) (vs : List (List ℕ)) → last_view (v ∷ vs) ≡ get_or (v ∷ vs) (length vs) v

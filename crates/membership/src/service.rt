@@ -42,7 +42,7 @@ impl Service {
         ensures { IfOk result (λ service. service ≡ below nodes ∷ []) }
     {
         let mut views = Vec::with_capacity(alloc, 1).map_err(|_| NoMemory)?;
-        views.push_reserved(nodes_below(nodes));
+        views.push_reserved(NodeSet::below(nodes));
         Ok(Service { views })
     }
 
@@ -126,16 +126,4 @@ fn least_apart(set: NodeSet, others: NodeSet) -> Option<NodeId>
         }
     }
     None
-}
-
-/// All nodes below the number.
-fn nodes_below(count: u8) -> NodeSet
-    requires { count ≤ 8 }
-    ensures { result ≡ below count }
-{
-    let mut nodes = NodeSet::empty();
-    for node in 0..count {
-        nodes = nodes.insert(NodeId(node));
-    }
-    nodes
 }

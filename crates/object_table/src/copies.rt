@@ -73,7 +73,7 @@ impl Copies {
     pub fn copy(&self, obj: ObjId) -> Option<Copy>
         ensures { result ≡ nth None self.now.copies obj }
     {
-        match self.find_copy(object_place(obj)) {
+        match self.find_copy(obj.place()) {
             None => None,
             Some(copy) => *copy,
         }
@@ -88,7 +88,7 @@ impl Copies {
         ensures holds { self.new.holds ≡ self.old.holds }
         ensures objects { length self.new.copies ≡ length self.old.copies }
     {
-        let copy = &mut self.copies[object_place(w.obj)];
+        let copy = &mut self.copies[w.obj.place()];
         let lower = is_lower(copy, w.ver);
         *copy = applied(w, copy);
         lower
@@ -103,7 +103,7 @@ impl Copies {
         ensures holds { self.new.holds ≡ self.old.holds }
         ensures objects { length self.new.copies ≡ length self.old.copies }
     {
-        let copy = &mut self.copies[object_place(obj)];
+        let copy = &mut self.copies[obj.place()];
         *copy = rewritten(value, copy);
     }
 
@@ -114,7 +114,7 @@ impl Copies {
         ensures holds { self.new.holds ≡ self.old.holds }
         ensures objects { length self.new.copies ≡ length self.old.copies }
     {
-        let copy = &mut self.copies[object_place(obj)];
+        let copy = &mut self.copies[obj.place()];
         *copy = validated(ver, copy);
     }
 
@@ -125,7 +125,7 @@ impl Copies {
         ensures holds { self.new.holds ≡ self.old.holds }
         ensures objects { length self.new.copies ≡ length self.old.copies }
     {
-        let copy = &mut self.copies[object_place(obj)];
+        let copy = &mut self.copies[obj.place()];
         *copy = Some(valid_copy(c));
     }
 
@@ -136,7 +136,7 @@ impl Copies {
         ensures holds { self.new.holds ≡ self.old.holds }
         ensures objects { length self.new.copies ≡ length self.old.copies }
     {
-        let copy = &mut self.copies[object_place(obj)];
+        let copy = &mut self.copies[obj.place()];
         *copy = None;
     }
 
@@ -148,7 +148,7 @@ impl Copies {
         ensures copies { self.new.copies ≡ self.old.copies }
         ensures objects { length self.new.holds ≡ length self.old.holds }
     {
-        let hold = &mut self.holds[object_place(obj)];
+        let hold = &mut self.holds[obj.place()];
         *hold = Some(held(slot, hold));
     }
 
@@ -160,7 +160,7 @@ impl Copies {
         ensures copies { self.new.copies ≡ self.old.copies }
         ensures objects { length self.new.holds ≡ length self.old.holds }
     {
-        let hold = &mut self.holds[object_place(obj)];
+        let hold = &mut self.holds[obj.place()];
         *hold = unheld(hold);
     }
 
@@ -168,18 +168,13 @@ impl Copies {
     pub fn holder(&self, obj: ObjId) -> Option<SlotId>
         ensures { result ≡ hold_slot (nth None self.now.holds obj) }
     {
-        match self.find_hold(object_place(obj)) {
+        match self.find_hold(obj.place()) {
             None => None,
             Some(hold) => hold_slot(hold),
         }
     }
 }
 
-fn object_place(object: ObjId) -> usize
-    ensures { result ≡ object }
-{
-    object.0 as usize
-}
 
 fn start_copies(
     alloc: Global,

@@ -49,7 +49,7 @@ impl Dir {
         requires { obj < length self.now }
         ensures { result.now ≡ nth no_entry self.now obj }
     {
-        &self.entries[object_place(obj)]
+        &self.entries[obj.place()]
     }
 
     /// Settles a stamp and its placement of the object where the stamp is above the settled one, and drops a held
@@ -60,7 +60,7 @@ impl Dir {
         ensures after { (n : Node) → n.entries ≡ self.old → self.new ≡ (settle n obj stamp place).entries }
         ensures objects { length self.new ≡ length self.old }
     {
-        let entry = &mut self.entries[object_place(obj)];
+        let entry = &mut self.entries[obj.place()];
         entry.settle(stamp, place)
     }
 
@@ -73,16 +73,11 @@ impl Dir {
         ensures after { (n : Node) (from : ℕ) → n.entries ≡ self.old → self.new ≡ (on_proposal n from obj p.now).node.entries }
         ensures objects { length self.new ≡ length self.old }
     {
-        let entry = &mut self.entries[object_place(obj)];
+        let entry = &mut self.entries[obj.place()];
         entry.accept(p)
     }
 }
 
-fn object_place(object: ObjId) -> usize
-    ensures { result ≡ object }
-{
-    object.0 as usize
-}
 
 fn collect_entries(alloc: Global, objects: &[ObjectDecl]) -> Result<Vec<Entry>, AllocError>
     ensures { IfOk result (λ v. v.items ≡ map start_entry objects.now) }

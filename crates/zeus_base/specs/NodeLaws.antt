@@ -1,10 +1,11 @@
 -- Laws of sets of nodes: what each operation has as members, and that a rising list is known by its members.
-use Rattle.std.specs.Prelude.{ℕ, suc, true, false, not, ◌&&◌, ◌||◌, ◌==◌, ◌≡◌, ◌≢◌, ◌+◌, ◌<◌, ◌≤◌, List, [], ◌∷◌, length, All, Some, None, refl}
-use Rattle.std.proofs.Common.{arith, sym, ap, ◌∙◌, inl, inr}
+use Rattle.std.specs.Prelude.{ℕ, zero, suc, true, false, not, ◌&&◌, ◌||◌, ◌==◌, ◌≡◌, ◌≢◌, ◌+◌, ◌<◌, ◌≤◌, List, [], ◌∷◌, length, All, Some, None, refl}
+use Rattle.std.proofs.Common.{add-one, arith, sym, ap, ◌∙◌, inl, inr}
 use Rattle.std.proofs.lemmas.Bool.{cases_order, or_cases, eqb-true, false≢true, lt-ltb, le-ltb, eq-eqb, ne_eqb, cond_both}
 use Rattle.std.proofs.lemmas.Bool.Decides.{nat_tests}
 use Rattle.std.proofs.lemmas.List.Elements.{All-head, All-tail, All-nil, All-cons}
 use Rattle.zeus_base.specs.Nodes.{has, with_node, without, meet, join, is_subset, least}
+use Rattle.zeus_base.specs.Tables.{below, numbers_from}
 
 -- the numbers rise from one to the next, and none is below the bound
 unfoldable pub RisesFrom : ℕ → List ℕ → Type 0
@@ -309,3 +310,17 @@ pub All-from_members : (P : ℕ → Type 0) (ms : List ℕ) → ((k : ℕ) → h
 All-from_members P [] h = All-nil P
 All-from_members P (m ∷ ms) h =
     All-cons P m ms (h m (has-head m ms)) (All-from_members P ms (λ k g. h k (has-tail k m ms g)))
+
+-- the nodes below a number, one by one
+insert-numbers : (i k m : ℕ) → m ≡ i + k → with_node m (numbers_from i k) ≡ numbers_from i (suc k)
+unfolding with_node numbers_from
+insert-numbers i zero m e = let same : m ≡ i = omega arith in rw same refl
+insert-numbers i (suc k) m e =
+    rw (le-ltb m i (omega arith), ne_eqb m i (omega arith)) (ap (λ l. i ∷ l) (insert-numbers (suc i) k m (omega arith)))
+
+pub below_more : (k : ℕ) → with_node k (below k) ≡ below (k + 1)
+below_more k = rw add-one (insert-numbers 0 k k (omega arith))
+
+pub below_none : [] ≡ below 0
+unfolding numbers_from
+below_none = refl

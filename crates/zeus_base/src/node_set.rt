@@ -1,8 +1,9 @@
 //! Sets of nodes.
-ghost use Rattle.std.specs.Prelude.{◌≡◌, ◌↔◌, IsTrue, IfOk, [], length};
+ghost use Rattle.std.specs.Prelude.{◌≡◌, ◌≤◌, ◌↔◌, IsTrue, IfOk, [], length};
 ghost use Rattle.std.specs.Iterator.{YieldsFirst, item_count};
 ghost use Rattle.zeus_base.specs.NodeLaws.{IsNodeSet};
 ghost use Rattle.zeus_base.specs.Nodes.{has, with_node, without, meet, join, is_subset, least};
+ghost use Rattle.zeus_base.specs.Tables.{below};
 
 use crate::numbers::NodeId;
 use std::marker::Model;
@@ -48,6 +49,18 @@ impl NodeSet {
         ensures { result ≡ [] }
     {
         NodeSet { bits: 0 }
+    }
+
+    /// The set of all nodes below this number.
+    pub fn below(count: u8) -> NodeSet
+        requires { count ≤ 8 }
+        ensures { result ≡ below count }
+    {
+        let mut nodes = NodeSet::empty();
+        for node in 0..count {
+            nodes = nodes.insert(NodeId(node));
+        }
+        nodes
     }
 
     /// Whether no node is in the set.

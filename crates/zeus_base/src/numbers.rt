@@ -19,6 +19,15 @@ impl Model for NodeId {
     ghost inverse = { λ n. record { 0 = n } };
 }
 
+impl NodeId {
+    /// Its place in a table by node.
+    pub fn place(self) -> usize
+        ensures { result ≡ self }
+    {
+        usize::from(self.0)
+    }
+}
+
 /// A slot of a node, which is one worker's pipeline, by its number from 0; below 8.
 #[derive(Clone, Copy, Debug, Default, PartialEq, Eq, PartialOrd, Ord)]
 pub struct SlotId(pub u8);
@@ -33,6 +42,15 @@ impl Model for SlotId {
     ghost invariant = { λ s. s.0 < 8 };
 
     ghost inverse = { λ n. record { 0 = n } };
+}
+
+impl SlotId {
+    /// Its place in a table by slot.
+    pub fn place(self) -> usize
+        ensures { result ≡ self }
+    {
+        usize::from(self.0)
+    }
 }
 
 /// An object, by its number from 0 in the order of declaration; below 256.
@@ -51,6 +69,15 @@ impl Model for ObjId {
     ghost inverse = { λ n. record { 0 = n } };
 }
 
+impl ObjId {
+    /// Its place in a table by object.
+    pub fn place(self) -> usize
+        ensures { result ≡ self }
+    {
+        usize::from(self.0)
+    }
+}
+
 /// A transaction of a script, by its number from 0 in the order of the script.
 #[derive(Clone, Copy, Debug, Default, PartialEq, Eq, PartialOrd, Ord)]
 pub struct TxId(pub u32);
@@ -63,6 +90,15 @@ impl Model for TxId {
     ghost view = { λ t. t.0 };
 
     ghost inverse = { λ n. record { 0 = n } };
+}
+
+impl TxId {
+    /// Its place in a table by transaction.
+    pub fn place(self) -> usize
+        ensures { result ≡ self }
+    {
+        self.0 as usize
+    }
 }
 
 /// Transactions by their numbers, in order, seen as a list.

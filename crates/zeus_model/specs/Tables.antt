@@ -1,15 +1,7 @@
 -- Tables by index, lists of numbers, and the first that there is.
-use Rattle.std.specs.Prelude.{ℕ, zero, suc, Bool, List, [], ◌∷◌, Option, Some, None, if◌then◌else◌}
-unfoldable pub use Rattle.zeus_base.specs.Tables.{nth, put}
-
--- n numbers from i on
-unfoldable pub numbers_from : ℕ → ℕ → List ℕ
-numbers_from i zero = []
-numbers_from i (suc n) = i ∷ numbers_from (suc i) n
-
--- the numbers below n
-abbrev pub below : ℕ → List ℕ
-below n = numbers_from 0 n
+use Rattle.std.specs.Prelude.{ℕ, suc, Bool, List, [], ◌∷◌, Option, Some, None, if◌then◌else◌}
+unfoldable pub use Rattle.zeus_base.specs.Tables.{nth, put, numbers_from}
+pub use Rattle.zeus_base.specs.Tables.{below}
 
 -- the first that there is
 unfoldable pub or_else : {A : Type 0} → Option A → Option A → Option A

@@ -64,20 +64,6 @@ start_node-first c me f h =
           (within_nothing _) (within_nothing _));
     }
 
--- the nodes below a number, one by one
-insert-numbers : (i k m : ℕ) → m ≡ i + k → with_node m (numbers_from i k) ≡ numbers_from i (suc k)
-unfolding with_node numbers_from
-insert-numbers i zero m e = let same : m ≡ i = omega arith in rw same refl
-insert-numbers i (suc k) m e =
-    rw (le-ltb m i (omega arith), ne_eqb m i (omega arith)) (ap (λ l. i ∷ l) (insert-numbers (suc i) k m (omega arith)))
-
-pub below_more : (k : ℕ) → with_node k (below k) ≡ below (k + 1)
-below_more k = rw add-one (insert-numbers 0 k k (omega arith))
-
-pub below_none : [] ≡ below 0
-unfolding numbers_from
-below_none = refl
-
 -- begin
 pub begin-stopped : (n : Node) (s id : ℕ) (tx : List Op) → n.stopped ≡ true → begin n s id tx ≡ just n Stopped
 unfolding begin

@@ -4,7 +4,6 @@ ghost use Rattle.zeus_model.specs.Commit.{each_write, validated, applied};
 ghost use Rattle.zeus_model.specs.Tables.{nth};
 ghost use Rattle.zeus_node.specs.Copies.{changed_by, IsWithin};
 
-use crate::places::object_place;
 use std::marker::Model;
 use zeus_base::ObjId;
 use zeus_model::Copy;
@@ -53,7 +52,7 @@ impl Copies {
     pub(crate) fn get(&self, object: ObjId) -> Option<Copy>
         ensures { result ≡ nth None self.now object }
     {
-        match self.find(object_place(object)) {
+        match self.find(object.place()) {
             Some(copy) => *copy,
             None => None,
         }
@@ -65,7 +64,7 @@ impl Copies {
         ensures { self.new ≡ each_write (changed_by how) self.old writes.now }
     {
         for write in writes {
-            let copy = &mut self.items[object_place(write.obj)];
+            let copy = &mut self.items[write.obj.place()];
             *copy = changed(how, write, copy);
         }
     }

@@ -5,8 +5,7 @@ mod copies;
 mod effect;
 mod node;
 mod pipeline;
-mod places;
 mod stored;
 
 pub use effect::{Effect, Letters, PassedList};
-pub use node::{Node, all_nodes};
+pub use node::Node;

@@ -15,9 +15,7 @@ mod start;
 use crate::copies::{Change, Copies};
 use crate::effect::Effect;
 use crate::pipeline::Pipeline;
-use crate::places::{node_place, slot_place};
 use crate::stored::NodeLogs;
-pub use start::all_nodes;
 use std::marker::Model;
 use zeus_base::{NodeId, NodeSet, Passed, SlotId, Stream};
 use zeus_model::{Entry, Gather, Outcome};
@@ -80,8 +78,8 @@ impl Node {
         requires { IsStream self.now stream.now }
         ensures { result ≡ next_kept (log self.now stream.now) }
     {
-        let logs = &self.logs[node_place(stream.node)];
-        logs.slots[slot_place(stream.slot)].next()
+        let logs = &self.logs[stream.node.place()];
+        logs.slots[stream.slot.place()].next()
     }
 
     /// Entries of the stream below this number have passed elsewhere.
@@ -89,8 +87,8 @@ impl Node {
         requires { IsStream self.old stream.now }
         ensures { self.new ≡ raise self.old stream.now done }
     {
-        let logs = &mut self.logs[node_place(stream.node)];
-        let log = &mut logs.slots[slot_place(stream.slot)];
+        let logs = &mut self.logs[stream.node.place()];
+        let log = &mut logs.slots[stream.slot.place()];
         log.raise(done, &mut self.copies);
     }
 
@@ -101,8 +99,8 @@ impl Node {
         requires room { length (log self.old inv.now.stream).kept < 16 }
         ensures { self.new ≡ store self.old inv.now }
     {
-        let logs = &mut self.logs[node_place(inv.stream.node)];
-        let log = &mut logs.slots[slot_place(inv.stream.slot)];
+        let logs = &mut self.logs[inv.stream.node.place()];
+        let log = &mut logs.slots[inv.stream.slot.place()];
         log.store(inv.followers, inv.writes.duplicate());
         self.copies.change(Change::Apply, inv.writes.as_slice());
     }
@@ -113,8 +111,8 @@ impl Node {
         ensures full { result ≡ (length (log self.now stream.now).kept == 16) }
         ensures most { length (log self.now stream.now).kept ≤ 16 }
     {
-        let logs = &self.logs[node_place(stream.node)];
-        logs.slots[slot_place(stream.slot)].is_full()
+        let logs = &self.logs[stream.node.place()];
+        logs.slots[stream.slot.place()].is_full()
     }
 
     /// How many entries of the stream are known to have passed.
@@ -122,8 +120,8 @@ impl Node {
         requires { IsStream self.now stream.now }
         ensures { result ≡ (log self.now stream.now).done }
     {
-        let logs = &self.logs[node_place(stream.node)];
-        logs.slots[slot_place(stream.slot)].done()
+        let logs = &self.logs[stream.node.place()];
+        logs.slots[stream.slot.place()].done()
     }
 
     /// Sends a letter of the node's epoch.
@@ -234,7 +232,7 @@ impl Node {
         requires { slot < 1 }
         ensures { IsQuiet (on_own_rack self.old from slot number) result self.new }
     {
-        let pipeline = &mut self.slots[slot_place(slot)];
+        let pipeline = &mut self.slots[slot.place()];
         pipeline.acknowledge(from, number)
     }
 
@@ -242,8 +240,8 @@ impl Node {
         requires { IsStream self.old stream.now }
         ensures { IsQuiet (on_kept_rack self.old from stream.now number) result self.new }
     {
-        let logs = &mut self.logs[node_place(stream.node)];
-        let log = &mut logs.slots[slot_place(stream.slot)];
+        let logs = &mut self.logs[stream.node.place()];
+        let log = &mut logs.slots[stream.slot.place()];
         log.acknowledge(from, number)
     }
 
@@ -268,7 +266,7 @@ impl Node {
         ensures most { result ≤ length (slot_of self.now slot).pending }
         ensures first { IsFirstNode self.now }
     {
-        self.slots[slot_place(slot)].passing(self.me, self.members)
+        self.slots[slot.place()].passing(self.me, self.members)
     }
 
     /// All followers of the first pending entries of the slot.
@@ -277,7 +275,7 @@ impl Node {
         requires few { count ≤ length (slot_of self.now slot).pending }
         ensures { result ≡ followers_of (take count (map as_kept (slot_of self.now slot).pending)) }
     {
-        self.slots[slot_place(slot)].followers(count)
+        self.slots[slot.place()].followers(count)
     }
 
     /// How many entries of the slot have passed, and how many are pending.
@@ -288,7 +286,7 @@ impl Node {
         ensures numbered { result.0 + result.1 < 2 ^ 32 }
         ensures most { result.1 ≤ 16 }
     {
-        let pipeline = &self.slots[slot_place(slot)];
+        let pipeline = &self.slots[slot.place()];
         (pipeline.done(), pipeline.len())
     }
 
@@ -308,7 +306,7 @@ impl Node {
         requires few { count ≤ length (slot_of self.old slot).pending }
         ensures { self.new ≡ pass_own self.old slot count }
     {
-        let pipeline = &mut self.slots[slot_place(slot)];
+        let pipeline = &mut self.slots[slot.place()];
         pipeline.pass(count, &mut self.copies);
     }
 

@@ -1,5 +1,5 @@
 //! Lists of at most 16 items that grow at their end and are taken from at their front.
-ghost use Rattle.std.specs.Prelude.{◌≡◌, ◌<◌, ◌≤◌, ◌↔◌, [], ◌∷◌, ◌++◌, IsOk, OnOk, IfErr, drop, length, option_copied, slice_get, slice_set};
+ghost use Rattle.std.specs.Prelude.{◌≡◌, ◌<◌, ◌≤◌, ◌↔◌, [], ◌∷◌, ◌++◌, IfErr, IfOk, IsOk, OnOk, drop, length, option_copied, slice_get, slice_set};
 ghost use Rattle.std.specs.Borrow.{LendsSo, sem};
 ghost use Rattle.std.specs.Option.{OnSome, option_copied_mut};
 
@@ -8,6 +8,9 @@ mod ring;
 
 pub use plain::PlainWindow;
 pub use ring::RingWindow;
+
+use std::alloc::Global;
+use zeus_base::NoMemory;
 
 /// How many items a window holds at most.
 const DEPTH: usize = 16;
@@ -43,4 +46,15 @@ pub trait Window<T> {
     fn len(&self) -> u32
         ensures count { result ≡ length (items self.now) }
         ensures most { result ≤ 16 };
+}
+
+/// A window that can be made with no item.
+pub trait NewWindow<T>: Window<T> {
+    /// A window with no item. All memory is taken here.
+    ///
+    /// # Errors
+    ///
+    /// `NoMemory` where that memory is not there.
+    fn empty(alloc: Global) -> Result<Self, NoMemory>
+        ensures { IfOk result (λ w. Self.items w ≡ []) };
 }

@@ -9,7 +9,6 @@ mod passes;
 mod readers;
 mod tries;
 
-use crate::places::tx_place;
 use std::alloc::Global;
 use std::marker::Model;
 use zeus_base::{NoMemory, Stream, TxId};
@@ -274,7 +273,7 @@ impl Book {
         ensures { self.new ≡ record { book = book_begin self.old.book id; room = self.old.room } }
     {
         let step = self.steps;
-        let record = &mut self.records[tx_place(id)];
+        let record = &mut self.records[id.place()];
         record.begin(step);
     }
 
@@ -283,7 +282,7 @@ impl Book {
         requires { id < length self.old.book.records }
         ensures { self.new ≡ record { book = book_commit self.old.book stream.now id number reply; room = self.old.room } }
     {
-        let record = &mut self.records[tx_place(id)];
+        let record = &mut self.records[id.place()];
         record.commit(stream, number, reply);
     }
 
@@ -292,7 +291,7 @@ impl Book {
         requires { id < length self.old.book.records }
         ensures { self.new ≡ record { book = book_reply self.old.book id reply; room = self.old.room } }
     {
-        let record = &mut self.records[tx_place(id)];
+        let record = &mut self.records[id.place()];
         record.set_reply(reply);
     }
 
@@ -301,7 +300,7 @@ impl Book {
         requires { id < length self.old.book.records }
         ensures { self.new ≡ record { book = book_refuse self.old.book id; room = self.old.room } }
     {
-        let record = &mut self.records[tx_place(id)];
+        let record = &mut self.records[id.place()];
         record.refuse();
     }
 
@@ -311,7 +310,7 @@ impl Book {
         ensures { self.new ≡ record { book = book_ack self.old.book id; room = self.old.room } }
     {
         let step = self.steps;
-        let record = &mut self.records[tx_place(id)];
+        let record = &mut self.records[id.place()];
         record.acknowledge(step);
     }
 
@@ -324,7 +323,7 @@ impl Book {
     {
         let step = self.steps;
         let alloc = *self.points.allocator();
-        let record = &mut self.records[tx_place(id)];
+        let record = &mut self.records[id.place()];
         let reply = record.reply_or_none(alloc);
         record.point(step);
         self.points.push_reserved(Point { id, reply });
@@ -346,7 +345,7 @@ impl Book {
     fn record(&self, id: TxId) -> Option<&Record>
         ensures { option_copied result ≡ slice_get self.now.book.records id }
     {
-        self.records.get(tx_place(id))
+        self.records.get(id.place())
     }
 
     /// The transaction of an entry: the one that was committed with this stream and number.
@@ -368,7 +367,7 @@ impl Book {
         requires { id < length self.now.book.records }
         ensures { result ≡ is_some (record_of self.now.book id).point }
     {
-        let record = &self.records[tx_place(id)];
+        let record = &self.records[id.place()];
         record.has_point()
     }
 

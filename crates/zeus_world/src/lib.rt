@@ -6,7 +6,6 @@ mod cluster;
 mod ids;
 mod links;
 mod made;
-mod places;
 mod posting;
 #[cfg(test)]
 mod tests;

@@ -4,7 +4,6 @@ ghost use Rattle.zeus_model.specs.Tables.{nth, put};
 ghost use Rattle.zeus_model.specs.World.{link, nth_letter, posted};
 ghost use Rattle.zeus_world.specs.Links.{HasRoom, IsLink, letters, no_link, room, row_letters};
 
-use crate::places::node_place;
 use std::alloc::Global;
 use std::marker::Model;
 use zeus_base::{NoMemory, NodeId};
@@ -105,7 +104,7 @@ impl Row {
         requires { to < length self.now }
         ensures { option_copied result ≡ slice_get (nth no_link self.now to).letters number }
     {
-        let link = &self.links[node_place(to)];
+        let link = &self.links[to.place()];
         link.get(number)
     }
 
@@ -113,7 +112,7 @@ impl Row {
         requires { to < length self.now }
         ensures { result ≡ length (nth no_link self.now to).letters }
     {
-        let link = &self.links[node_place(to)];
+        let link = &self.links[to.place()];
         link.count()
     }
 
@@ -137,7 +136,7 @@ impl Row {
         ensures size { length self.new ≡ length self.old }
         ensures number { result ≡ length (nth [] (row_letters self.old) letter.to) }
     {
-        let link = &mut self.links[node_place(letter.to)];
+        let link = &mut self.links[letter.to.place()];
         link.push(letter)
     }
 }
@@ -177,7 +176,7 @@ impl Links {
         requires { IsLink self.now from to }
         ensures { option_copied result ≡ nth_letter (link (letters self.now) from to) number }
     {
-        let row = &self.rows[node_place(from)];
+        let row = &self.rows[from.place()];
         row.get(to, number)
     }
 
@@ -186,7 +185,7 @@ impl Links {
         requires { IsLink self.now from to }
         ensures { result ≡ length (link (letters self.now) from to) }
     {
-        let row = &self.rows[node_place(from)];
+        let row = &self.rows[from.place()];
         row.count(to)
     }
 
@@ -199,7 +198,7 @@ impl Links {
         ensures letters { letters self.new ≡ letters self.old }
         ensures room { OnOk result (HasRoom count (nth [] self.new from)) }
     {
-        let row = &mut self.rows[node_place(from)];
+        let row = &mut self.rows[from.place()];
         row.reserve(count)
     }
 
@@ -211,7 +210,7 @@ impl Links {
         ensures room { (from to : ℕ) → room self.old from to ≤ room self.new from to + 1 }
         ensures number { result ≡ length (link (letters self.old) letter.from letter.to) }
     {
-        let row = &mut self.rows[node_place(letter.from)];
+        let row = &mut self.rows[letter.from.place()];
         row.push(letter)
     }
 }

@@ -14,7 +14,6 @@ ghost use Rattle.zeus_node.specs.Tries.{AreNew, current_id, pushed, told_hindran
 use super::Node;
 use crate::copies::Change;
 use crate::effect::Effect;
-use crate::places::{object_place, slot_place};
 use zeus_base::{NodeId, NodeSet, ObjId, SlotId, Stamp, TxId, Value};
 use zeus_model::{Begin, Copy, Current, Entry, Pending, Tried};
 use zeus_packet::{Body, Place, RInv, State, Write, Writes};
@@ -52,7 +51,7 @@ impl Node {
         requires { slot < 1 }
         ensures { result ≡ current_id (slot_of self.now slot).current }
     {
-        let pipeline = &self.slots[slot_place(slot)];
+        let pipeline = &self.slots[slot.place()];
         match pipeline.current() {
             None => None,
             Some(current) => Some(current.id),
@@ -64,14 +63,14 @@ impl Node {
         requires { object < length self.now.entries }
         ensures { result.now ≡ entry self.now object }
     {
-        &self.entries[object_place(object)]
+        &self.entries[object.place()]
     }
 
     /// What the node knows of the object's placement, and of no object the placement at no node.
     pub fn known_entry(&self, object: ObjId) -> Entry
         ensures { result ≡ entry self.now object }
     {
-        match self.entries.get(object_place(object)) {
+        match self.entries.get(object.place()) {
             None => no_entry(),
             Some(entry) => *entry,
         }
@@ -120,7 +119,7 @@ impl Node {
         requires first { IsFirstCurrent self.old.me self.old.entries current }
         ensures { self.new ≡ with_current self.old slot current }
     {
-        let pipeline = &mut self.slots[slot_place(slot)];
+        let pipeline = &mut self.slots[slot.place()];
         pipeline.set_current(current);
     }
 
@@ -130,7 +129,7 @@ impl Node {
         ensures value { result ≡ (slot_of self.now slot).current }
         ensures first { IsFirstCurrent self.now.me self.now.entries result }
     {
-        let pipeline = &self.slots[slot_place(slot)];
+        let pipeline = &self.slots[slot.place()];
         match pipeline.current() {
             None => None,
             Some(current) => Some(Current {
@@ -329,7 +328,7 @@ impl Node {
     {
         self.copies
             .change(Change::Rewrite, pending.writes.as_slice());
-        let pipeline = &mut self.slots[slot_place(slot)];
+        let pipeline = &mut self.slots[slot.place()];
         pipeline.set_current(None);
         pipeline.push(pending);
     }

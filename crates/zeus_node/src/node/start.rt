@@ -25,7 +25,7 @@ impl Node {
         requires here { me < config.now.nodes }
         ensures { IfOk result (λ node. node ≡ start_node config.now me) }
     {
-        let all = all_nodes(config.nodes);
+        let all = NodeSet::below(config.nodes);
         let entries = start_entries(alloc, config.objects.as_slice())?;
         let copies = start_copies(alloc, me, config.objects.as_slice())?;
         let gathers = start_gathers(alloc, config.objects.as_slice())?;
@@ -167,18 +167,6 @@ fn start_copy(me: NodeId, object: &ObjectDecl) -> Option<Copy>
     } else {
         None
     }
-}
-
-/// The set of the nodes below this number, at most 8.
-pub fn all_nodes(nodes: u8) -> NodeSet
-    requires { nodes ≤ 8 }
-    ensures { result ≡ below nodes }
-{
-    let mut all = NodeSet::empty();
-    for node in 0..nodes {
-        all = all.insert(NodeId(node));
-    }
-    all
 }
 
 #[cfg(test)]

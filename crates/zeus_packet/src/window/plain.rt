@@ -1,7 +1,7 @@
 //! A window over a vector.
 ghost use Rattle.std.specs.Prelude.{◌≡◌, [], IfOk};
 
-use super::{DEPTH, Window};
+use super::{DEPTH, NewWindow, Window};
 use std::alloc::Global;
 use std::marker::Model;
 use zeus_base::NoMemory;
@@ -64,5 +64,11 @@ impl<T> Window<T> for PlainWindow<T> {
 
     fn len(&self) -> u32 {
         self.list.len() as u32
+    }
+}
+
+impl<T> NewWindow<T> for PlainWindow<T> {
+    fn empty(alloc: Global) -> Result<PlainWindow<T>, NoMemory> {
+        PlainWindow::new(alloc)
     }
 }

@@ -1,7 +1,7 @@
 //! A window over a ring.
 ghost use Rattle.std.specs.Prelude.{◌≡◌, [], IfOk};
 
-use super::{DEPTH, Window};
+use super::{DEPTH, NewWindow, Window};
 use circular_buffer::HeapCircularBuffer;
 use std::alloc::Global;
 use std::marker::Model;
@@ -58,5 +58,11 @@ impl<T> Window<T> for RingWindow<T> {
 
     fn len(&self) -> u32 {
         self.ring.len() as u32
+    }
+}
+
+impl<T> NewWindow<T> for RingWindow<T> {
+    fn empty(alloc: Global) -> Result<RingWindow<T>, NoMemory> {
+        RingWindow::new(alloc)
     }
 }

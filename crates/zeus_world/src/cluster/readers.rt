@@ -8,7 +8,6 @@ ghost use Rattle.zeus_model.specs.World.{node};
 ghost use Rattle.zeus_report.specs.Machines.{IsPoint};
 
 use super::Cluster;
-use crate::places::node_place;
 use zeus_base::{NodeId, ObjId, TxId};
 use zeus_model::{Copy, Entry, TxState};
 use zeus_packet::Place;
@@ -54,7 +53,7 @@ impl<'a> Cluster<'a> {
     pub(crate) fn is_live(&self, at: NodeId) -> bool
         ensures { result ≡ is_live self.now at }
     {
-        match self.nodes.get(node_place(at)) {
+        match self.nodes.get(at.place()) {
             None => false,
             Some(node) => !node.is_stopped(),
         }
@@ -64,7 +63,7 @@ impl<'a> Cluster<'a> {
     pub(crate) fn copy(&self, at: NodeId, obj: ObjId) -> Option<Copy>
         ensures { result ≡ copy (node self.now at) obj }
     {
-        match self.nodes.get(node_place(at)) {
+        match self.nodes.get(at.place()) {
             None => None,
             Some(node) => node.copy(obj),
         }
@@ -75,7 +74,7 @@ impl<'a> Cluster<'a> {
         requires { at < length self.now.nodes }
         ensures { result ≡ owns (node self.now at) obj }
     {
-        self.nodes[node_place(at)].owns(obj)
+        self.nodes[at.place()].owns(obj)
     }
 
     /// The live node that owns an object: the first of them, and by the protocol the only one.

@@ -10,7 +10,7 @@ use crate::book::Book;
 use crate::links::Links;
 use std::alloc::Global;
 use zeus_base::{Config, NoMemory, NodeId, NodeSet};
-use zeus_node::{Effect, Node, all_nodes};
+use zeus_node::{Effect, Node};
 use zeus_txn::TxList;
 
 impl<'a> Cluster<'a> {
@@ -56,6 +56,6 @@ fn first_views(alloc: Global, nodes: u8) -> Result<Vec<NodeSet>, NoMemory>
     ensures { IfOk result (λ v. v.items ≡ below nodes ∷ []) }
 {
     let mut views = Vec::with_capacity(alloc, 1).map_err(|_| NoMemory)?;
-    views.push_reserved(all_nodes(nodes));
+    views.push_reserved(NodeSet::below(nodes));
     Ok(views)
 }

@@ -8,7 +8,6 @@ ghost use Rattle.zeus_world.specs.Steps.{IsTaken};
 
 use super::Cluster;
 use crate::made::{MOST_PACKETS, MOST_POINTS, Made};
-use crate::places::{node_place, tx_place};
 use crate::posting::post_all;
 use zeus_base::{NoMemory, NodeId, SlotId, Step, Stream, TxId};
 use zeus_model::{Answer, Begin};
@@ -21,7 +20,7 @@ impl<'a> Cluster<'a> {
         requires { id < length self.now.txs }
         ensures { result.now ≡ tx_decl self.now id }
     {
-        &self.txs.as_slice()[tx_place(id)]
+        &self.txs.as_slice()[id.place()]
     }
 
     /// A step that the world itself answers: it is counted, and nothing else changes.
@@ -55,7 +54,7 @@ impl<'a> Cluster<'a> {
             return Some(Answer::Twice);
         }
         let tx = self.declared(id);
-        if self.nodes[node_place(tx.node)].is_stopped() {
+        if self.nodes[tx.node.place()].is_stopped() {
             return Some(Answer::Begin(Begin::Stopped));
         }
         self.waits_for(tx.after)
@@ -68,8 +67,8 @@ impl<'a> Cluster<'a> {
         ensures { IsTaken result self.new (begun_at self.old id (tx_decl self.old id).node (begin (node self.old (tx_decl self.old id).node) (tx_decl self.old id).slot id (tx_decl self.old id).tx)) }
     {
         let made = Made::nothing(*self.nodes.allocator());
-        let tx = &self.txs.as_slice()[tx_place(id)];
-        let node = &mut self.nodes[node_place(tx.node)];
+        let tx = &self.txs.as_slice()[id.place()];
+        let node = &mut self.nodes[tx.node.place()];
         let begun = node.begin(tx.slot, id, &tx.tx);
         self.book.note_begun(id, &begun);
         self.book.count();
@@ -103,7 +102,7 @@ impl<'a> Cluster<'a> {
         self.links.reserve(at, MOST_PACKETS)?;
         self.book.reserve(MOST_POINTS)?;
         self.effect.clear();
-        let node = &mut self.nodes[node_place(at)];
+        let node = &mut self.nodes[at.place()];
         let tried = node.try_slot(slot, &mut self.effect);
         let stream = Stream { node: at, slot };
         let degree = self.config.degree;
@@ -144,7 +143,7 @@ impl<'a> Cluster<'a> {
             return Ok(self.refuse(Answer::NoPacket(count)));
         };
         self.effect.clear();
-        let node = &mut self.nodes[node_place(to)];
+        let node = &mut self.nodes[to.place()];
         let outcome = node.receive(letter, &mut self.effect);
         self.book.pass_all(
             to,

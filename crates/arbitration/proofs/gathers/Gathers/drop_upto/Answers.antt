@@ -5,7 +5,7 @@ use Rattle.arbitration.proofs.gathers.Gathers.drop_upto.Goals as goal
 
 pub returns-clause-after : goal.returns-clause-after
 returns-clause-after c =
-    let there = rw c.object_place.ensures at c.index_mut-gather.ensures.value in
+    let there = rw c.place.ensures at c.index_mut-gather.ensures.value in
     let here = rw (← c.self.view_is) at c.requires in
-    rw (← c.self.view_is, c.object_place.ensures)
+    rw (← c.self.view_is, c.place.ensures)
     (put_read None _ c.args.obj _ _ (gather_above c.args.stamp) here there c.gather_above.ensures)

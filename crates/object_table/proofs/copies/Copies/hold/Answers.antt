@@ -7,7 +7,7 @@ use Rattle.object_table.proofs.copies.Copies.hold.Goals as goal
 
 pub held-requires : goal.held-requires
 held-requires c =
-    let there = rw c.object_place.ensures at c.index_mut-hold.ensures.value in
+    let there = rw c.place.ensures at c.index_mut-hold.ensures.value in
     let place = rw (← c.self.view_is) at c.requires.place in
     let here : c.args.obj < length c.self.inside.holds.items = rw c.self.invariant.places place in
     let room = rw (← c.self.view_is) at c.requires.room in
@@ -15,7 +15,7 @@ held-requires c =
 
 pub invariant_of-self : goal.invariant_of-self
 invariant_of-self c =
-    let there = rw c.object_place.ensures at c.index_mut-hold.ensures.value in
+    let there = rw c.place.ensures at c.index_mut-hold.ensures.value in
     let place = rw (← c.self.view_is) at c.requires.place in
     let here : c.args.obj < length c.self.inside.holds.items = rw c.self.invariant.places place in
     let room = rw (← c.self.view_is) at c.requires.room in
@@ -24,8 +24,8 @@ invariant_of-self c =
 
 pub returns-clause-holds : goal.returns-clause-holds
 returns-clause-holds c =
-    let there = rw c.object_place.ensures at c.index_mut-hold.ensures.value in
+    let there = rw c.place.ensures at c.index_mut-hold.ensures.value in
     let place = rw (← c.self.view_is) at c.requires.place in
     let here : c.args.obj < length c.self.inside.holds.items = rw c.self.invariant.places place in
     let next : Option Hold → Option Hold = λ h. Some (held c.args.slot h) in
-    rw (← c.self.view_is, c.object_place.ensures, c.held.ensures) (set_changed None next _ _ _ here there)
+    rw (← c.self.view_is, c.place.ensures, c.held.ensures) (set_changed None next _ _ _ here there)

@@ -5,4 +5,4 @@ use Rattle.object_table.proofs.copies.Copies.place_copy.Goals as goal
 pub returns-clause-copies : goal.returns-clause-copies
 returns-clause-copies c =
     let here = rw (← c.self.view_is) at c.requires in
-    rw (← c.self.view_is, c.object_place.ensures, c.valid_copy.ensures) (sym (put-set None _ _ _ here))
+    rw (← c.self.view_is, c.place.ensures, c.valid_copy.ensures) (sym (put-set None _ _ _ here))

@@ -5,7 +5,7 @@ use Rattle.object_table.proofs.copies.Copies.validate.Goals as goal
 
 pub returns-clause-copies : goal.returns-clause-copies
 returns-clause-copies c = λ value.
-    let there = rw c.object_place.ensures at c.index_mut-copy.ensures.value in
+    let there = rw c.place.ensures at c.index_mut-copy.ensures.value in
     let here = rw (← c.self.view_is) at c.requires in
-    rw (← c.self.view_is, c.object_place.ensures, c.validated.ensures c.args.obj value)
+    rw (← c.self.view_is, c.place.ensures, c.validated.ensures c.args.obj value)
     (set_changed None (validated record { obj = c.args.obj; ver = c.args.ver; value = value }) _ _ _ here there)

@@ -5,6 +5,6 @@ use Rattle.owner_entry.proofs.dir.Dir.entry.Goals as goal
 
 pub returns : goal.returns
 returns c =
-    let there = rw c.object_place.ensures at c.index.ensures in
+    let there = rw c.place.ensures at c.index.ensures in
     let here = rw (← c.self.view_is) at c.requires in
     rw (← c.self.view_is) (sym (nth_read no_entry _ _ _ here there))

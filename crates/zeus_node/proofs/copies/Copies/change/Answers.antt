@@ -13,8 +13,8 @@ loop-write-preserved c =
     let here : c.write-item.result.obj < length c.loop-write.self-inside.items.items = rw (c.loop-write.invariant.size, size, c.write-item.is) known in
     record {
       same =
-          rw (c.object_place.ensures, c.changed.ensures)
-          (each_write-step (changed_by c.args.how) _ _ _ _ _ c.loop-write-test.true c.write-item.is here (rw c.object_place.ensures at c.index_mut-copy.ensures.value)
+          rw (c.place.ensures, c.changed.ensures)
+          (each_write-step (changed_by c.args.how) _ _ _ _ _ c.loop-write-test.true c.write-item.is here (rw c.place.ensures at c.index_mut-copy.ensures.value)
           ∙ c.loop-write.invariant.same);
       size = length-set _ _ _ ∙ c.loop-write.invariant.size;
     }
@@ -28,7 +28,7 @@ pub index_mut-copy-requires : goal.index_mut-copy-requires
 index_mut-copy-requires c =
     let size = ap length c.self.view_is in
     let known = IsWithin-at _ _ c.loop-write.write-index c.write-item.result c.requires c.loop-write-test.true in
-    let here : c.object_place.result < length c.loop-write.self-inside.items.items =
-    rw (c.object_place.ensures, c.loop-write.invariant.size, size, c.write-item.is) known
+    let here : c.place.result < length c.loop-write.self-inside.items.items =
+    rw (c.place.ensures, c.loop-write.invariant.size, size, c.write-item.is) known
     in
     omega arith

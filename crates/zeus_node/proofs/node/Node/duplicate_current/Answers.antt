@@ -4,7 +4,7 @@ use Rattle.zeus_node.proofs.node.Node.duplicate_current.Goals as goal
 
 pub returns-in-None : goal.returns-in-None
 returns-in-None c =
-    let pipeline = rw c.slot_place.ensures at c.index-pipeline.ensures in
+    let pipeline = rw c.place.ensures at c.index-pipeline.ensures in
     let there = slot_read _ c.args.slot _ c.self.invariant c.requires pipeline in
     record {
       value = rw (← c.self.view_is, there) c.in-None.ensures;
@@ -13,7 +13,7 @@ returns-in-None c =
 
 pub returns-in-Some : goal.returns-in-Some
 returns-in-Some c =
-    let pipeline = rw c.slot_place.ensures at c.index-pipeline.ensures in
+    let pipeline = rw c.place.ensures at c.index-pipeline.ensures in
     let there = slot_read _ c.args.slot _ c.self.invariant c.requires pipeline in
     record {
       value = rw (← c.self.view_is, there, c.duplicate.ensures) c.in-Some.ensures;

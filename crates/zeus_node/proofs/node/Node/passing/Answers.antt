@@ -5,7 +5,7 @@ use Rattle.zeus_node.proofs.node.Node.passing.Goals as goal
 
 pub returns : goal.returns
 returns c =
-    let pipeline = rw c.slot_place.ensures at c.index.ensures in
+    let pipeline = rw c.place.ensures at c.index.ensures in
     let there = slot_read _ c.args.slot _ c.self.invariant c.requires pipeline in
     record {
       value = rw (← c.self.view_is, there) (c.passing.ensures.value ∙ passing-own (shown c.self.inside) _);

@@ -6,6 +6,6 @@ use Rattle.zeus_world.proofs.book.Book.commit.Goals as goal
 pub returns : goal.returns
 returns c =
     let there = rw (← c.self.view_is) at c.requires in
-    let found = rw c.tx_place.ensures at c.index_mut-record.ensures.value in
-    rw (← c.self.view_is, c.tx_place.ensures)
+    let found = rw c.place.ensures at c.index_mut-record.ensures.value in
+    rw (← c.self.view_is, c.place.ensures)
     (recorded (λ (r : TxRecord). record r { entry = Some record { stream = c.args.stream.now; number = c.args.number }; reply = Some c.args.reply }) _ _ _ _ c.args.id _ c.commit.new.self there found c.commit.ensures)

@@ -5,6 +5,6 @@ use Rattle.zeus_world.proofs.cluster.Cluster.declared.Goals as goal
 
 pub returns : goal.returns
 returns c =
-    let is = rw (c.as_slice.ensures, c.tx_place.ensures) at c.index-as_slice-tx_place.is in
+    let is = rw (c.as_slice.ensures, c.place.ensures) at c.index-as_slice-place.is in
     let here = rw (← c.self.view_is) at c.requires in
     rw (← c.self.view_is) (sym (nth_read no_tx _ _ _ here is))

@@ -3,10 +3,10 @@ use Rattle.zeus_world.proofs.cluster.Cluster.is_live.Goals as goal
 
 pub returns-in-None : goal.returns-in-None
 returns-in-None c =
-    let past = rw (c.node_place.ensures, c.deref.ensures.value) at c.in-None.ensures.lookup in
+    let past = rw (c.place.ensures, c.deref.ensures.value) at c.in-None.ensures.lookup in
     rw (← c.self.view_is) (live_past _ _ past.3)
 
 pub returns-in-Some : goal.returns-in-Some
 returns-in-Some c =
-    let found = rw (c.node_place.ensures, c.deref.ensures.value) at c.in-Some.ensures.lookup in
+    let found = rw (c.place.ensures, c.deref.ensures.value) at c.in-Some.ensures.lookup in
     rw (← c.self.view_is) (live_there _ _ _ _ found.3.0 found.1 c.is_stopped.ensures)

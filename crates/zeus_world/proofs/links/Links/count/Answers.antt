@@ -5,14 +5,14 @@ use Rattle.zeus_world.proofs.links.Links.count.Goals as goal
 
 pub count-requires : goal.count-requires
 count-requires c =
-    let row = rw c.node_place.ensures at c.index-row.ensures in
+    let row = rw c.place.ensures at c.index-row.ensures in
     let from = rw (← c.self.view_is) at c.requires.from in
     let to = rw (← c.self.view_is) at c.requires.to in
     rw (nth_read [] _ c.args.from _ from row) at to
 
 pub returns : goal.returns
 returns c =
-    let row = rw c.node_place.ensures at c.index-row.ensures in
+    let row = rw c.place.ensures at c.index-row.ensures in
     let from = rw (← c.self.view_is) at c.requires.from in
     rw (← c.self.view_is, letters-nth c.self.inside.rows.items c.args.from, nth_read [] _ c.args.from _ from row, row_letters-nth c.index-row.result.now c.args.to)
     c.count.ensures

@@ -4,6 +4,6 @@ use Rattle.zeus_world.proofs.links.Row.count.Goals as goal
 
 pub returns : goal.returns
 returns c =
-    let link = rw c.node_place.ensures at c.index-link.ensures in
+    let link = rw c.place.ensures at c.index-link.ensures in
     let to = rw (← c.self.view_is) at c.requires in
     rw (← c.self.view_is, nth_read no_link _ c.args.to _ to link) c.count.ensures

@@ -1,7 +1,7 @@
 use Rattle.std.proofs.Common.{◌∙◌, ap}
+use Rattle.zeus_base.specs.NodeLaws.{below_none, below_more}
 use Rattle.zeus_base.specs.Nodes.{with_node}
-use Rattle.membership.proofs.Making.{below_none, below_more}
-use Rattle.membership.proofs.service.nodes_below.Goals as goal
+use Rattle.zeus_base.proofs.node_set.NodeSet.below.Goals as goal
 
 pub loop-node-init : goal.loop-node-init
 loop-node-init c = c.empty-nodes.ensures ∙ below_none
