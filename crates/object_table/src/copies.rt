@@ -175,7 +175,6 @@ impl Copies {
     }
 }
 
-
 fn start_copies(
     alloc: Global,
     me: NodeId,
