@@ -5,3 +5,8 @@ pub mod StartLaws
 pub mod Entries
 pub mod EntryLaws
 pub mod HeldLaws
+pub mod NamedLaws
+pub mod Holding
+pub mod HoldingLaws
+pub mod NodeHolds
+pub mod Holders

@@ -180,7 +180,6 @@ fn a_stream_is_replayed(rt: HostRuntime) -> Result<(), Fail> {
 }
 
 /// The object, as all that a transaction names.
-#[tactic(auto, unfolding(crate::specs::Advancing::named_of))]
 fn named(alloc: Global) -> Named
     ensures { All (λ x. x < 1) result }
 {
