@@ -9,8 +9,7 @@ use Rattle.zeus_base.specs.Nodes.{join}
 use Rattle.zeus_base.specs.TableLaws.{length-put, nth-put_other}
 use Rattle.zeus_base.specs.declared.value.Value.{Value}
 use Rattle.zeus_packet.specs.declared.write.Write.{Write}
-use Rattle.zeus_txn.specs.Ops.{mentioned, mentions, named, named_after, object_of}
-use Rattle.zeus_txn.specs.OpLaws.{mentions-append, mentions-one, mentioned-new, mentioned-old}
+use Rattle.zeus_txn.specs.Ops.{mentions, named}
 use Rattle.zeus_txn.specs.RunLaws.{AreDistinct, keys, run-are_of}
 use Rattle.zeus_txn.specs.declared.ops.Op.{Op}
 use Rattle.zeus_model.specs.declared.answer.Tried.{Tried}
@@ -25,33 +24,10 @@ use Rattle.zeus_model.specs.Tables.{first_of, nth, or_else, put, where_true}
 use Rattle.object_table.specs.declared.hold.Hold.{Hold}
 use Rattle.object_table.specs.Table.{AreWithin, CanHold, after_write, each_held, held, hold_count, hold_slot, next_write}
 use Rattle.object_table.specs.HoldLaws.{hold_count-held}
+use Rattle.object_table.specs.NamedLaws.{distinct-named}
 use Rattle.object_table.specs.HeldLaws.{held-once, held-other, naming-more, naming-same}
 use Rattle.object_table.specs.Entries.{AreNamed, naming}
 use Rattle.local_txn.specs.Tries.{AreNext, AreRising, CanHoldEach, IsNext, held_at}
-
--- ---- the named objects are different ones
-
-distinct-append : (x : ℕ) (ks : List ℕ) → AreDistinct ks → mentions x ks ≡ false → AreDistinct (ks ++ x ∷ [])
-unfolding AreDistinct mentions
-distinct-append x [] d h = (refl, tt)
-distinct-append x (k ∷ ks) d h =
-    (grind (arith, nat_tests, d.0, mentions-append k ks (x ∷ []), mentions-one k x), distinct-append x ks d.1 (grind (arith, nat_tests)))
-
-distinct-mentioned : (x : ℕ) (ks : List ℕ) → AreDistinct ks → AreDistinct (mentioned ks x)
-distinct-mentioned x ks d =
-    elim (mentions x ks) as (λ b. mentions x ks ≡ b → AreDistinct (mentioned ks x)) [
-      | true ↦ λ old. rw (mentioned-old x ks old) d
-      | false ↦ λ new. rw (mentioned-new x ks new) (distinct-append x ks d new)
-    ] refl
-
-distinct-named_after : (ops : List Op) (ks : List ℕ) → AreDistinct ks → AreDistinct (named_after ks ops)
-unfolding named_after
-distinct-named_after [] ks d = d
-distinct-named_after (op ∷ ops) ks d = distinct-named_after ops (mentioned ks (object_of op)) (distinct-mentioned (object_of op) ks d)
-
-pub distinct-named : (ops : List Op) → AreDistinct (named ops)
-unfolding named AreDistinct
-distinct-named ops = distinct-named_after ops [] tt
 
 -- ---- an object of a list
 

@@ -1,5 +1,5 @@
 -- Loops over writes and names, from the first on.
-use Rattle.std.proofs.Common.{ℕ, zero, suc, ◌≡◌, ◌<◌, ◌≤◌, ◌+◌, List, [], ◌∷◌, ◌++◌, Option, None, length, drop, refl, sym, ap, ◌∙◌, arith, add-one, drop-cons}
+use Rattle.std.proofs.Common.{ℕ, zero, suc, ◌≡◌, ◌<◌, ◌≤◌, ◌+◌, List, [], ◌∷◌, Option, None, length, drop, refl, sym, ap, ◌∙◌, arith, add-one, drop-cons}
 use Rattle.std.specs.Prelude.{All}
 use Rattle.std.proofs.Math.ListN.{get_or}
 use Rattle.std.proofs.lemmas.List.{drop_all}
@@ -8,6 +8,7 @@ use Rattle.zeus_packet.specs.declared.write.Write.{Write}
 use Rattle.zeus_model.specs.declared.state.Copy.{Copy}
 use Rattle.zeus_model.specs.Commit.{each_write}
 use Rattle.zeus_model.specs.Tables.{nth, put}
+use Rattle.object_table.specs.HoldingLaws.{unheld-nil}
 use Rattle.object_table.specs.Table.{after_write, each_unheld, unheld}
 use Rattle.object_table.specs.WriteLaws.{each_write-cons, each_write-nil}
 use Rattle.object_table.specs.declared.hold.Hold.{Hold}
@@ -27,15 +28,6 @@ each_write-end f copies ws i h = rw (drop_all i ws h) (sym (each_write-nil f cop
 unheld-cons : (holds : List (Option Hold)) (x : ℕ) (xs : List ℕ) → each_unheld holds (x ∷ xs) ≡ each_unheld (put None holds x (unheld (nth None holds x))) xs
 unfolding each_unheld
 unheld-cons holds x xs = refl
-
-pub unheld-nil : (holds : List (Option Hold)) → each_unheld holds [] ≡ holds
-unfolding each_unheld
-unheld-nil holds = refl
-
-pub unheld-append : (holds : List (Option Hold)) (xs ys : List ℕ) → each_unheld holds (xs ++ ys) ≡ each_unheld (each_unheld holds xs) ys
-unfolding each_unheld
-unheld-append holds [] ys = refl
-unheld-append holds (x ∷ xs) ys = unheld-append (put None holds x (unheld (nth None holds x))) xs ys
 
 pub unheld-at : (holds : List (Option Hold)) (xs : List ℕ) (i x : ℕ) → i < length xs → x ≡ get_or xs i x → each_unheld (put None holds x (unheld (nth None holds x))) (drop (i + 1) xs) ≡ each_unheld holds (drop i xs)
 unheld-at holds xs i x h e =

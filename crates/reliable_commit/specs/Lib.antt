@@ -1,3 +1,4 @@
 pub mod Following
 pub mod Advancing
 pub mod FollowLaws
+pub mod AdvanceLaws
