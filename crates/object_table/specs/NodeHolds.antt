@@ -22,7 +22,8 @@ use Rattle.object_table.specs.Entries.{named_of, naming}
 use Rattle.object_table.specs.Holding.{AreHeld, IsFreeFor, IsPositive, NameOnce, held_times}
 use Rattle.object_table.specs.NamedLaws.{distinct-named}
 use Rattle.object_table.specs.Table.{each_held, each_unheld}
-use Rattle.object_table.specs.HoldingLaws.{held_times-drop, held_times-drop_beside, held_times-each_held, naming-acked, naming-push, once-acked, once-drop, once-push, positive-each_held, positive-each_unheld, unheld-nil}
+use Rattle.object_table.specs.HeldLaws.{held_times-each_held, naming-push, positive-each_held, positive-each_unheld, unheld-nil}
+use Rattle.object_table.specs.HoldingLaws.{held_times-drop, held_times-drop_beside, naming-acked, once-acked, once-drop, once-push}
 
 -- at the start no slot has an entry, and no object is held
 nth-all : {A : Type 0} (d : A) (n i : ℕ) → nth d (replicate n d) i ≡ d

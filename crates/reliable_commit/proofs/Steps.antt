@@ -7,7 +7,7 @@ use Rattle.zeus_model.specs.declared.state.Kept.{Kept}
 use Rattle.zeus_model.specs.declared.state.Pending.{Pending}
 use Rattle.zeus_model.specs.Commit.{as_kept, each_write, followers_of, validated, writes_of}
 use Rattle.object_table.specs.Entries.{named_of}
-use Rattle.object_table.specs.HoldingLaws.{unheld-append, unheld-nil}
+use Rattle.object_table.specs.HeldLaws.{unheld-append, unheld-nil}
 use Rattle.object_table.specs.Table.{each_unheld}
 use Rattle.object_table.specs.WriteLaws.{each_write-append, each_write-nil}
 use Rattle.object_table.specs.declared.hold.Hold.{Hold}

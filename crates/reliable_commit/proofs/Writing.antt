@@ -8,7 +8,7 @@ use Rattle.zeus_packet.specs.declared.write.Write.{Write}
 use Rattle.zeus_model.specs.declared.state.Copy.{Copy}
 use Rattle.zeus_model.specs.Commit.{each_write}
 use Rattle.zeus_model.specs.Tables.{nth, put}
-use Rattle.object_table.specs.HoldingLaws.{unheld-nil}
+use Rattle.object_table.specs.HeldLaws.{unheld-nil}
 use Rattle.object_table.specs.Table.{after_write, each_unheld, unheld}
 use Rattle.object_table.specs.WriteLaws.{each_write-cons, each_write-nil}
 use Rattle.object_table.specs.declared.hold.Hold.{Hold}
