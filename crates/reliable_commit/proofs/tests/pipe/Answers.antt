@@ -1,3 +1,4 @@
+use Rattle.std.proofs.Common.{[]}
 use Rattle.object_table.specs.EntryLaws.{within-none, within-push}
 use Rattle.reliable_commit.proofs.tests.pipe.Goals as goal
 
