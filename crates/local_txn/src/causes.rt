@@ -33,8 +33,8 @@ pub(crate) fn cause(
     slot: SlotId,
     tx: &Tx,
 ) -> Option<WriteTry>
-    requires { All (λ x. x < length dir.now) (named tx.now) }
-    ensures first { (n : Node) (id : ℕ) → IsNodeOf me dir.now copies.now slot pipe.now n → cause_as id result ≡ write_cause n slot tx.now }
+    requires { All (λ x. x < length dir.now.entries) (named tx.now) }
+    ensures first { (n : Node) (id : ℕ) → IsNodeOf me dir.now.entries copies.now slot pipe.now n → cause_as id result ≡ write_cause n slot tx.now }
     ensures clear { IfNone result (IsClear slot copies.now pipe.now tx.now) }
 {
     if pipe.len() == DEPTH {
@@ -54,8 +54,8 @@ pub(crate) fn cause(
 
 /// The first named object that the node does not own.
 fn first_not_owned(dir: &Dir, me: NodeId, tx: &Tx) -> Option<ObjId>
-    requires { All (λ x. x < length dir.now) (named tx.now) }
-    ensures { told_not_owned result ≡ first_of (owner_at me dir.now) (named tx.now) }
+    requires { All (λ x. x < length dir.now.entries) (named tx.now) }
+    ensures { told_not_owned result ≡ first_of (owner_at me dir.now.entries) (named tx.now) }
 {
     let named = tx.named();
     for object in named.as_slice() {

@@ -29,13 +29,13 @@ pub(crate) fn commit(
     tx: &Tx,
 ) -> WriteTry
     requires objects { All (λ x. x < length copies.old.copies) (named tx.now) }
-    requires places { length dir.now ≡ length copies.old.copies }
+    requires places { length dir.now.entries ≡ length copies.old.copies }
     requires holds { AreNamed slot copies.old.holds pipe.old.pending }
     requires clear { IsClear slot copies.old pipe.old tx.now }
-    ensures answer { tried_as id result ≡ Committed id (pipe.old.done + length pipe.old.pending) (run_here (node_of me dir.now copies.old.copies) tx.now).reply }
-    ensures copies { copies.new.copies ≡ each_write rewritten_copy copies.old.copies (writes_here (node_of me dir.now copies.old.copies) tx.now) }
+    ensures answer { tried_as id result ≡ Committed id (pipe.old.done + length pipe.old.pending) (run_here (node_of me dir.now.entries copies.old.copies) tx.now).reply }
+    ensures copies { copies.new.copies ≡ each_write rewritten_copy copies.old.copies (writes_here (node_of me dir.now.entries copies.old.copies) tx.now) }
     ensures holds { copies.new.holds ≡ each_held slot copies.old.holds (named tx.now) }
-    ensures pending { pipe.new.pending ≡ pipe.old.pending ++ entry_here (node_of me dir.now copies.old.copies) id tx.now ∷ [] }
+    ensures pending { pipe.new.pending ≡ pipe.old.pending ++ entry_here (node_of me dir.now.entries copies.old.copies) id tx.now ∷ [] }
     ensures done { pipe.new.done ≡ pipe.old.done }
     ensures named { AreNamed slot copies.new.holds pipe.new.pending }
     ensures others { (t : ℕ) (ps : List Pending) → t ≢ slot → AreNamed t copies.old.holds ps → AreNamed t copies.new.holds ps }
@@ -83,8 +83,8 @@ fn new_writes(copies: &Copies, values: &NewValues) -> Writes
 
 /// The replicas of the written objects by the settled placements.
 fn replicas(dir: &Dir, writes: &Writes) -> NodeSet
-    requires { AreWithin (length dir.now) writes.now }
-    ensures { result ≡ replicas_of (node_of 0 dir.now []) writes.now }
+    requires { AreWithin (length dir.now.entries) writes.now }
+    ensures { result ≡ replicas_of (node_of 0 dir.now.entries []) writes.now }
 {
     let mut all = NodeSet::empty();
     let count = writes.len();
