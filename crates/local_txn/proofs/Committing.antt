@@ -25,8 +25,9 @@ use Rattle.zeus_model.specs.Tables.{first_of, nth, or_else, put, where_true}
 use Rattle.object_table.specs.declared.hold.Hold.{Hold}
 use Rattle.object_table.specs.Table.{AreWithin, CanHold, after_write, each_held, held, hold_count, hold_slot, next_write}
 use Rattle.object_table.specs.HoldLaws.{hold_count-held}
-use Rattle.local_txn.specs.HeldLaws.{held-once, held-other, naming-more, naming-same}
-use Rattle.local_txn.specs.Tries.{AreNamed, AreNext, AreRising, CanHoldEach, IsNext, held_at, naming}
+use Rattle.object_table.specs.HeldLaws.{held-once, held-other, naming-more, naming-same}
+use Rattle.object_table.specs.Entries.{AreNamed, naming}
+use Rattle.local_txn.specs.Tries.{AreNext, AreRising, CanHoldEach, IsNext, held_at}
 
 -- ---- the named objects are different ones
 

@@ -1,3 +1,2 @@
-pub mod HeldLaws
 pub mod Tries
 pub mod TriesLaws

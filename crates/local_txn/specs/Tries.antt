@@ -1,10 +1,10 @@
 -- The write part of a try.
-use Rattle.std.specs.Prelude.{ℕ, ◌≡◌, ◌≢◌, ◌+◌, ◌-◌, ◌^◌, ◌<◌, ◌≤◌, Bool, false, ◌&&◌, not, ◌==◌, List, [], ◌∷◌, length, Option, Some, None, is_none, if◌then◌else◌}
+use Rattle.std.specs.Prelude.{ℕ, ◌≡◌, ◌≢◌, ◌+◌, ◌-◌, ◌^◌, ◌<◌, Bool, false, ◌&&◌, not, ◌==◌, List, [], ◌∷◌, length, Option, Some, None, is_none}
 use Rattle.std.specs.List.{list_any}
 use Rattle.zeus_base.specs.Nodes.{without}
 use Rattle.zeus_base.specs.declared.value.Value.{Value}
 use Rattle.zeus_packet.specs.declared.write.Write.{Write}
-use Rattle.zeus_txn.specs.Ops.{mentions, named, object_of, stores}
+use Rattle.zeus_txn.specs.Ops.{named, object_of, stores}
 use Rattle.zeus_txn.specs.declared.ops.Op.{Op}
 use Rattle.zeus_model.specs.declared.answer.Tried.{Tried}
 use Rattle.zeus_model.specs.declared.answer.Tried.TheVariants as rules
@@ -17,7 +17,7 @@ use Rattle.zeus_model.specs.State.{Node, holder, no_entry, slot, version_of}
 use Rattle.zeus_model.specs.Tables.{first_of, nth, put, where_true}
 use Rattle.zeus_model.specs.World.{no_node}
 use Rattle.object_table.specs.declared.hold.Hold.{Hold}
-use Rattle.object_table.specs.Table.{CanHold, Table, after_write, each_held, held, hold_count, hold_slot}
+use Rattle.object_table.specs.Table.{CanHold, Table, after_write, each_held, held, hold_slot}
 use Rattle.commit_pipeline.specs.Pipes.{Waiting}
 use Rattle.local_txn.specs.declared.causes.HeldBy.{HeldBy}
 use Rattle.local_txn.specs.declared.attempt.WriteTry.{WriteTry}
@@ -31,15 +31,6 @@ pub record IsNodeOf (me : ℕ) (entries : List Entry) (table : Table) (s : ℕ) 
   pub holders : (x : ℕ) → holder n x ≡ hold_slot (nth None table.holds x)
   pub done : (slot n s).done ≡ waiting.done
   pub pending : (slot n s).pending ≡ waiting.pending
-
--- how many of the entries name the object
-unfoldable pub naming : ℕ → List Pending → ℕ
-naming x [] = 0
-naming x (p ∷ ps) = (if mentions x p.named then 1 else 0) + naming x ps
-
--- the slot holds no object more often than entries name it
-abbrev pub AreNamed : ℕ → List (Option Hold) → List Pending → Type 0
-AreNamed s holds ps = (x : ℕ) → hold_slot (nth None holds x) ≡ Some s → hold_count (nth None holds x) ≤ naming x ps
 
 -- what becomes of a try, as the answer to the try of a slot with this transaction
 unfoldable pub tried_as : ℕ → WriteTry → Tried

@@ -4,7 +4,8 @@ ghost use Rattle.zeus_model.specs.Local.{write_cause, write_row};
 ghost use Rattle.zeus_model.specs.State.{Node, slot as slot_of};
 ghost use Rattle.zeus_model.specs.declared.state.Pending.{Pending};
 ghost use Rattle.zeus_txn.specs.Ops.{named};
-ghost use Rattle.local_txn.specs.Tries.{AreNamed, IsNodeOf, after_try, holds_after, tried_as};
+ghost use Rattle.object_table.specs.Entries.{AreEntriesWithin, AreNamed};
+ghost use Rattle.local_txn.specs.Tries.{IsNodeOf, after_try, holds_after, tried_as};
 
 use crate::causes::cause;
 use crate::commit::commit;
@@ -59,6 +60,7 @@ pub fn try_write(
     ensures named { AreNamed slot copies.new.holds pipe.new.pending }
     ensures others { (t : ℕ) (ps : List Pending) → t ≢ slot → AreNamed t copies.old.holds ps → AreNamed t copies.new.holds ps }
     ensures objects { length copies.new.copies ≡ length copies.old.copies }
+    ensures within { AreEntriesWithin (length copies.old.copies) pipe.old.pending → AreEntriesWithin (length copies.old.copies) pipe.new.pending }
 {
     match cause(copies, dir, pipe, me, slot, tx) {
         Some(cause) => cause,

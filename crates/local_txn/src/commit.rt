@@ -5,7 +5,8 @@ ghost use Rattle.zeus_model.specs.Local.{new_writes, replicas_of, rewritten_copy
 ghost use Rattle.zeus_model.specs.declared.state.Pending.{Pending};
 ghost use Rattle.zeus_txn.specs.Ops.{named};
 ghost use Rattle.object_table.specs.Table.{AreWithin, each_held};
-ghost use Rattle.local_txn.specs.Tries.{AreNamed, AreNext, AreRising, CanHoldEach, IsClear, entry_here, node_of, tried_as, writes_here};
+ghost use Rattle.object_table.specs.Entries.{AreEntriesWithin, AreNamed};
+ghost use Rattle.local_txn.specs.Tries.{AreNext, AreRising, CanHoldEach, IsClear, entry_here, node_of, tried_as, writes_here};
 ghost use Rattle.zeus_model.specs.declared.answer.Tried.TheVariants.{Committed};
 
 use crate::attempt::WriteTry;
@@ -40,6 +41,7 @@ pub(crate) fn commit(
     ensures named { AreNamed slot copies.new.holds pipe.new.pending }
     ensures others { (t : ℕ) (ps : List Pending) → t ≢ slot → AreNamed t copies.old.holds ps → AreNamed t copies.new.holds ps }
     ensures objects { length copies.new.copies ≡ length copies.old.copies }
+    ensures within { AreEntriesWithin (length copies.old.copies) pipe.old.pending → AreEntriesWithin (length copies.old.copies) pipe.new.pending }
 {
     let ran = run_on(copies, tx);
     let writes = new_writes(copies, &ran.writes);

@@ -2,7 +2,7 @@
 ghost use Rattle.std.specs.Prelude.{◌≡◌, ◌<◌, ℕ, All, IfOk, IfSome, None, length, nat_lt, replicate};
 ghost use Rattle.std.specs.List.{list_all};
 ghost use Rattle.zeus_txn.specs.Ops.{named};
-ghost use Rattle.local_txn.specs.Tries.{AreNamed};
+ghost use Rattle.object_table.specs.Entries.{AreNamed};
 
 use crate::{WriteTry, try_write};
 use commit_pipeline::Pipe;

@@ -1,5 +1,5 @@
 -- Changes of one place of a table in range.
-use Rattle.std.proofs.Common.{ℕ, ◌≡◌, ◌<◌, ◌-◌, List, Option, Some, None, length, sym, ◌∙◌, arith, replicate, map}
+use Rattle.std.proofs.Common.{ℕ, ◌≡◌, ◌<◌, List, Option, Some, None, length, sym, ◌∙◌, arith, replicate, map}
 use Rattle.std.specs.List.{All}
 use Rattle.std.proofs.Math.ListN.{get_or, set, length-set}
 use Rattle.std.proofs.lemmas.List.{length-map, length-replicate}

@@ -170,7 +170,6 @@ impl Copies {
     }
 }
 
-
 fn start_copies(
     alloc: Global,
     me: NodeId,

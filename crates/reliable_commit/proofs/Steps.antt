@@ -1,18 +1,15 @@
 -- Loops over entries, from the first on.
-use Rattle.std.proofs.Common.{ℕ, zero, suc, ◌≡◌, ◌<◌, ◌≤◌, List, [], ◌∷◌, ◌++◌, Option, Some, None, length, take, drop, map, refl, sym, arith}
+use Rattle.std.proofs.Common.{ℕ, zero, suc, ◌≡◌, ◌<◌, ◌≤◌, List, [], ◌∷◌, Option, Some, None, length, take, drop, map, refl, sym, arith}
 use Rattle.std.specs.List.{slice_get}
-use Rattle.std.specs.Prelude.{All}
-use Rattle.std.proofs.lemmas.List.Elements.{All-head, All-tail, All-nil, All-cons}
 use Rattle.zeus_base.specs.Nodes.{join}
 use Rattle.zeus_model.specs.declared.state.Copy.{Copy}
 use Rattle.zeus_model.specs.declared.state.Kept.{Kept}
 use Rattle.zeus_model.specs.declared.state.Pending.{Pending}
 use Rattle.zeus_model.specs.Commit.{as_kept, each_write, followers_of, validated, writes_of}
-use Rattle.object_table.specs.Table.{AreWithin, each_unheld}
+use Rattle.object_table.specs.Entries.{named_of}
+use Rattle.object_table.specs.Table.{each_unheld}
 use Rattle.object_table.specs.WriteLaws.{each_write-append, each_write-nil}
 use Rattle.object_table.specs.declared.hold.Hold.{Hold}
-use Rattle.reliable_commit.specs.Advancing.{named_of}
-use Rattle.reliable_commit.specs.FollowLaws.{AreWithin-left, AreWithin-right}
 use Rattle.reliable_commit.proofs.Writing.{unheld-append, unheld-nil}
 
 -- ---- entries one by one
@@ -55,40 +52,6 @@ pass_none-rest ps n e = rw e refl
 pub none_first : (ps : List Pending) → None ≡ slice_get ps 0 → length ps ≡ 0
 none_first [] h = refl
 none_first (p ∷ ps) h = absurd cc
-
--- what the first entry writes and names, and what the others do
-pub first_writes : (n : ℕ) (ps : List Pending) (e : Pending) → AreWithin n (writes_of (map as_kept ps)) → Some e ≡ slice_get ps 0 → AreWithin n e.writes
-unfolding writes_of
-first_writes n [] e h is = absurd cc
-first_writes n (p ∷ ps) e h is =
-    let same : e ≡ p = cc in
-    rw same (AreWithin-left n p.writes (writes_of (map as_kept ps)) h)
-
-pub rest_writes : (n : ℕ) (ps : List Pending) → AreWithin n (writes_of (map as_kept ps)) → AreWithin n (writes_of (map as_kept (drop 1 ps)))
-unfolding writes_of
-rest_writes n [] h = h
-rest_writes n (p ∷ ps) h = AreWithin-right n p.writes (writes_of (map as_kept ps)) h
-
-All-left : (P : ℕ → Type 0) (xs ys : List ℕ) → All P (xs ++ ys) → All P xs
-All-left P [] ys h = All-nil P
-All-left P (x ∷ xs) ys h =
-    All-cons P x xs (All-head P x (xs ++ ys) h) (All-left P xs ys (All-tail P x (xs ++ ys) h))
-
-All-right : (P : ℕ → Type 0) (xs ys : List ℕ) → All P (xs ++ ys) → All P ys
-All-right P [] ys h = h
-All-right P (x ∷ xs) ys h = All-right P xs ys (All-tail P x (xs ++ ys) h)
-
-pub first_names : (P : ℕ → Type 0) (ps : List Pending) (e : Pending) → All P (named_of ps) → Some e ≡ slice_get ps 0 → All P e.named
-unfolding named_of
-first_names P [] e h is = absurd cc
-first_names P (p ∷ ps) e h is =
-    let same : e ≡ p = cc in
-    rw same (All-left P p.named (named_of ps) h)
-
-pub rest_names : (P : ℕ → Type 0) (ps : List Pending) → All P (named_of ps) → All P (named_of (drop 1 ps))
-unfolding named_of
-rest_names P [] h = h
-rest_names P (p ∷ ps) h = All-right P p.named (named_of ps) h
 
 -- ---- followers, from the last entry on
 

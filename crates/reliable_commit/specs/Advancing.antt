@@ -1,10 +1,9 @@
 -- What passes of a stream at its node, or at one that replays it.
-use Rattle.std.specs.Prelude.{ℕ, ◌≡◌, ◌-◌, ◌==◌, List, [], ◌∷◌, ◌++◌, Option, if◌then◌else◌}
+use Rattle.std.specs.Prelude.{ℕ, ◌≡◌, ◌-◌, ◌==◌, List, [], ◌∷◌, Option, if◌then◌else◌}
 use Rattle.zeus_base.specs.declared.order.Stream.{Stream}
 use Rattle.zeus_base.specs.declared.step.Passed.{Passed}
 use Rattle.zeus_model.specs.declared.state.Copy.{Copy}
 use Rattle.zeus_model.specs.declared.state.Kept.{Kept}
-use Rattle.zeus_model.specs.declared.state.Pending.{Pending}
 use Rattle.zeus_model.specs.Commit.{followers_of}
 use Rattle.zeus_model.specs.State.{Node, StreamLog, slot}
 use Rattle.zeus_base.specs.Nodes.{without, meet}
@@ -24,11 +23,6 @@ pub record IsOwnWith (n : Node) (s : ℕ) (cs : List (Option Copy)) (w : Waiting
 pub record IsMemberWith (n : Node) (cs : List (Option Copy)) (ls : List (List StreamLog)) (m : ℕ) (ms : List ℕ) : Type 0 where
   pub node : IsNodeWith n cs ls m
   pub members : n.members ≡ ms
-
--- the objects that the entries name, in order
-unfoldable pub named_of : List Pending → List ℕ
-named_of [] = []
-named_of (p ∷ ps) = p.named ++ named_of ps
 
 -- how many entries an advance passes
 abbrev pub count_of : Advance → ℕ

@@ -1,13 +1,14 @@
 //! What passes: entries of an own slot, and those of the stream of a node that is no member.
-ghost use Rattle.std.specs.Prelude.{◌≡◌, ◌<◌, ◌≤◌, ◌+◌, ◌-◌, ◌^◌, ℕ, All, drop, length, map, take};
+ghost use Rattle.std.specs.Prelude.{◌≡◌, ◌≤◌, ◌+◌, ◌-◌, ◌^◌, ℕ, drop, length, map, take};
 ghost use Rattle.zeus_base.specs.Nodes.{meet, without};
 ghost use Rattle.zeus_model.specs.Act.{to_each};
 ghost use Rattle.zeus_model.specs.Commit.{advance_kept, advance_own, as_kept, each_write, followers_of, validated, writes_of};
 ghost use Rattle.zeus_model.specs.State.{Node, own_stream, slot as slot_of};
 ghost use Rattle.zeus_packet.specs.declared.letter.Body.TheVariants.{RVal};
 ghost use Rattle.follower_log.specs.Streams.{IsStreamOf, log_at};
-ghost use Rattle.object_table.specs.Table.{AreWithin, each_unheld};
-ghost use Rattle.reliable_commit.specs.Advancing.{IsMemberWith, IsOwnWith, count_of, named_of, passed_by, told_of};
+ghost use Rattle.object_table.specs.Entries.{AreEntriesWithin, named_of};
+ghost use Rattle.object_table.specs.Table.{each_unheld};
+ghost use Rattle.reliable_commit.specs.Advancing.{IsMemberWith, IsOwnWith, count_of, passed_by, told_of};
 ghost use Rattle.reliable_commit.specs.Following.{IsFollowed};
 
 use crate::follow::raise;
@@ -31,8 +32,7 @@ pub struct Advance {
 /// node with these copies, number and members, of which this slot's entries that wait are those of the pipe. Takes no
 /// memory.
 pub fn advance_own(copies: &mut Copies, pipe: &mut Pipe, me: NodeId, members: NodeSet) -> Advance
-    requires writes { AreWithin (length copies.old.copies) (writes_of (map as_kept pipe.old.pending)) }
-    requires named { All (λ x. x < length copies.old.copies) (named_of pipe.old.pending) }
+    requires { AreEntriesWithin (length copies.old.copies) pipe.old.pending }
     ensures letters { (n : Node) (s : ℕ) → IsOwnWith n s copies.old.copies pipe.old me members → (advance_own n s).sent ≡ to_each n result.tell (RVal (own_stream n s) result.after) }
     ensures passed { (n : Node) (s : ℕ) → IsOwnWith n s copies.old.copies pipe.old me members → (advance_own n s).passed ≡ passed_by (own_stream n s) result }
     ensures copies { (n : Node) (s : ℕ) → IsOwnWith n s copies.old.copies pipe.old me members → copies.new.copies ≡ (advance_own n s).node.copies }
@@ -43,6 +43,7 @@ pub fn advance_own(copies: &mut Copies, pipe: &mut Pipe, me: NodeId, members: No
     ensures tell { result.tell ≡ told_of me members (take (count_of result) (map as_kept pipe.old.pending)) }
     ensures holds { copies.new.holds ≡ each_unheld copies.old.holds (named_of (take (count_of result) pipe.old.pending)) }
     ensures objects { length copies.new.copies ≡ length copies.old.copies }
+    ensures within { AreEntriesWithin (length copies.old.copies) pipe.new.pending }
 {
     let first = pipe.done();
     let count = pipe.passing(me, members);
@@ -100,8 +101,7 @@ fn told(followers: NodeSet, me: NodeId, members: NodeSet) -> NodeSet
 /// The first entries of the pipe pass: the writes of each are validated, and what it names is let go.
 fn pass(copies: &mut Copies, pipe: &mut Pipe, count: u32)
     requires few { count ≤ length pipe.old.pending }
-    requires writes { AreWithin (length copies.old.copies) (writes_of (map as_kept pipe.old.pending)) }
-    requires named { All (λ x. x < length copies.old.copies) (named_of pipe.old.pending) }
+    requires within { AreEntriesWithin (length copies.old.copies) pipe.old.pending }
     ensures pending { pipe.new.pending ≡ drop count pipe.old.pending }
     ensures done { pipe.new.done ≡ pipe.old.done + count }
     ensures copies { copies.new.copies ≡ each_write validated copies.old.copies (writes_of (take count (map as_kept pipe.old.pending))) }

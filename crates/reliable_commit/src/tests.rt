@@ -1,8 +1,7 @@
 //! Tests of typical calls.
 ghost use Rattle.std.specs.Prelude.{◌≡◌, ◌<◌, ◌^◌, ◌-◌, All, IfOk, length, map};
-ghost use Rattle.zeus_model.specs.Commit.{as_kept, writes_of};
+ghost use Rattle.object_table.specs.Entries.{AreEntriesWithin, IsWithin};
 ghost use Rattle.object_table.specs.Table.{AreWithin};
-ghost use Rattle.reliable_commit.specs.Advancing.{named_of};
 ghost use Rattle.reliable_commit.specs.Following.{IsFollowed};
 
 use crate::{
@@ -192,8 +191,7 @@ fn named(alloc: Global) -> Named
 
 /// A commit of node 0 that nodes 1 and 2 follow and these have acknowledged.
 fn pending(alloc: Global, acks: NodeSet) -> Pending
-    ensures writes { AreWithin 1 result.writes }
-    ensures named { All (λ x. x < 1) result.named }
+    ensures { IsWithin 1 result }
 {
     Pending {
         id: TxId(3),
@@ -210,8 +208,7 @@ fn pending(alloc: Global, acks: NodeSet) -> Pending
 
 /// A pipe with that commit alone.
 fn pipe(alloc: Global, acks: NodeSet) -> Result<Pipe, NoMemory>
-    ensures writes { IfOk result (λ pipe. AreWithin 1 (writes_of (map as_kept pipe.pending))) }
-    ensures named { IfOk result (λ pipe. All (λ x. x < 1) (named_of pipe.pending)) }
+    ensures { IfOk result (λ pipe. AreEntriesWithin 1 pipe.pending) }
 {
     let mut pipe = Pipe::new(alloc)?;
     match pipe.push(pending(alloc, acks)) {

@@ -6,8 +6,9 @@ use Rattle.zeus_model.specs.Local.{rewritten_copy}
 use Rattle.zeus_model.specs.State.{value_of}
 use Rattle.zeus_model.specs.Tables.{nth}
 use Rattle.object_table.specs.WriteLaws.{length-each_write}
-use Rattle.local_txn.specs.HeldLaws.{named-others}
-use Rattle.local_txn.specs.Tries.{node_of, tried_as}
+use Rattle.object_table.specs.EntryLaws.{within-push}
+use Rattle.object_table.specs.HeldLaws.{named-others}
+use Rattle.local_txn.specs.Tries.{entry_here, node_of, tried_as}
 use Rattle.local_txn.proofs.Answering.{entry_made, writes_made}
 use Rattle.local_txn.proofs.Committing.{can_hold_named, named_kept, writes_next, writes_within}
 use Rattle.local_txn.proofs.Worn.{run_rising}
@@ -84,3 +85,13 @@ returns-in-Ok-clause-named c =
 pub returns-in-Ok-clause-others : goal.returns-in-Ok-clause-others
 returns-in-Ok-clause-others c = λ t ps other counts.
     rw (c.hold_each.ensures.holds, c.write_each.ensures.holds) (named-others c.args.slot t _ c.args.copies.now.holds ps other counts)
+
+pub returns-in-Ok-clause-within : goal.returns-in-Ok-clause-within
+returns-in-Ok-clause-within c = λ before.
+    let copies = c.args.copies.now.copies in
+    let n = node_of c.args.me c.args.dir.now copies in
+    rw (returns-in-Ok-clause-pending c)
+    (within-push (length copies) c.args.pipe.now.pending (entry_here n c.args.id c.args.tx.now) before record {
+      writes = writes_within n (length copies) c.args.tx.now c.requires.objects;
+      named = c.requires.objects;
+    })

@@ -1,7 +1,7 @@
 use Rattle.std.proofs.Common.{arith}
 use Rattle.zeus_base.specs.Tables.{nth}
 use Rattle.object_table.specs.Table.{CanHold}
-use Rattle.local_txn.specs.HeldLaws.{named-beside, named-free}
+use Rattle.object_table.specs.HeldLaws.{named-beside, named-free}
 use Rattle.local_txn.proofs.tests.an_object_that_another_slot_holds_is_not_written.Goals as goal
 
 pub hold-requires-clause-room : goal.hold-requires-clause-room

@@ -1,4 +1,4 @@
-use Rattle.local_txn.specs.HeldLaws.{named-free}
+use Rattle.object_table.specs.HeldLaws.{named-free}
 use Rattle.local_txn.proofs.tests.an_owner_commits_until_another_slot_holds.Goals as goal
 
 pub attempt-requires-clause-named : goal.attempt-requires-clause-named

@@ -1,4 +1,4 @@
-use Rattle.local_txn.specs.HeldLaws.{named-free}
+use Rattle.object_table.specs.HeldLaws.{named-free}
 use Rattle.local_txn.proofs.tests.the_last_version_is_worn_out.Goals as goal
 
 pub attempt-requires-clause-named : goal.attempt-requires-clause-named

@@ -1,5 +1,6 @@
 use Rattle.std.proofs.Common.{ℕ, List, ap, ◌∙◌}
 use Rattle.zeus_base.specs.Nodes.{meet, without}
+use Rattle.object_table.specs.EntryLaws.{within-drop}
 use Rattle.reliable_commit.specs.declared.advance.Advance.{Advance}
 use Rattle.reliable_commit.proofs.Passing.{is_advance, own_copies, own_done, own_letters, own_passed, own_passing, own_pending}
 use Rattle.reliable_commit.proofs.advance.advance_own.Goals as goal
@@ -39,3 +40,6 @@ returns-clause-done c = λ n s node.
     let k = c.passing-count.result in
     let count = own_passing n s k _ _ _ _ node c.passing-count.ensures.value in
     rw (c.pass.ensures.done, ← node.done) (own_done n s k count)
+
+pub returns-clause-within : goal.returns-clause-within
+returns-clause-within c = rw c.pass.ensures.pending (within-drop _ _ _ c.requires)

@@ -1,16 +1,17 @@
 use Rattle.std.proofs.Common.{◌≡◌, ◌<◌, ◌+◌, ◌-◌, ℕ, suc, length, sym, ap, ◌∙◌, arith}
 use Rattle.commit_pipeline.specs.Pipes.{Waiting}
-use Rattle.reliable_commit.proofs.Steps.{first_names, first_writes, pass-copies, pass-few, pass-holds, pass-rest, pass_none-copies, pass_none-holds, rest_names, rest_writes}
+use Rattle.object_table.specs.EntryLaws.{within-drop, within-first}
+use Rattle.reliable_commit.proofs.Steps.{pass-copies, pass-few, pass-holds, pass-rest, pass_none-copies, pass_none-holds}
 use Rattle.reliable_commit.proofs.Writing.{All-at}
 use Rattle.reliable_commit.proofs.advance.pass.Goals as goal
 
 pub validate_each-requires : goal.validate_each-requires
 validate_each-requires c =
-    rw (c.as_slice.ensures, c.loop-turn.invariant.objects) (first_writes _ _ _ c.loop-turn.invariant.writes c.in-Some.ensures.first)
+    rw (c.as_slice.ensures, c.loop-turn.invariant.objects) (within-first _ _ _ c.loop-turn.invariant.within c.in-Some.ensures.first).writes
 
 pub unhold_each-requires : goal.unhold_each-requires
 unhold_each-requires c = λ k d within.
-    let named = first_names (λ x. x < length c.args.copies.now.copies) _ _ c.loop-turn.invariant.named c.in-Some.ensures.first in
+    let named = (within-first _ _ _ c.loop-turn.invariant.within c.in-Some.ensures.first).named in
     rw (c.as_slice-in-loop-turn.ensures.list, c.validate_each.ensures.objects, c.loop-turn.invariant.objects)
     (All-at (λ x. x < length c.args.copies.now.copies) c.in-Some.entry.named k d named (rw c.as_slice-in-loop-turn.ensures.list at within))
 
@@ -31,8 +32,7 @@ loop-turn-preserved c =
           rw (c.unhold_each.ensures.holds, c.validate_each.ensures.holds, c.as_slice-in-loop-turn.ensures.list, pending)
           (pass-holds _ _ _ _ _ next c.in-Some.ensures.first ∙ c.loop-turn.invariant.holds);
       objects = ap length c.unhold_each.ensures.copies ∙ c.validate_each.ensures.objects ∙ c.loop-turn.invariant.objects;
-      writes = rw pending (rest_writes _ _ c.loop-turn.invariant.writes);
-      named = rw pending (rest_names (λ x. x < length c.args.copies.now.copies) _ c.loop-turn.invariant.named);
+      within = rw pending (within-drop _ 1 _ c.loop-turn.invariant.within);
     }
 
 pub returns-clause-copies : goal.returns-clause-copies

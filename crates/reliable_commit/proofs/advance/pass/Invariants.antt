@@ -1,8 +1,7 @@
-use Rattle.std.proofs.Common.{◌≡◌, ◌<◌, ◌≤◌, ◌+◌, ◌-◌, length, take, drop, map}
-use Rattle.std.specs.Prelude.{All}
+use Rattle.std.proofs.Common.{◌≡◌, ◌≤◌, ◌+◌, ◌-◌, length, take, drop, map}
 use Rattle.zeus_model.specs.Commit.{as_kept, each_write, validated, writes_of}
-use Rattle.object_table.specs.Table.{AreWithin, each_unheld}
-use Rattle.reliable_commit.specs.Advancing.{named_of}
+use Rattle.object_table.specs.Entries.{AreEntriesWithin, named_of}
+use Rattle.object_table.specs.Table.{each_unheld}
 use Rattle.reliable_commit.proofs.advance.pass.Given as goal
 
 -- the rest of the first entries has the same end
@@ -18,6 +17,5 @@ invariant-loop-turn l = record {
       each_unheld l.copies.holds (named_of (take (l.count - l._turn) l.pipe.pending))
       ≡ each_unheld l.initial.copies.holds (named_of (take l.count l.initial.pipe.pending));
   objects : length l.copies.copies ≡ length l.initial.copies.copies;
-  writes : AreWithin (length l.initial.copies.copies) (writes_of (map as_kept l.pipe.pending));
-  named : All (λ x. x < length l.initial.copies.copies) (named_of l.pipe.pending);
+  within : AreEntriesWithin (length l.initial.copies.copies) l.pipe.pending;
 }

@@ -10,7 +10,7 @@ use Rattle.zeus_model.specs.Tables.{nth, put}
 use Rattle.object_table.specs.declared.hold.Hold.{Hold}
 use Rattle.object_table.specs.Table.{each_held, held, hold_count, hold_slot}
 use Rattle.object_table.specs.HoldLaws.{hold_slot-held}
-use Rattle.local_txn.specs.Tries.{AreNamed, naming}
+use Rattle.object_table.specs.Entries.{AreNamed, naming}
 
 -- any other object is held as before
 pub held-other : (s : ℕ) (holds : List (Option Hold)) (xs : List ℕ) (x : ℕ) → mentions x xs ≡ false → nth None (each_held s holds xs) x ≡ nth None holds x
