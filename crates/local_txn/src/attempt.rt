@@ -37,8 +37,8 @@ pub enum WriteTry {
 /// named object is held once more by the slot; and the entry stands at the end of the pipe. Its followers are the
 /// replicas of the written objects by the settled placements, without the node.
 ///
-/// The clauses speak of every node that this is: one with these entries, copies and this slot, whose holders the table
-/// knows. No memory is taken. What the slot holds stays named by its pending entries, and what another slot holds by those
+/// The clauses speak of every node that this is: one with these entries, copies and this slot, of which other slots hold
+/// what the table says. No memory is taken. What the slot holds stays named by its pending entries, and what another slot holds by those
 /// of that one.
 pub fn try_write(
     copies: &mut Copies,

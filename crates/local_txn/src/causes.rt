@@ -12,10 +12,8 @@ use commit_pipeline::Pipe;
 use object_table::Copies;
 use owner_entry::{Dir, OwnerEntry};
 use zeus_base::{NodeId, ObjId, SlotId};
+use zeus_packet::WINDOW_DEPTH;
 use zeus_txn::{Op, Tx};
-
-/// How many entries are pending at most.
-const DEPTH: u32 = 16;
 
 /// An object that another slot holds.
 #[derive(Clone, Copy, Debug, PartialEq, Eq)]
@@ -37,7 +35,7 @@ pub(crate) fn cause(
     ensures first { (n : Node) (id : ℕ) → IsNodeOf me dir.now.entries copies.now slot pipe.now n → cause_as id result ≡ write_cause n slot tx.now }
     ensures clear { IfNone result (IsClear slot copies.now pipe.now tx.now) }
 {
-    if pipe.len() == DEPTH {
+    if pipe.len() as usize == WINDOW_DEPTH {
         return Some(WriteTry::PipeFull);
     }
     if let Some(object) = first_not_owned(dir, me, tx) {

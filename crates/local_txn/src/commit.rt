@@ -15,6 +15,7 @@ use commit_pipeline::{Full, Pending, Pipe};
 use object_table::Copies;
 use owner_entry::Dir;
 use replica_reads::run_on;
+use std::alloc::Global;
 use zeus_base::{NodeId, NodeSet, SlotId, TxId};
 use zeus_packet::{Write, Writes};
 use zeus_txn::{Named, NewValues, Tx};
@@ -44,13 +45,12 @@ pub(crate) fn commit(
     ensures within { AreEntriesWithin (length copies.old.copies) pipe.old.pending → AreEntriesWithin (length copies.old.copies) pipe.new.pending }
 {
     let ran = run_on(copies, tx);
-    let writes = new_writes(copies, &ran.writes);
+    let writes = new_writes(tx.allocator(), copies, &ran.writes);
     let followers = replicas(dir, &writes).without(me);
     let reply = ran.into_reply();
     let named = tx.named();
-    let held = named.duplicate();
     write_each(copies, &writes);
-    hold_each(copies, slot, &held);
+    hold_each(copies, slot, &named);
     let entry = Pending {
         id,
         reply: reply.duplicate(),
@@ -66,11 +66,11 @@ pub(crate) fn commit(
 }
 
 /// The writes of these values, with the versions that they make.
-fn new_writes(copies: &Copies, values: &NewValues) -> Writes
+fn new_writes(alloc: Global, copies: &Copies, values: &NewValues) -> Writes
     requires { AreRising copies.now.copies values.now }
     ensures { result ≡ new_writes (node_of 0 [] copies.now.copies) values.now }
 {
-    let mut writes = Writes::new(copies.allocator());
+    let mut writes = Writes::new(alloc);
     for place in 0..values.len() {
         let written = &values.as_slice()[place];
         let ver = version(copies, written.0) + 1;

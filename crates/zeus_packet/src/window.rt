@@ -8,7 +8,6 @@ mod ring;
 
 pub use plain::PlainWindow;
 pub use ring::RingWindow;
-
 use std::alloc::Global;
 use zeus_base::NoMemory;
 

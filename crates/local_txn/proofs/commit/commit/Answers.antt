@@ -48,7 +48,7 @@ hold_each-requires c =
     ap length (c.write_each.ensures.copies ∙ ap (each_write rewritten_copy copies) made)
     ∙ length-each_write rewritten_copy copies _ (length copies) refl within
     in
-    rw (size, c.write_each.ensures.holds, c.duplicate-held.ensures, c.named-named.ensures)
+    rw (size, c.write_each.ensures.holds, c.named-named.ensures)
     (can_hold_named c.args.slot (length copies) c.args.copies.now.holds c.args.pipe.now.pending c.args.tx.now c.requires.objects c.requires.clear.free c.requires.holds c.requires.clear.room)
 
 pub returns-in-Ok-clause-answer : goal.returns-in-Ok-clause-answer
@@ -79,7 +79,7 @@ returns-in-Ok-clause-pending c =
 
 pub returns-in-Ok-clause-named : goal.returns-in-Ok-clause-named
 returns-in-Ok-clause-named c =
-    rw (c.in-Ok.ensures.after, c.hold_each.ensures.holds, c.write_each.ensures.holds, c.duplicate-held.ensures, c.named-named.ensures)
+    rw (c.in-Ok.ensures.after, c.hold_each.ensures.holds, c.write_each.ensures.holds, c.named-named.ensures)
     (named_kept c.args.slot c.args.copies.now.holds c.args.pipe.now.pending _ c.args.tx.now refl c.requires.clear.free c.requires.holds c.requires.clear.room)
 
 pub returns-in-Ok-clause-others : goal.returns-in-Ok-clause-others
@@ -89,7 +89,7 @@ returns-in-Ok-clause-others c = λ t ps other counts.
 pub returns-in-Ok-clause-within : goal.returns-in-Ok-clause-within
 returns-in-Ok-clause-within c = λ before.
     let copies = c.args.copies.now.copies in
-    let n = node_of c.args.me c.args.dir.now copies in
+    let n = node_of c.args.me c.args.dir.now.entries copies in
     rw (returns-in-Ok-clause-pending c)
     (within-push (length copies) c.args.pipe.now.pending (entry_here n c.args.id c.args.tx.now) before record {
       writes = writes_within n (length copies) c.args.tx.now c.requires.objects;
