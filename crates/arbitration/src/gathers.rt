@@ -127,7 +127,6 @@ impl Gathers {
     }
 }
 
-
 fn collect_gathers(alloc: Global, objects: &[ObjectDecl]) -> Result<Vec<Option<Gather>>, AllocError>
     ensures { IfOk result (λ v. v.items ≡ map start_gather objects.now) }
 {

@@ -7,5 +7,6 @@ mod source;
 mod tests;
 
 pub use gathers::{Ack, Decision, Gathers};
+pub use object_table::Copies;
 pub use source::{GiveUp, give_up};
 pub use zeus_model::Gather;

@@ -1,5 +1,5 @@
 //! Tests of typical calls.
-ghost use Rattle.std.specs.Prelude.{◌≡◌, IfOk, length};
+ghost use Rattle.std.specs.Prelude.{◌≡◌, ◌<◌, IfOk, length};
 
 use crate::{Ack, Decision, Gathers, GiveUp, give_up};
 use object_table::Copies;
@@ -52,67 +52,97 @@ fn config(alloc: Global) -> Result<Config, AllocError>
     })
 }
 
+/// What a node has gathered of two objects at the start: nothing.
+fn nothing_gathered(alloc: Global) -> Result<Gathers, Fail>
+    ensures { IfOk result (λ gathers. length gathers ≡ 2) }
+{
+    Ok(Gathers::new(alloc, &config(alloc)?)?)
+}
+
+/// The node acknowledges the proposal for object 1.
+fn ack(gathers: &mut Gathers, from: NodeId, p: &Proposal, content: Option<Content>) -> Ack
+    requires { 1 < length gathers.old }
+    ensures { length gathers.new ≡ length gathers.old }
+{
+    gathers.take_ack(ObjId(1), from, p, content)
+}
+
+/// What is decided of the object in a view of these members.
+fn decided(gathers: &Gathers, obj: ObjId, members: NodeSet) -> Option<Decision> {
+    gathers.decided(obj, members, NodeSet::empty().insert(NodeId(0)))
+}
+
+/// A content of this version.
+fn content(ver: u64) -> Content {
+    Content {
+        ver,
+        value: Value::Num(5),
+    }
+}
+
+/// That the proposal is decided, with this content.
+fn decision(p: &Proposal, content: Content) -> Option<Decision> {
+    Some(Decision {
+        proposal: *p,
+        content,
+    })
+}
+
 #[test]
 fn gathers_until_every_arbiter_and_the_content_are_there(rt: HostRuntime) -> Result<(), Fail> {
-    let alloc = rt.alloc();
-    let config = config(alloc)?;
-    let directory = NodeSet::empty().insert(NodeId(0));
+    let mut gathers = nothing_gathered(rt.alloc())?;
     let members = two().insert(NodeId(2));
-    let content = &Content {
-        ver: 4,
-        value: Value::Num(5),
-    };
     let x = ObjId(1);
     let first = &proposal(2);
-    let mut gathers = Gathers::new(alloc, &config)?;
-    assert_eq!(rt; gathers.decided(x, members, directory), None);
-    assert_eq!(rt; gathers.take_ack(x, NodeId(0), first, None), Ack::New);
-    assert_eq!(rt; gathers.take_ack(x, NodeId(0), first, None), Ack::Again);
-    assert_eq!(rt;
-        gathers.take_ack(x, NodeId(0), &proposal(1), None),
-        Ack::Older(first.stamp)
-    );
-    assert_eq!(rt; gathers.decided(x, members, directory), None);
-    assert_eq!(rt; gathers.take_ack(x, NodeId(1), first, None), Ack::New);
-    assert_eq!(rt; gathers.decided(x, members, directory), None);
-    assert_eq!(rt;
-        gathers.take_ack(x, NodeId(1), first, Some(*content)),
-        Ack::New
-    );
-    let later = &Content {
-        ver: 6,
-        value: Value::Num(7),
-    };
-    assert_eq!(rt;
-        gathers.take_ack(x, NodeId(1), first, Some(*later)),
-        Ack::Again
-    );
-    let decision = &Decision {
-        proposal: *first,
-        content: *content,
-    };
-    assert_eq!(rt; gathers.decided(x, members, directory), Some(*decision));
-    assert_eq!(rt; gathers.decided(x, NodeSet::empty(), directory), None);
-    assert_eq!(rt; gathers.decided(ObjId(0), members, directory), None);
+    assert_eq!(rt; decided(&gathers, x, members), None);
+    assert_eq!(rt; ack(&mut gathers, NodeId(0), first, None), Ack::New);
+    assert_eq!(rt; ack(&mut gathers, NodeId(0), first, None), Ack::Again);
+    let older = ack(&mut gathers, NodeId(0), &proposal(1), None);
+    assert_eq!(rt; older, Ack::Older(first.stamp));
+    assert_eq!(rt; decided(&gathers, x, members), None);
+    assert_eq!(rt; ack(&mut gathers, NodeId(1), first, None), Ack::New);
+    assert_eq!(rt; decided(&gathers, x, members), None);
+    let with_content = ack(&mut gathers, NodeId(1), first, Some(content(4)));
+    assert_eq!(rt; with_content, Ack::New);
+    let later = ack(&mut gathers, NodeId(1), first, Some(content(6)));
+    assert_eq!(rt; later, Ack::Again);
+    assert_eq!(rt; decided(&gathers, x, members), decision(first, content(4)));
+    assert_eq!(rt; decided(&gathers, x, NodeSet::empty()), None);
+    assert_eq!(rt; decided(&gathers, ObjId(0), members), None);
+    Ok(())
+}
+
+#[test]
+fn what_is_gathered_is_dropped_up_to_a_stamp(rt: HostRuntime) -> Result<(), Fail> {
+    let mut gathers = nothing_gathered(rt.alloc())?;
+    let members = two().insert(NodeId(2));
+    let x = ObjId(1);
+    let first = &proposal(2);
+    assert_eq!(rt; ack(&mut gathers, NodeId(0), first, None), Ack::New);
+    let with_content = ack(&mut gathers, NodeId(1), first, Some(content(4)));
+    assert_eq!(rt; with_content, Ack::New);
     gathers.drop_upto(x, proposal(1).stamp);
-    assert_eq!(rt; gathers.decided(x, members, directory), Some(*decision));
+    assert_eq!(rt; decided(&gathers, x, members), decision(first, content(4)));
     gathers.drop_upto(x, first.stamp);
-    assert_eq!(rt; gathers.decided(x, members, directory), None);
-    assert_eq!(rt; gathers.take_ack(x, NodeId(0), first, None), Ack::New);
+    assert_eq!(rt; decided(&gathers, x, members), None);
+    assert_eq!(rt; ack(&mut gathers, NodeId(0), first, None), Ack::New);
+    Ok(())
+}
+
+#[test]
+fn a_greater_proposal_is_gathered_anew(rt: HostRuntime) -> Result<(), Fail> {
+    let mut gathers = nothing_gathered(rt.alloc())?;
+    let members = two().insert(NodeId(2));
+    let x = ObjId(1);
+    assert_eq!(rt; ack(&mut gathers, NodeId(0), &proposal(2), None), Ack::New);
     let second = &proposal(3);
-    assert_eq!(rt;
-        gathers.take_ack(x, NodeId(1), second, Some(*content)),
-        Ack::New
-    );
-    assert_eq!(rt; gathers.decided(x, members, directory), None);
-    assert_eq!(rt; gathers.take_ack(x, NodeId(0), second, None), Ack::New);
-    let decision = &Decision {
-        proposal: *second,
-        content: *content,
-    };
-    assert_eq!(rt; gathers.decided(x, members, directory), Some(*decision));
+    let with_content = ack(&mut gathers, NodeId(1), second, Some(content(4)));
+    assert_eq!(rt; with_content, Ack::New);
+    assert_eq!(rt; decided(&gathers, x, members), None);
+    assert_eq!(rt; ack(&mut gathers, NodeId(0), second, None), Ack::New);
+    assert_eq!(rt; decided(&gathers, x, members), decision(second, content(4)));
     gathers.drop_all();
-    assert_eq!(rt; gathers.decided(x, members, directory), None);
+    assert_eq!(rt; decided(&gathers, x, members), None);
     Ok(())
 }
 
@@ -122,12 +152,8 @@ fn a_source_gives_up_a_valid_free_object(rt: HostRuntime) -> Result<(), Fail> {
     let me = NodeId(1);
     let mut copies = Copies::new(alloc, &config(alloc)?, me)?;
     let x = ObjId(0);
-    let content = Content {
-        ver: 0,
-        value: Value::Num(5),
-    };
     let keeper = Some(SlotId(1));
-    let given = GiveUp::Given(content);
+    let given = GiveUp::Given(content(0));
     assert_eq!(rt; give_up(&copies, x, me, NodeId(2), None), given);
     assert_eq!(rt; give_up(&copies, x, me, NodeId(0), keeper), given);
     let kept = GiveUp::No(Cause::Kept(SlotId(1)));

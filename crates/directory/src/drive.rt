@@ -1,8 +1,9 @@
 //! Requests for objects at a directory node.
-ghost use Rattle.std.specs.Prelude.{◌≡◌, ◌<◌, ◌-◌, ◌^◌, ℕ, List, length};
+ghost use Rattle.std.specs.Prelude.{◌≡◌, ◌<◌, ◌-◌, ◌^◌, ℕ, length};
 ghost use Rattle.zeus_model.specs.Ownership.{drive_cause, driven, exceeds, is_node, leave_cause, want_cause};
-ghost use Rattle.zeus_model.specs.State.{Node, entry as entry_of};
-ghost use Rattle.directory.specs.Driving.{IsNodeWith, answered, asked};
+ghost use Rattle.zeus_model.specs.State.{Node, entry as entry_of, no_entry};
+ghost use Rattle.zeus_model.specs.Tables.{nth};
+ghost use Rattle.directory.specs.Driving.{IsNodeWith, answered};
 
 use owner_entry::Dir;
 use zeus_base::{NodeId, NodeSet, ObjId, Stamp};
@@ -18,18 +19,16 @@ pub enum Drive {
     No(Cause),
 }
 
-/// What answers requests by the entries of a node.
+/// What answers requests by what a node knows of who owns and keeps each object.
 pub trait Drives {
-    ghost use Rattle.std.specs.Prelude.{List};
-    ghost use Rattle.zeus_model.specs.declared.state.Entry.{Entry};
+    ghost use Rattle.owner_entry.specs.Directory.{Directory};
 
-    /// The entries, by object.
-    ghost entries: { Self → List Entry };
+    /// What the node knows.
+    ghost known: { Self → Directory };
 
-    /// Whether the node `me` may drive the wish of the requester for the object, in a view of these members, with
-    /// this directory and this degree (how many member replicas a reader leaves behind; none: no reader leaves). The
-    /// clause speaks of every node with these entries, members, directory and degree. The proposal has the next
-    /// version and changes the settled placement. Takes no memory and changes nothing.
+    /// Whether the node `me` may drive the wish of the requester for the object, in a view of these members. The clause
+    /// speaks of every node with these entries, directory, degree and members. The proposal has the next version and
+    /// changes the settled placement. Takes no memory and changes nothing.
     ///
     /// The causes against it, of which the first that holds is told: `me` is no directory node; a proposal is held;
     /// the wish is fulfilled already, or is to leave and comes from the owner or from no replica; the settled
@@ -39,51 +38,47 @@ pub trait Drives {
         &self,
         obj: ObjId,
         requester: NodeId,
-        want: Want,
         me: NodeId,
         members: NodeSet,
-        directory: NodeSet,
-        degree: Option<u8>,
+        want: Want,
     ) -> Drive
-        requires { obj < length (entries self.now) }
-        ensures { (n : Node) → IsNodeWith n (entries self.now) me members directory degree → result ≡ answered (drive_cause n obj requester want) (driven n obj requester want) };
+        requires { obj < length (known self.now).entries }
+        ensures { (n : Node) → IsNodeWith n (known self.now) me members → result ≡ answered (drive_cause n obj requester want) (driven n obj requester want) };
 }
 
 impl Drives for Dir {
-    ghost entries = { λ d. d };
+    ghost known = { λ d. d };
 
     fn may_drive(
         &self,
         obj: ObjId,
         requester: NodeId,
-        want: Want,
         me: NodeId,
         members: NodeSet,
-        directory: NodeSet,
-        degree: Option<u8>,
+        want: Want,
     ) -> Drive {
-        let entry = self.entry(obj);
-        match drive_cause(entry, requester, want, me, members, directory, degree) {
+        match drive_cause(self, obj, requester, me, members, want) {
             Some(cause) => Drive::No(cause),
-            None => Drive::Yes(driven(entry, requester, want, me)),
+            None => Drive::Yes(driven(self.entry(obj), requester, want, me)),
         }
     }
 }
 
 /// The first cause that stands against a drive.
 fn drive_cause(
-    entry: &Entry,
+    dir: &Dir,
+    obj: ObjId,
     requester: NodeId,
-    want: Want,
     me: NodeId,
     members: NodeSet,
-    directory: NodeSet,
-    degree: Option<u8>,
+    want: Want,
 ) -> Option<Cause>
-    ensures cause { result ≡ drive_cause (asked entry.now me members directory degree) 0 requester want }
-    ensures fresh { result ≡ None → entry.now.stamp.ver < 2 ^ 64 - 1 }
+    requires { obj < length dir.now.entries }
+    ensures cause { (n : Node) → IsNodeWith n dir.now me members → result ≡ drive_cause n obj requester want }
+    ensures fresh { result ≡ None → (nth no_entry dir.now.entries obj).stamp.ver < 2 ^ 64 - 1 }
 {
-    if !directory.has(me) {
+    let entry = dir.entry(obj);
+    if !dir.nodes().has(me) {
         return Some(Cause::NotDirectory);
     }
     if let Some(held) = &entry.proposal {
@@ -95,7 +90,7 @@ fn drive_cause(
     if source(&entry.place, members).is_none() {
         return Some(Cause::NoSource);
     }
-    if let Some(cause) = leave_cause(want, requester, &entry.place, members, degree) {
+    if let Some(cause) = leave_cause(want, requester, &entry.place, members, dir.degree()) {
         return Some(cause);
     }
     if entry.stamp.ver == u64::MAX {
@@ -128,7 +123,7 @@ fn leave_cause(
     members: NodeSet,
     degree: Option<u8>,
 ) -> Option<Cause>
-    ensures { (e : Entry) (me : ℕ) (directory : List ℕ) → result ≡ leave_cause want (asked e me members directory degree) requester place.now }
+    ensures { (n : Node) → n.members ≡ members → n.degree ≡ degree → result ≡ leave_cause want n requester place.now }
 {
     match want {
         Want::Own | Want::Read => None,

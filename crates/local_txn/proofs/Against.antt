@@ -127,7 +127,7 @@ module _ (me : ℕ) (entries : List Entry) (table : Table) (s : ℕ) (waiting : 
 
   holder-is : holder_cause n s tx ≡ first_of (held_at s table.holds) (named tx)
   unfolding holder_cause held_at
-  holder-is = first_same (λ x. held_elsewhere s x (holder n x)) (held_at s table.holds) (λ x. ap (held_elsewhere s x) (is.holders x)) (named tx)
+  holder-is = first_same (λ x. held_elsewhere s x (holder n x)) (held_at s table.holds) is.holders (named tx)
 
   number-is : next_number (slot n s) ≡ waiting.done + length waiting.pending
   number-is = ap (λ d. d + length (slot n s).pending) is.done ∙ ap (λ (ps : List Pending). waiting.done + length ps) is.pending

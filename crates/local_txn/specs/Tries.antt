@@ -23,12 +23,12 @@ use Rattle.local_txn.specs.declared.causes.HeldBy.{HeldBy}
 use Rattle.local_txn.specs.declared.attempt.WriteTry.{WriteTry}
 use Rattle.local_txn.specs.declared.attempt.WriteTry.TheVariants.{PipeFull, NotOwner, Held, WornOut, Committed}
 
--- a node with this number, these entries, this table and this slot
+-- a node with this number, these entries, the table's copies and this slot, of which other slots hold what the table says
 pub record IsNodeOf (me : ℕ) (entries : List Entry) (table : Table) (s : ℕ) (waiting : Waiting) (n : Node) : Type 0 where
   pub number : n.me ≡ me
   pub known : n.entries ≡ entries
   pub copies : n.copies ≡ table.copies
-  pub holders : (x : ℕ) → holder n x ≡ hold_slot (nth None table.holds x)
+  pub holders : (x : ℕ) → held_elsewhere s x (holder n x) ≡ held_elsewhere s x (hold_slot (nth None table.holds x))
   pub done : (slot n s).done ≡ waiting.done
   pub pending : (slot n s).pending ≡ waiting.pending
 

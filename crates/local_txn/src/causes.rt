@@ -12,10 +12,8 @@ use commit_pipeline::Pipe;
 use object_table::Copies;
 use owner_entry::{Dir, OwnerEntry};
 use zeus_base::{NodeId, ObjId, SlotId};
+use zeus_packet::WINDOW_DEPTH;
 use zeus_txn::{Op, Tx};
-
-/// How many entries are pending at most.
-const DEPTH: u32 = 16;
 
 /// An object that another slot holds.
 #[derive(Clone, Copy, Debug, PartialEq, Eq)]
@@ -33,11 +31,11 @@ pub(crate) fn cause(
     slot: SlotId,
     tx: &Tx,
 ) -> Option<WriteTry>
-    requires { All (λ x. x < length dir.now) (named tx.now) }
-    ensures first { (n : Node) (id : ℕ) → IsNodeOf me dir.now copies.now slot pipe.now n → cause_as id result ≡ write_cause n slot tx.now }
+    requires { All (λ x. x < length dir.now.entries) (named tx.now) }
+    ensures first { (n : Node) (id : ℕ) → IsNodeOf me dir.now.entries copies.now slot pipe.now n → cause_as id result ≡ write_cause n slot tx.now }
     ensures clear { IfNone result (IsClear slot copies.now pipe.now tx.now) }
 {
-    if pipe.len() == DEPTH {
+    if pipe.len() as usize == WINDOW_DEPTH {
         return Some(WriteTry::PipeFull);
     }
     if let Some(object) = first_not_owned(dir, me, tx) {
@@ -54,8 +52,8 @@ pub(crate) fn cause(
 
 /// The first named object that the node does not own.
 fn first_not_owned(dir: &Dir, me: NodeId, tx: &Tx) -> Option<ObjId>
-    requires { All (λ x. x < length dir.now) (named tx.now) }
-    ensures { told_not_owned result ≡ first_of (owner_at me dir.now) (named tx.now) }
+    requires { All (λ x. x < length dir.now.entries) (named tx.now) }
+    ensures { told_not_owned result ≡ first_of (owner_at me dir.now.entries) (named tx.now) }
 {
     let named = tx.named();
     for object in named.as_slice() {

@@ -15,6 +15,7 @@ use commit_pipeline::{Full, Pending, Pipe};
 use object_table::Copies;
 use owner_entry::Dir;
 use replica_reads::run_on;
+use std::alloc::Global;
 use zeus_base::{NodeId, NodeSet, SlotId, TxId};
 use zeus_packet::{Write, Writes};
 use zeus_txn::{Named, NewValues, Tx};
@@ -30,13 +31,13 @@ pub(crate) fn commit(
     tx: &Tx,
 ) -> WriteTry
     requires objects { All (λ x. x < length copies.old.copies) (named tx.now) }
-    requires places { length dir.now ≡ length copies.old.copies }
+    requires places { length dir.now.entries ≡ length copies.old.copies }
     requires holds { AreNamed slot copies.old.holds pipe.old.pending }
     requires clear { IsClear slot copies.old pipe.old tx.now }
-    ensures answer { tried_as id result ≡ Committed id (pipe.old.done + length pipe.old.pending) (run_here (node_of me dir.now copies.old.copies) tx.now).reply }
-    ensures copies { copies.new.copies ≡ each_write rewritten_copy copies.old.copies (writes_here (node_of me dir.now copies.old.copies) tx.now) }
+    ensures answer { tried_as id result ≡ Committed id (pipe.old.done + length pipe.old.pending) (run_here (node_of me dir.now.entries copies.old.copies) tx.now).reply }
+    ensures copies { copies.new.copies ≡ each_write rewritten_copy copies.old.copies (writes_here (node_of me dir.now.entries copies.old.copies) tx.now) }
     ensures holds { copies.new.holds ≡ each_held slot copies.old.holds (named tx.now) }
-    ensures pending { pipe.new.pending ≡ pipe.old.pending ++ entry_here (node_of me dir.now copies.old.copies) id tx.now ∷ [] }
+    ensures pending { pipe.new.pending ≡ pipe.old.pending ++ entry_here (node_of me dir.now.entries copies.old.copies) id tx.now ∷ [] }
     ensures done { pipe.new.done ≡ pipe.old.done }
     ensures named { AreNamed slot copies.new.holds pipe.new.pending }
     ensures others { (t : ℕ) (ps : List Pending) → t ≢ slot → AreNamed t copies.old.holds ps → AreNamed t copies.new.holds ps }
@@ -44,13 +45,12 @@ pub(crate) fn commit(
     ensures within { AreEntriesWithin (length copies.old.copies) pipe.old.pending → AreEntriesWithin (length copies.old.copies) pipe.new.pending }
 {
     let ran = run_on(copies, tx);
-    let writes = new_writes(copies, &ran.writes);
+    let writes = new_writes(tx.allocator(), copies, &ran.writes);
     let followers = replicas(dir, &writes).without(me);
     let reply = ran.into_reply();
     let named = tx.named();
-    let held = named.duplicate();
     write_each(copies, &writes);
-    hold_each(copies, slot, &held);
+    hold_each(copies, slot, &named);
     let entry = Pending {
         id,
         reply: reply.duplicate(),
@@ -66,11 +66,11 @@ pub(crate) fn commit(
 }
 
 /// The writes of these values, with the versions that they make.
-fn new_writes(copies: &Copies, values: &NewValues) -> Writes
+fn new_writes(alloc: Global, copies: &Copies, values: &NewValues) -> Writes
     requires { AreRising copies.now.copies values.now }
     ensures { result ≡ new_writes (node_of 0 [] copies.now.copies) values.now }
 {
-    let mut writes = Writes::new(copies.allocator());
+    let mut writes = Writes::new(alloc);
     for place in 0..values.len() {
         let written = &values.as_slice()[place];
         let ver = version(copies, written.0) + 1;
@@ -85,8 +85,8 @@ fn new_writes(copies: &Copies, values: &NewValues) -> Writes
 
 /// The replicas of the written objects by the settled placements.
 fn replicas(dir: &Dir, writes: &Writes) -> NodeSet
-    requires { AreWithin (length dir.now) writes.now }
-    ensures { result ≡ replicas_of (node_of 0 dir.now []) writes.now }
+    requires { AreWithin (length dir.now.entries) writes.now }
+    ensures { result ≡ replicas_of (node_of 0 dir.now.entries []) writes.now }
 {
     let mut all = NodeSet::empty();
     let count = writes.len();

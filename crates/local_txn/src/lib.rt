@@ -8,3 +8,6 @@ mod commit;
 mod tests;
 
 pub use attempt::{WriteTry, try_write};
+pub use commit_pipeline::Pipe;
+pub use object_table::Copies;
+pub use owner_entry::Dir;

@@ -57,7 +57,7 @@ fn config(alloc: Global) -> Result<Config, AllocError>
 }
 
 fn start_tables(alloc: Global) -> Result<Tables, Fail>
-    ensures dir { IfOk result (λ t. length t.dir ≡ 3) }
+    ensures dir { IfOk result (λ t. length t.dir.entries ≡ 3) }
     ensures copies { IfOk result (λ t. length t.copies.copies ≡ 3) }
     ensures holds { IfOk result (λ t. t.copies.holds ≡ replicate 3 None) }
 {
@@ -90,7 +90,7 @@ fn transaction(alloc: Global, ops: &[Op]) -> Option<Tx>
 /// Slot 0 of node 0 tries the transaction.
 fn attempt(copies: &mut Copies, dir: &Dir, pipe: &mut Pipe, id: u32, tx: &Tx) -> WriteTry
     requires objects { All (λ x. x < 3) (named tx.now) }
-    requires dir { length dir.now ≡ 3 }
+    requires dir { length dir.now.entries ≡ 3 }
     requires copies { length copies.old.copies ≡ 3 }
     requires named { AreNamed 0 copies.old.holds pipe.old.pending }
     ensures copies { length copies.new.copies ≡ 3 }

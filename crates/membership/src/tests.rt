@@ -8,6 +8,11 @@ fn two() -> NodeSet {
     NodeSet::empty().insert(NodeId(0)).insert(NodeId(1))
 }
 
+/// That there is a view of this epoch, with these members.
+fn view(epoch: u32, members: NodeSet) -> Option<View> {
+    Some(View { epoch, members })
+}
+
 #[test]
 fn a_view_leaves_out_stopped_nodes_alone(rt: HostRuntime) -> Result<(), Fail> {
     let mut service = Service::new(rt.alloc(), 3)?;
@@ -15,13 +20,7 @@ fn a_view_leaves_out_stopped_nodes_alone(rt: HostRuntime) -> Result<(), Fail> {
     let all = two().insert(NodeId(2));
     assert_eq!(rt; service.count(), 1);
     assert_eq!(rt; service.get(0), None);
-    assert_eq!(rt;
-        service.get(1),
-        Some(View {
-            epoch: 1,
-            members: all
-        })
-    );
+    assert_eq!(rt; service.get(1), view(1, all));
     assert_eq!(rt; service.get(2), None);
     assert_eq!(rt; service.view(none, all)?, Made::Empty);
     let strangers = all.insert(NodeId(7)).insert(NodeId(5));
@@ -34,27 +33,9 @@ fn a_view_leaves_out_stopped_nodes_alone(rt: HostRuntime) -> Result<(), Fail> {
     assert_eq!(rt; service.view(all, none)?, Made::NotMember(NodeId(2)));
     assert_eq!(rt; service.view(two(), none)?, Made::Installed(3));
     assert_eq!(rt; service.count(), 3);
-    assert_eq!(rt;
-        service.get(1),
-        Some(View {
-            epoch: 1,
-            members: all
-        })
-    );
-    assert_eq!(rt;
-        service.get(2),
-        Some(View {
-            epoch: 2,
-            members: two()
-        })
-    );
-    assert_eq!(rt;
-        service.get(3),
-        Some(View {
-            epoch: 3,
-            members: two()
-        })
-    );
+    assert_eq!(rt; service.get(1), view(1, all));
+    assert_eq!(rt; service.get(2), view(2, two()));
+    assert_eq!(rt; service.get(3), view(3, two()));
     assert_eq!(rt; service.get(4), None);
     Ok(())
 }

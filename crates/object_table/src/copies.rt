@@ -52,11 +52,6 @@ impl Copies {
         Ok(Copies { copies, holds })
     }
 
-    /// The allocator that it is made with.
-    pub fn allocator(&self) -> Global {
-        *self.copies.allocator()
-    }
-
     fn find_copy(&self, place: usize) -> Option<&Option<Copy>>
         ensures { option_copied result ≡ slice_get self.now.copies place }
     {

@@ -1,4 +1,4 @@
-//! The entries of a node, by object.
+//! What a node knows of who owns and keeps each object.
 ghost use Rattle.std.specs.Prelude.{◌≡◌, ◌<◌, ℕ, IfOk, length, map};
 ghost use Rattle.zeus_base.specs.Order.{is_below};
 ghost use Rattle.zeus_model.specs.Ownership.{settle};
@@ -10,44 +10,64 @@ ghost use Rattle.owner_entry.specs.Acceptance.{on_proposal, outcome_of};
 use crate::entry::{Accept, OwnerEntry};
 use std::alloc::{AllocError, Global};
 use std::marker::Model;
-use zeus_base::{Config, NoMemory, NodeId, ObjId, ObjectDecl, Stamp};
+use zeus_base::{Config, NoMemory, NodeId, NodeSet, ObjId, ObjectDecl, Stamp};
 use zeus_model::Entry;
 use zeus_packet::{Place, Proposal};
 
-/// The entries of a node by object, seen as the list of them. Each clause on a change speaks of every node that has
-/// these entries, so of the one that they are from; what a call does not name stays.
+/// What a node knows of who owns and keeps each object: the nodes of the directory, the degree, and the entries by
+/// object. Each clause on a change speaks of every node that has these entries, so of the one that they are from; what a
+/// call does not name stays.
 #[derive(Debug, Drop)]
 pub struct Dir {
+    nodes: NodeSet,
+    degree: Option<u8>,
     entries: Vec<Entry>,
 }
 
 impl Model for Dir {
-    ghost use Rattle.std.specs.Prelude.{List};
-    ghost use Rattle.zeus_model.specs.declared.state.Entry.{Entry};
+    ghost use Rattle.owner_entry.specs.Directory.{Directory};
 
-    ghost Value = { List Entry };
+    ghost Value = { Directory };
 
-    ghost view = { λ d. d.entries.items };
+    ghost view = { λ d. record { nodes = d.nodes; degree = d.degree; entries = d.entries.items } };
 }
 
 impl Dir {
-    /// The entries at the start of a run: each object placed as it is declared, at version 0, with no proposal held.
-    /// All memory is taken here.
+    /// What is known at the start of a run: the directory and the degree as they are configured, and each object placed
+    /// as it is declared, at version 0, with no proposal held. All memory is taken here.
     ///
     /// # Errors
     ///
     /// `NoMemory` where that memory is not there.
     pub fn new(alloc: Global, config: &Config) -> Result<Dir, NoMemory>
-        ensures { IfOk result (λ dir. dir ≡ map start_entry config.now.objects) }
+        ensures { IfOk result (λ dir. dir ≡ record { nodes = config.now.directory; degree = config.now.degree; entries = map start_entry config.now.objects }) }
     {
         let entries = collect_entries(alloc, config.objects.as_slice()).map_err(|_| NoMemory)?;
-        Ok(Dir { entries })
+        Ok(Dir {
+            nodes: config.directory,
+            degree: config.degree,
+            entries,
+        })
+    }
+
+    /// The nodes of the directory: those that may drive a request for an object.
+    pub fn nodes(&self) -> NodeSet
+        ensures { result ≡ self.now.nodes }
+    {
+        self.nodes
+    }
+
+    /// The degree: how many member replicas a reader leaves behind when it goes; none: no reader leaves.
+    pub fn degree(&self) -> Option<u8>
+        ensures { result ≡ self.now.degree }
+    {
+        self.degree
     }
 
     /// What the node knows of the object's placement.
     pub fn entry(&self, obj: ObjId) -> &Entry
-        requires { obj < length self.now }
-        ensures { result.now ≡ nth no_entry self.now obj }
+        requires { obj < length self.now.entries }
+        ensures { result.now ≡ nth no_entry self.now.entries obj }
     {
         &self.entries[obj.place()]
     }
@@ -55,10 +75,12 @@ impl Dir {
     /// Settles a stamp and its placement of the object where the stamp is above the settled one, and drops a held
     /// proposal that is not above it. Else nothing changes, and the answer is false.
     pub fn settle(&mut self, obj: ObjId, stamp: Stamp, place: Place) -> bool
-        requires { obj < length self.old }
-        ensures above { result ≡ is_below (nth no_entry self.old obj).stamp stamp }
-        ensures after { (n : Node) → n.entries ≡ self.old → self.new ≡ (settle n obj stamp place).entries }
-        ensures objects { length self.new ≡ length self.old }
+        requires { obj < length self.old.entries }
+        ensures above { result ≡ is_below (nth no_entry self.old.entries obj).stamp stamp }
+        ensures after { (n : Node) → n.entries ≡ self.old.entries → self.new.entries ≡ (settle n obj stamp place).entries }
+        ensures nodes { self.new.nodes ≡ self.old.nodes }
+        ensures degree { self.new.degree ≡ self.old.degree }
+        ensures objects { length self.new.entries ≡ length self.old.entries }
     {
         let entry = &mut self.entries[obj.place()];
         entry.settle(stamp, place)
@@ -68,16 +90,17 @@ impl Dir {
     /// proposal with a greater stamp is held. Else nothing changes, and the answer has the stamp that stands against
     /// it, the settled one first.
     pub fn accept(&mut self, obj: ObjId, p: &Proposal) -> Accept
-        requires { obj < length self.old }
-        ensures answer { (n : Node) (from : ℕ) → n.entries ≡ self.old → outcome_of result ≡ (on_proposal n from obj p.now).answer }
-        ensures after { (n : Node) (from : ℕ) → n.entries ≡ self.old → self.new ≡ (on_proposal n from obj p.now).node.entries }
-        ensures objects { length self.new ≡ length self.old }
+        requires { obj < length self.old.entries }
+        ensures answer { (n : Node) (from : ℕ) → n.entries ≡ self.old.entries → outcome_of result ≡ (on_proposal n from obj p.now).answer }
+        ensures after { (n : Node) (from : ℕ) → n.entries ≡ self.old.entries → self.new.entries ≡ (on_proposal n from obj p.now).node.entries }
+        ensures nodes { self.new.nodes ≡ self.old.nodes }
+        ensures degree { self.new.degree ≡ self.old.degree }
+        ensures objects { length self.new.entries ≡ length self.old.entries }
     {
         let entry = &mut self.entries[obj.place()];
         entry.accept(p)
     }
 }
-
 
 fn collect_entries(alloc: Global, objects: &[ObjectDecl]) -> Result<Vec<Entry>, AllocError>
     ensures { IfOk result (λ v. v.items ≡ map start_entry objects.now) }

@@ -76,10 +76,12 @@ fn a_call_changes_the_entry_of_its_object(rt: HostRuntime) -> Result<(), Fail> {
         nodes: 2,
         slots: 1,
         directory: NodeSet::empty().insert(NodeId(0)),
-        degree: None,
+        degree: Some(2),
         objects,
     };
     let mut dir = Dir::new(alloc, &config)?;
+    assert_eq!(rt; dir.nodes(), NodeSet::empty().insert(NodeId(0)));
+    assert_eq!(rt; dir.degree(), Some(2));
     let declared = Entry {
         stamp: stamp(0, NodeId(0)),
         place: place(NodeId(0)),

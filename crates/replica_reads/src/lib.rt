@@ -6,5 +6,6 @@ mod run;
 #[cfg(test)]
 mod tests;
 
+pub use object_table::Copies;
 pub use reads::{ReadTry, try_read};
 pub use run::run_on;

@@ -24,7 +24,7 @@ fn values(copies: &Copies, tx: &Tx) -> Values
 {
     let named = tx.named();
     let count = named.len();
-    let mut values = Values::new(copies.allocator());
+    let mut values = Values::new(tx.allocator());
     for place in 0..count {
         values.push(value(copies, named.as_slice()[place]));
     }

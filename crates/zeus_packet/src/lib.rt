@@ -12,6 +12,6 @@ mod write;
 pub use letter::{Body, Cause, Letter, Packet, RInv, State};
 pub use place::{Place, Proposal, View, Want, arbiters, new_place, source};
 pub use ranges::fits;
-pub use window::{NewWindow, PlainWindow, RingWindow, Window};
+pub use window::{NewWindow, PlainWindow, RingWindow, WINDOW_DEPTH, Window};
 pub use write::{Content, Write, Writes};
 pub use zeus_base::{Limits, NodeId, NodeSet, ObjId, SlotId, Stamp, Stream, Value};

@@ -8,12 +8,11 @@ mod ring;
 
 pub use plain::PlainWindow;
 pub use ring::RingWindow;
-
 use std::alloc::Global;
 use zeus_base::NoMemory;
 
 /// How many items a window holds at most.
-const DEPTH: usize = 16;
+pub const WINDOW_DEPTH: usize = 16;
 
 /// A list of at most 16 items that grows at its end and is taken from at its front. No call takes memory.
 pub trait Window<T> {

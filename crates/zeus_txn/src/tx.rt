@@ -87,8 +87,8 @@ impl Tx {
         all
     }
 
-    // The allocator that its lists are made with.
-    pub(crate) fn allocator(&self) -> Global {
+    /// The allocator that its lists are made with.
+    pub fn allocator(&self) -> Global {
         *self.ops.allocator()
     }
 

@@ -1,7 +1,7 @@
 //! A window over a vector.
 ghost use Rattle.std.specs.Prelude.{◌≡◌, [], IfOk};
 
-use super::{DEPTH, NewWindow, Window};
+use super::{NewWindow, WINDOW_DEPTH, Window};
 use std::alloc::Global;
 use std::marker::Model;
 use zeus_base::NoMemory;
@@ -31,7 +31,7 @@ impl<T> PlainWindow<T> {
     pub fn new(alloc: Global) -> Result<Self, NoMemory>
         ensures { IfOk result (λ w. w ≡ []) }
     {
-        let list = Vec::with_capacity(alloc, DEPTH).map_err(|_| NoMemory)?;
+        let list = Vec::with_capacity(alloc, WINDOW_DEPTH).map_err(|_| NoMemory)?;
         Ok(PlainWindow { list })
     }
 }
@@ -40,7 +40,7 @@ impl<T> Window<T> for PlainWindow<T> {
     ghost items = { λ w. w };
 
     fn push(&mut self, item: T) -> Result<(), T> {
-        if self.list.len() >= DEPTH {
+        if self.list.len() >= WINDOW_DEPTH {
             return Err(item);
         }
         self.list.push_reserved(item);

@@ -1,7 +1,7 @@
 //! A window over a ring.
 ghost use Rattle.std.specs.Prelude.{◌≡◌, [], IfOk};
 
-use super::{DEPTH, NewWindow, Window};
+use super::{NewWindow, WINDOW_DEPTH, Window};
 use circular_buffer::HeapCircularBuffer;
 use std::alloc::Global;
 use std::marker::Model;
@@ -32,7 +32,7 @@ impl<T> RingWindow<T> {
     pub fn new(alloc: Global) -> Result<Self, NoMemory>
         ensures { IfOk result (λ w. w ≡ []) }
     {
-        let ring = HeapCircularBuffer::with_capacity(alloc, DEPTH).map_err(|_| NoMemory)?;
+        let ring = HeapCircularBuffer::with_capacity(alloc, WINDOW_DEPTH).map_err(|_| NoMemory)?;
         Ok(RingWindow { ring })
     }
 }

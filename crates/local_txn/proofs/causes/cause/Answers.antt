@@ -5,25 +5,25 @@ use Rattle.local_txn.proofs.Against.{against_full, against_holder, against_none,
 use Rattle.local_txn.proofs.Worn.{or_false}
 use Rattle.local_txn.proofs.causes.cause.Goals as goal
 
-pub returns-then-len-eq-DEPTH-clause-first : goal.returns-then-len-eq-DEPTH-clause-first
-returns-then-len-eq-DEPTH-clause-first c = λ n id is.
-    against_full _ _ _ _ _ n is c.args.tx.now id (sym c.len.ensures.count ∙ c.if-len-eq-DEPTH.true)
+pub returns-then-len-eq-WINDOW_DEPTH-clause-first : goal.returns-then-len-eq-WINDOW_DEPTH-clause-first
+returns-then-len-eq-WINDOW_DEPTH-clause-first c = λ n id is.
+    against_full _ _ _ _ _ n is c.args.tx.now id (sym c.len.ensures.count ∙ c.if-len-eq-WINDOW_DEPTH.true)
 
 pub returns-in-Some-clause-first : goal.returns-in-Some-clause-first
 returns-in-Some-clause-first c = λ n id is.
-    against_owner _ _ _ _ _ n is c.args.tx.now id c.in-Some.object (λ e. c.if-len-eq-DEPTH.false (c.len.ensures.count ∙ e)) c.in-Some.ensures
+    against_owner _ _ _ _ _ n is c.args.tx.now id c.in-Some.object (λ e. c.if-len-eq-WINDOW_DEPTH.false (c.len.ensures.count ∙ e)) c.in-Some.ensures
 
 pub returns-in-Some-first_held-clause-first : goal.returns-in-Some-first_held-clause-first
 returns-in-Some-first_held-clause-first c = λ n id is.
-    against_holder _ _ _ _ _ n is c.args.tx.now id c.in-Some-first_held.held (λ e. c.if-len-eq-DEPTH.false (c.len.ensures.count ∙ e)) c.in_default.ensures c.in-Some-first_held.ensures
+    against_holder _ _ _ _ _ n is c.args.tx.now id c.in-Some-first_held.held (λ e. c.if-len-eq-WINDOW_DEPTH.false (c.len.ensures.count ∙ e)) c.in_default.ensures c.in-Some-first_held.ensures
 
 pub returns-then-is_worn-clause-first : goal.returns-then-is_worn-clause-first
 returns-then-is_worn-clause-first c = λ n id is.
-    against_worn _ _ _ _ _ n is c.args.tx.now id _ (λ e. c.if-len-eq-DEPTH.false (c.len.ensures.count ∙ e)) c.in_default.ensures c.in_default-first_held.ensures c.is_worn.ensures c.if-is_worn.true
+    against_worn _ _ _ _ _ n is c.args.tx.now id _ (λ e. c.if-len-eq-WINDOW_DEPTH.false (c.len.ensures.count ∙ e)) c.in_default.ensures c.in_default-first_held.ensures c.is_worn.ensures c.if-is_worn.true
 
 pub returns-clause-first : goal.returns-clause-first
 returns-clause-first c = λ n id is.
-    against_none _ _ _ _ _ n is c.args.tx.now id _ (λ e. c.if-len-eq-DEPTH.false (c.len.ensures.count ∙ e)) c.in_default.ensures c.in_default-first_held.ensures c.is_worn.ensures c.if-is_worn.false
+    against_none _ _ _ _ _ n is c.args.tx.now id _ (λ e. c.if-len-eq-WINDOW_DEPTH.false (c.len.ensures.count ∙ e)) c.in_default.ensures c.in_default-first_held.ensures c.is_worn.ensures c.if-is_worn.false
 
 pub returns-clause-clear : goal.returns-clause-clear
 unfolding told_held

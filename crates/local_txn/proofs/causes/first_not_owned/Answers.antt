@@ -17,20 +17,20 @@ returns-then-not-owns c =
     let list = c.as_slice-object-items.ensures.list ∙ c.named-named.ensures in
     let here = rw list at c.loop-object-test.true in
     let is = rw list at c.object-item.is in
-    let owns = c.owns.ensures (node_of c.args.me c.args.dir.now []) c.object-item.result (sym c.entry.ensures) refl ∙ owns_at-is _ _ _ in
-    first_not_owned_here c.args.me c.args.dir.now (named c.args.tx.now) _ _ _ here is owns c.if-not-owns.true ∙ c.loop-object.invariant
+    let owns = c.owns.ensures (node_of c.args.me c.args.dir.now.entries []) c.object-item.result (sym c.entry.ensures) refl ∙ owns_at-is _ _ _ in
+    first_not_owned_here c.args.me c.args.dir.now.entries (named c.args.tx.now) _ _ _ here is owns c.if-not-owns.true ∙ c.loop-object.invariant
 
 pub loop-object-preserved : goal.loop-object-preserved
 loop-object-preserved c =
     let list = c.as_slice-object-items.ensures.list ∙ c.named-named.ensures in
     let here = rw list at c.loop-object-test.true in
     let is = rw list at c.object-item.is in
-    let owns = c.owns.ensures (node_of c.args.me c.args.dir.now []) c.object-item.result (sym c.entry.ensures) refl ∙ owns_at-is _ _ _ in
-    first_later (owner_at c.args.me c.args.dir.now) (named c.args.tx.now) _ _ here is (owned_here c.args.me c.args.dir.now _ _ owns c.if-not-owns.false)
+    let owns = c.owns.ensures (node_of c.args.me c.args.dir.now.entries []) c.object-item.result (sym c.entry.ensures) refl ∙ owns_at-is _ _ _ in
+    first_later (owner_at c.args.me c.args.dir.now.entries) (named c.args.tx.now) _ _ here is (owned_here c.args.me c.args.dir.now.entries _ _ owns c.if-not-owns.false)
     ∙ c.loop-object.invariant
 
 pub returns : goal.returns
 returns c =
     let list = c.as_slice-object-items.ensures.list ∙ c.named-named.ensures in
     let past = rw list at c.loop-object-test.false in
-    first_not_owned_none c.args.me c.args.dir.now _ _ past ∙ c.loop-object.invariant
+    first_not_owned_none c.args.me c.args.dir.now.entries _ _ past ∙ c.loop-object.invariant

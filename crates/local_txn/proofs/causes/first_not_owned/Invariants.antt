@@ -7,4 +7,4 @@ use Rattle.local_txn.proofs.causes.first_not_owned.Given as goal
 -- the objects that are left have the same first one
 abbrev pub invariant-loop-object : goal.invariant-loop-object
 invariant-loop-object l =
-    first_of (owner_at l.me l.dir) (drop l.object-index (named l.tx)) ≡ first_of (owner_at l.me l.dir) (named l.tx)
+    first_of (owner_at l.me l.dir.entries) (drop l.object-index (named l.tx)) ≡ first_of (owner_at l.me l.dir.entries) (named l.tx)

@@ -8,7 +8,7 @@ use Rattle.local_txn.proofs.commit.replicas.Goals as goal
 pub loop-turn-init : goal.loop-turn-init
 loop-turn-init c =
     let all : c.len-count.result - 0 ≡ c.len-count.result = omega arith in
-    rw all (c.empty-all.ensures ∙ replicas_none (node_of 0 c.args.dir.now []) c.args.writes.now _ (omega arith))
+    rw all (c.empty-all.ensures ∙ replicas_none (node_of 0 c.args.dir.now.entries []) c.args.writes.now _ (omega arith))
 
 pub entry-requires : goal.entry-requires
 entry-requires c =
@@ -19,7 +19,7 @@ entry-requires c =
 
 pub loop-turn-preserved : goal.loop-turn-preserved
 loop-turn-preserved c =
-    let n = node_of 0 c.args.dir.now [] in
+    let n = node_of 0 c.args.dir.now.entries [] in
     let place : ℕ = c.len-count.result - (c.loop-turn.turn + 1) in
     let there : c.len-count.result - 1 - c.loop-turn.turn ≡ place = omega arith in
     let next : suc place ≡ c.len-count.result - c.loop-turn.turn = omega arith in

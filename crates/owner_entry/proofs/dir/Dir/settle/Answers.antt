@@ -1,4 +1,3 @@
-use Rattle.std.proofs.Common.{◌∙◌, sym}
 use Rattle.zeus_base.specs.TableLaws.{nth_read}
 use Rattle.zeus_model.specs.State.{no_entry}
 use Rattle.owner_entry.proofs.Entries.{entry_of, settle_written}
@@ -14,6 +13,6 @@ pub returns-clause-after : goal.returns-clause-after
 returns-clause-after c = λ n same.
     let there = rw c.place.ensures at c.index_mut-entry.ensures.value in
     let here = rw (← c.self.view_is) at c.requires in
-    let same = same ∙ sym c.self.view_is in
+    let same = rw (← c.self.view_is) at same in
     rw c.place.ensures
     (settle_written n _ c.args.obj c.args.stamp c.args.place _ same here (c.settle.ensures.after n c.args.obj (entry_of n _ c.args.obj _ same here there)))
