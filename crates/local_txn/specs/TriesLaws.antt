@@ -7,6 +7,7 @@ use Rattle.zeus_packet.specs.declared.letter.Body.TheVariants.{RInv}
 use Rattle.zeus_model.specs.declared.answer.Tried.{Tried}
 use Rattle.zeus_model.specs.declared.answer.Tried.TheVariants.{Committed, Held}
 use Rattle.zeus_model.specs.declared.state.Current.{Current}
+use Rattle.zeus_model.specs.declared.state.Entry.{Entry}
 use Rattle.zeus_model.specs.Act.{did_then, sends, to_each}
 use Rattle.zeus_model.specs.Commit.{advance_own}
 use Rattle.zeus_model.specs.Local.{commit, commit_entry, full_cause, held_elsewhere, holder_cause, invalidation, owner_cause, run_here, worn_cause, write_cause, write_row}
@@ -18,8 +19,9 @@ use Rattle.object_table.specs.declared.hold.Hold.{Hold}
 use Rattle.object_table.specs.Holders.{holder-held}
 use Rattle.object_table.specs.Holding.{AreHeld, IsFreeFor}
 use Rattle.object_table.specs.NodeHolds.{AreHeld-committed}
-use Rattle.object_table.specs.Table.{hold_slot}
-use Rattle.local_txn.specs.Tries.{after_try, followers_here, holds_after, writes_here}
+use Rattle.object_table.specs.Table.{Table, hold_slot}
+use Rattle.commit_pipeline.specs.Pipes.{Waiting}
+use Rattle.local_txn.specs.Tries.{IsNodeOf, after_try, followers_here, holds_after, writes_here}
 
 -- a transaction that nothing stands against is committed; then its entry goes to the followers, and the stream advances
 pub write_row-committed : (n : Node) (s : ℕ) (c : Current) → write_row n s c None ≡ did_then (sends (after_try n s c None) (Committed c.id (next_number (slot n s)) (run_here n c.tx).reply) (to_each n (meet (followers_here n c.tx) n.members) (RInv (invalidation n s (followers_here n c.tx) (writes_here n c.tx))))) (λ m. advance_own m s)
@@ -77,3 +79,15 @@ after-cause n s c holds None e h =
 -- after a try the slots hold what their pending entries name, as before it
 pub AreHeld-after_try : (n : Node) (s : ℕ) (c : Current) (holds : List (Option Hold)) → AreHeld n holds → AreHeld (after_try n s c (write_cause n s c.tx)) (holds_after s holds c.tx (write_cause n s c.tx))
 AreHeld-after_try n s c holds h = after-cause n s c holds (write_cause n s c.tx) refl h
+
+-- a node whose slots hold what their pending entries name is one whose holders the table knows
+pub IsNodeOf-held : (me : ℕ) (entries : List Entry) (table : Table) (s : ℕ) (waiting : Waiting) (n : Node) → n.me ≡ me → n.entries ≡ entries → n.copies ≡ table.copies → (slot n s).done ≡ waiting.done → (slot n s).pending ≡ waiting.pending → AreHeld n table.holds → IsNodeOf me entries table s waiting n
+IsNodeOf-held me entries table s waiting n number known copies done pending h =
+    record {
+      number = number;
+      known = known;
+      copies = copies;
+      holders = λ x. ap (held_elsewhere s x) (holder-held n table.holds x h);
+      done = done;
+      pending = pending;
+    }
