@@ -192,5 +192,3 @@ impl<W: Window<Kept>> StoredOver<W> {
         &logs.slots[s.slot.place()]
     }
 }
-
-
