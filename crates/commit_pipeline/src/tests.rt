@@ -1,149 +1,243 @@
-//! Tests of typical calls, the same over both windows.
+//! Tables of typical calls with their answers, the same over both windows.
 use crate::{Due, Full, Pending, Pipe, PipeOver, PlainPipe};
 use std::alloc::Global;
 use std::test::Fail;
-use zeus_base::{NodeId, NodeSet, TxId};
+use zeus_base::{NoMemory, NodeId, NodeSet, TxId};
 use zeus_packet::{Window, Writes};
 use zeus_txn::{Named, Reply, Values};
 
-// The nodes whose bits are set, the lowest bit being that of node 0.
-fn set(bits: u8) -> NodeSet {
-    NodeSet { bits }
+/// A call of a pipe of node 0. A set of nodes is given by its bits, the lowest being that of node 0.
+#[derive(Clone, Copy, Debug, PartialEq, Eq)]
+enum Call {
+    /// An entry is pushed that these nodes have to acknowledge.
+    Push(u8),
+    /// The node acknowledges the entry of this number.
+    Ack(u32, NodeId),
+    /// How many entries pass among these members.
+    Passing(u8),
+    /// The lowest entry is taken out.
+    Pass,
+    /// The pending entry at this place.
+    Pending(u32),
+    /// The send at this place among those that are due to these members.
+    Outstanding(u8, u32),
+    /// How many entries have passed.
+    Done,
+    /// How many entries are pending.
+    Len,
 }
 
-// A transaction of node 0 that these nodes have to acknowledge.
-fn entry(alloc: Global, id: u32, followers: u8) -> Pending {
+/// What a pipe answers.
+#[derive(Clone, Copy, Debug, PartialEq, Eq)]
+enum Answer {
+    Pushed(Result<u32, Full>),
+    Counts(bool),
+    Count(u32),
+    /// The number and the node of a send.
+    Due(Option<(u32, u8)>),
+    /// The transaction of an entry.
+    Entry(Option<TxId>),
+}
+
+/// A call, and the answer that is wanted or that came.
+type Row = (Call, Answer);
+
+/// An entry of a transaction of node 0.
+fn entry(alloc: Global, id: TxId, followers: u8) -> Pending {
     Pending {
-        id: TxId(id),
+        id,
         reply: Reply {
             values: Values::new(alloc),
             failed: None,
         },
         named: Named::new(alloc),
-        followers: set(followers),
+        followers: NodeSet { bits: followers },
         writes: Writes::new(alloc),
         acks: NodeSet::empty(),
     }
 }
 
-fn due(number: u32, to: NodeId) -> Option<Due> {
-    Some(Due { number, to })
-}
-
-// An entry is pushed while the numbers are low.
-fn push<W: Window<Pending>>(pipe: &mut PipeOver<W>, entry: Pending) -> Result<u32, Full> {
-    if pipe.done() + pipe.len() >= 1000 {
-        return Err(Full);
+/// An entry is pushed while the numbers are low. Its transaction has the number that the entry is to get.
+fn push<W: Window<Pending>>(alloc: Global, pipe: &mut PipeOver<W>, followers: u8) -> Answer {
+    let number = pipe.done() + pipe.len();
+    if number >= 1000 {
+        return Answer::Pushed(Err(Full));
     }
-    pipe.push(entry)
+    Answer::Pushed(pipe.push(entry(alloc, TxId(number), followers)))
 }
 
-/// What a pipe answers.
-#[derive(Debug, Drop, PartialEq, Eq)]
-struct Answers {
-    numbers: [Result<u32, Full>; 3],
-    due_before: [Option<Due>; 7],
-    acks: [bool; 6],
-    passing: [u32; 3],
-    due_after: [Option<Due>; 4],
-    passed: Option<TxId>,
-    next: Option<TxId>,
-    counts: [u32; 2],
+/// The number and the node of a send.
+fn parts(due: Due) -> (u32, u8) {
+    (due.number, due.to.0)
 }
 
-// The calls of three commits, the third of which has other followers: acknowledgements come out of order, once more,
-// and of no entry; then the first commit passes.
-fn three_commits<W: Window<Pending>>(pipe: &mut PipeOver<W>, alloc: Global) -> Answers {
-    let numbers = [
-        push(pipe, entry(alloc, 10, 0b0110)),
-        push(pipe, entry(alloc, 11, 0b0110)),
-        push(pipe, entry(alloc, 12, 0b1010)),
-    ];
-    let due_before = [0, 1, 2, 3, 4, 5, 6].map(|place| pipe.outstanding(set(0b1111), place));
-    let early = [
-        pipe.ack(1, NodeId(2)),
-        pipe.ack(1, NodeId(1)),
-        pipe.ack(1, NodeId(1)),
-        pipe.ack(3, NodeId(1)),
-    ];
-    let none = pipe.passing(NodeId(0), set(0b1111));
-    let late = [pipe.ack(0, NodeId(1)), pipe.ack(0, NodeId(2))];
-    let passing = [
-        none,
-        pipe.passing(NodeId(0), set(0b1111)),
-        pipe.passing(NodeId(0), set(0b0101)),
-    ];
-    let due_after = [
-        pipe.outstanding(set(0b1111), 0),
-        pipe.outstanding(set(0b1111), 1),
-        pipe.outstanding(set(0b1001), 0),
-        pipe.outstanding(set(0b1001), 1),
-    ];
-    Answers {
-        numbers,
-        due_before,
-        acks: [early[0], early[1], early[2], early[3], late[0], late[1]],
-        passing,
-        due_after,
-        passed: pipe.pass().map(|passed| passed.id),
-        next: pipe.pending(0).map(|next| next.id),
-        counts: [pipe.done(), pipe.len()],
+fn call_pipe<W: Window<Pending>>(alloc: Global, pipe: &mut PipeOver<W>, call: Call) -> Answer {
+    match call {
+        Call::Push(followers) => push(alloc, pipe, followers),
+        Call::Ack(number, from) => Answer::Counts(pipe.ack(number, from)),
+        Call::Passing(bits) => Answer::Count(pipe.passing(NodeId(0), NodeSet { bits })),
+        Call::Pass => Answer::Entry(pipe.pass().map(|entry| entry.id)),
+        Call::Pending(place) => Answer::Entry(pipe.pending(place).map(|entry| entry.id)),
+        Call::Outstanding(bits, place) => {
+            Answer::Due(pipe.outstanding(NodeSet { bits }, place).map(parts))
+        }
+        Call::Done => Answer::Count(pipe.done()),
+        Call::Len => Answer::Count(pipe.len()),
     }
 }
 
-fn wanted() -> Answers {
-    Answers {
-        numbers: [Ok(0), Ok(1), Ok(2)],
-        due_before: [
-            due(0, NodeId(1)),
-            due(0, NodeId(2)),
-            due(1, NodeId(1)),
-            due(1, NodeId(2)),
-            due(2, NodeId(1)),
-            due(2, NodeId(3)),
-            None,
-        ],
-        acks: [true, true, false, false, true, true],
-        passing: [0, 2, 3],
-        due_after: [
-            due(2, NodeId(1)),
-            due(2, NodeId(3)),
-            due(2, NodeId(3)),
-            None,
-        ],
-        passed: Some(TxId(10)),
-        next: Some(TxId(11)),
-        counts: [1, 2],
+/// The first call of the table that the pipe answers otherwise than the table says, with its answer.
+fn first_other<W: Window<Pending>>(
+    alloc: Global,
+    pipe: &mut PipeOver<W>,
+    table: &[Row],
+) -> Option<Row> {
+    for (call, wanted) in table {
+        let came = call_pipe(alloc, pipe, *call);
+        if came != *wanted {
+            return Some((*call, came));
+        }
     }
+    None
 }
 
-// How many of 17 entries a pipe with none takes.
-fn taken<W: Window<Pending>>(pipe: &mut PipeOver<W>, alloc: Global) -> u32 {
-    for id in 0..16 {
-        let _ = push(pipe, entry(alloc, id, 0xff));
-    }
-    match push(pipe, entry(alloc, 16, 0xff)) {
-        Ok(_) => 17,
-        Err(Full) => pipe.len(),
-    }
+/// The same for a new pipe over each window.
+fn others(alloc: Global, table: &[Row]) -> Result<[Option<Row>; 2], NoMemory> {
+    let mut ring = Pipe::new(alloc)?;
+    let mut plain = PlainPipe::new(alloc)?;
+    Ok([
+        first_other(alloc, &mut ring, table),
+        first_other(alloc, &mut plain, table),
+    ])
 }
 
 #[test]
-fn commits_pass_in_order(rt: HostRuntime) -> Result<(), Fail> {
-    let mut ring = Pipe::new(rt.alloc())?;
-    let mut plain = PlainPipe::new(rt.alloc())?;
-    assert_eq!(rt; three_commits(&mut ring, rt.alloc()), wanted());
-    assert_eq!(rt; three_commits(&mut plain, rt.alloc()), wanted());
+fn entries_pass_together_where_the_second_is_acknowledged_first(
+    rt: HostRuntime,
+) -> Result<(), Fail> {
+    let table = [
+        (Call::Push(0b10), Answer::Pushed(Ok(0))),
+        (Call::Push(0b10), Answer::Pushed(Ok(1))),
+        (Call::Ack(1, NodeId(1)), Answer::Counts(true)),
+        (Call::Passing(0b11), Answer::Count(0)),
+        (Call::Ack(0, NodeId(1)), Answer::Counts(true)),
+        (Call::Passing(0b11), Answer::Count(2)),
+        (Call::Pass, Answer::Entry(Some(TxId(0)))),
+        (Call::Pass, Answer::Entry(Some(TxId(1)))),
+        (Call::Pass, Answer::Entry(None)),
+        (Call::Done, Answer::Count(2)),
+        (Call::Len, Answer::Count(0)),
+    ];
+    assert_eq!(rt; others(rt.alloc(), &table)?, [None, None]);
+    Ok(())
+}
+
+#[test]
+fn an_entry_stays_due_to_its_own_follower(rt: HostRuntime) -> Result<(), Fail> {
+    let table = [
+        (Call::Push(0b010), Answer::Pushed(Ok(0))),
+        (Call::Push(0b100), Answer::Pushed(Ok(1))),
+        (Call::Ack(0, NodeId(1)), Answer::Counts(true)),
+        (Call::Passing(0b111), Answer::Count(1)),
+        (Call::Pass, Answer::Entry(Some(TxId(0)))),
+        (Call::Done, Answer::Count(1)),
+        (Call::Outstanding(0b111, 0), Answer::Due(Some((1, 2)))),
+        (Call::Outstanding(0b111, 1), Answer::Due(None)),
+        (Call::Ack(1, NodeId(2)), Answer::Counts(true)),
+        (Call::Passing(0b111), Answer::Count(1)),
+        (Call::Pass, Answer::Entry(Some(TxId(1)))),
+        (Call::Done, Answer::Count(2)),
+    ];
+    assert_eq!(rt; others(rt.alloc(), &table)?, [None, None]);
     Ok(())
 }
 
 #[test]
 fn the_seventeenth_entry_has_no_place(rt: HostRuntime) -> Result<(), Fail> {
-    let mut ring = Pipe::new(rt.alloc())?;
-    let mut plain = PlainPipe::new(rt.alloc())?;
-    assert_eq!(rt; taken(&mut ring, rt.alloc()), 16);
-    assert_eq!(rt; taken(&mut plain, rt.alloc()), 16);
-    assert_eq!(rt; ring.outstanding(set(0xff), 127), due(15, NodeId(7)));
-    assert_eq!(rt; plain.outstanding(set(0xff), 128), None);
+    let numbers = [0, 1, 2, 3, 4, 5, 6, 7, 8, 9, 10, 11, 12, 13, 14, 15];
+    let pushes = numbers.map(|number| (Call::Push(0xff), Answer::Pushed(Ok(number))));
+    let full = [
+        (Call::Push(0xff), Answer::Pushed(Err(Full))),
+        (Call::Len, Answer::Count(16)),
+        (Call::Done, Answer::Count(0)),
+        (Call::Outstanding(0xff, 127), Answer::Due(Some((15, 7)))),
+        (Call::Outstanding(0xff, 128), Answer::Due(None)),
+    ];
+    let mut table = Vec::from_array(rt.alloc(), pushes)?;
+    table.extend_from_slice(&full)?;
+    assert_eq!(rt; others(rt.alloc(), table.as_slice())?, [None, None]);
+    Ok(())
+}
+
+/// What the new pipes of two slots answer otherwise than each of the tables of this function says.
+fn others_of_two<W: Window<Pending>>(
+    alloc: Global,
+    first: &mut PipeOver<W>,
+    second: &mut PipeOver<W>,
+) -> [Option<Row>; 4] {
+    let pushed = [(Call::Push(0b10), Answer::Pushed(Ok(0)))];
+    let acknowledged = [
+        (Call::Ack(0, NodeId(1)), Answer::Counts(true)),
+        (Call::Passing(0b11), Answer::Count(1)),
+        (Call::Pass, Answer::Entry(Some(TxId(0)))),
+        (Call::Done, Answer::Count(1)),
+    ];
+    let waits = [
+        (Call::Passing(0b11), Answer::Count(0)),
+        (Call::Outstanding(0b11, 0), Answer::Due(Some((0, 1)))),
+        (Call::Done, Answer::Count(0)),
+        (Call::Ack(0, NodeId(1)), Answer::Counts(true)),
+    ];
+    [
+        first_other(alloc, first, &pushed),
+        first_other(alloc, second, &pushed),
+        first_other(alloc, first, &acknowledged),
+        first_other(alloc, second, &waits),
+    ]
+}
+
+#[test]
+fn an_acknowledgement_of_one_slot_leaves_the_other(rt: HostRuntime) -> Result<(), Fail> {
+    let alloc = rt.alloc();
+    let none = [None, None, None, None];
+    let (mut first, mut second) = (Pipe::new(alloc)?, Pipe::new(alloc)?);
+    assert_eq!(rt; others_of_two(alloc, &mut first, &mut second), none);
+    let (mut first, mut second) = (PlainPipe::new(alloc)?, PlainPipe::new(alloc)?);
+    assert_eq!(rt; others_of_two(alloc, &mut first, &mut second), none);
+    Ok(())
+}
+
+#[test]
+fn each_acknowledgement_counts_once_and_entries_pass_in_order(rt: HostRuntime) -> Result<(), Fail> {
+    let table = [
+        (Call::Push(0b0110), Answer::Pushed(Ok(0))),
+        (Call::Push(0b0110), Answer::Pushed(Ok(1))),
+        (Call::Push(0b1010), Answer::Pushed(Ok(2))),
+        (Call::Outstanding(0b1111, 0), Answer::Due(Some((0, 1)))),
+        (Call::Outstanding(0b1111, 1), Answer::Due(Some((0, 2)))),
+        (Call::Outstanding(0b1111, 2), Answer::Due(Some((1, 1)))),
+        (Call::Outstanding(0b1111, 3), Answer::Due(Some((1, 2)))),
+        (Call::Outstanding(0b1111, 4), Answer::Due(Some((2, 1)))),
+        (Call::Outstanding(0b1111, 5), Answer::Due(Some((2, 3)))),
+        (Call::Outstanding(0b1111, 6), Answer::Due(None)),
+        (Call::Ack(1, NodeId(2)), Answer::Counts(true)),
+        (Call::Ack(1, NodeId(1)), Answer::Counts(true)),
+        (Call::Ack(1, NodeId(1)), Answer::Counts(false)),
+        (Call::Ack(3, NodeId(1)), Answer::Counts(false)),
+        (Call::Passing(0b1111), Answer::Count(0)),
+        (Call::Ack(0, NodeId(1)), Answer::Counts(true)),
+        (Call::Ack(0, NodeId(2)), Answer::Counts(true)),
+        (Call::Passing(0b1111), Answer::Count(2)),
+        (Call::Passing(0b0101), Answer::Count(3)),
+        (Call::Outstanding(0b1111, 0), Answer::Due(Some((2, 1)))),
+        (Call::Outstanding(0b1111, 1), Answer::Due(Some((2, 3)))),
+        (Call::Outstanding(0b1001, 0), Answer::Due(Some((2, 3)))),
+        (Call::Outstanding(0b1001, 1), Answer::Due(None)),
+        (Call::Pass, Answer::Entry(Some(TxId(0)))),
+        (Call::Done, Answer::Count(1)),
+        (Call::Pending(0), Answer::Entry(Some(TxId(1)))),
+        (Call::Len, Answer::Count(2)),
+    ];
+    assert_eq!(rt; others(rt.alloc(), &table)?, [None, None]);
     Ok(())
 }

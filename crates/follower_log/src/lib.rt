@@ -6,5 +6,6 @@ mod stored;
 #[cfg(test)]
 mod tests;
 
-pub use log::LogOver;
 pub use stored::{Store, Stored, StoredOver};
+pub use zeus_model::Kept;
+pub use zeus_packet::RInv;

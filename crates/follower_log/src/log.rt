@@ -15,7 +15,7 @@ use zeus_packet::{RInv, Window};
 /// How many entries of a stream have passed, and the window of those behind that are stored, over a window `W`. Seen
 /// as the model's log of a stream.
 #[derive(Drop)]
-pub struct LogOver<W: Window<Kept>> {
+pub(crate) struct LogOver<W: Window<Kept>> {
     pub(crate) done: u32,
     pub(crate) kept: W,
 }
