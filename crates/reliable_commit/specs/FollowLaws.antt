@@ -3,7 +3,7 @@ use Rattle.std.specs.Prelude.{ℕ, zero, suc, ◌≡◌, ◌<◌, ◌-◌, Bool,
 use Rattle.std.proofs.Common.{sym, ap, ◌∙◌, arith, inl, inr, append_assoc}
 use Rattle.std.proofs.lemmas.Bool.{cases_eq}
 use Rattle.zeus_base.specs.Nodes.{has}
-use Rattle.zeus_base.specs.TableLaws.{nth-put_other, nth-put_same}
+use Rattle.zeus_base.specs.TableLaws.{nth-put_other, nth-put_same, nth-replicate}
 use Rattle.zeus_base.specs.Tables.{nth, put}
 use Rattle.zeus_base.specs.declared.order.Stream.{Stream}
 use Rattle.zeus_packet.specs.declared.write.Write.{Write}
@@ -106,12 +106,6 @@ followed_acked k n from s t number false e h g = rw e g
 pub IsFollowed-on_kept_rack : (k : ℕ) (n : Node) (from : ℕ) (s t : Stream) (number : ℕ) → IsFollowed k n.logs s → IsFollowed k n.logs t → IsFollowed k (on_kept_rack n from s number).node.logs t
 IsFollowed-on_kept_rack k n from s t number h g =
     followed_acked k n from s t number (is_within number (log n s).done (length (log n s).kept) && not (has from (nth no_kept (log n s).kept (number - (log n s).done)).acks)) refl h g
-
-nth-replicate : {A : Type 0} (d a : A) (n i : ℕ) → i < n → nth d (replicate n a) i ≡ a
-unfolding nth
-nth-replicate d a zero i h = absurd (omega arith)
-nth-replicate d a (suc n) zero h = refl
-nth-replicate d a (suc n) (suc i) h = nth-replicate d a n i (omega arith)
 
 -- at the start each stream that there is is followed
 pub IsFollowed-start : (k nodes slots : ℕ) (s : Stream) → s.node < nodes → s.slot < slots → IsFollowed k (replicate nodes (replicate slots no_log)) s

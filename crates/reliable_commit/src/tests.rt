@@ -40,7 +40,7 @@ fn config(alloc: Global) -> Result<Config, AllocError>
         version: 1,
         nodes: 3,
         slots: 1,
-        directory: NodeSet::empty(),
+        directory: NodeSet::empty().insert(NodeId(0)),
         degree: None,
         objects: ObjectList::from_vec(vec![in alloc; object]?),
     })
