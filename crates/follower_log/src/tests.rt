@@ -156,7 +156,7 @@ fn stream_of(slot: SlotId) -> Stream
     }
 }
 
-/// The same for new logs over each window, at the stream of the first slot of node 0.
+/// What new logs over each window answer at the first slot of node 0 otherwise than the table says.
 fn others(alloc: Global, table: &[Row]) -> Result<[Option<Row>; 2], Fail> {
     let config = config(alloc)?;
     let stream = &stream_of(SlotId(0));
