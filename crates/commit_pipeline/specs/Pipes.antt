@@ -1,7 +1,6 @@
 -- The commits of an own slot that wait for acknowledgements.
-use Rattle.std.specs.Prelude.{ℕ, suc, ◌≡◌, ◌+◌, ◌-◌, ◌*◌, ◌^◌, ◌<◌, ◌≤◌, Bool, ◌&&◌, ◌||◌, not, ◌==◌, List, [], ◌∷◌, ◌++◌, length, map}
-use Rattle.zeus_base.specs.Nodes.{has, meet, without, is_subset}
-use Rattle.zeus_model.specs.declared.state.Kept.{Kept}
+use Rattle.std.specs.Prelude.{ℕ, suc, ◌≡◌, ◌+◌, ◌-◌, ◌^◌, ◌<◌, ◌≤◌, Bool, ◌&&◌, ◌||◌, not, ◌==◌, List, [], ◌∷◌, ◌++◌, length}
+use Rattle.zeus_base.specs.Nodes.{has, meet}
 use Rattle.zeus_model.specs.declared.state.Pending.{Pending}
 use Rattle.zeus_model.specs.Commit.{is_within, no_pending, acked_pending}
 use Rattle.zeus_model.specs.Membership.{apart}

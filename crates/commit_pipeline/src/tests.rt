@@ -101,7 +101,7 @@ fn first_other<W: Window<Pending>>(
     None
 }
 
-/// The same for a new pipe over each window.
+/// What new pipes over each window answer otherwise than the table says.
 fn others(alloc: Global, table: &[Row]) -> Result<[Option<Row>; 2], NoMemory> {
     let mut ring = Pipe::new(alloc)?;
     let mut plain = PlainPipe::new(alloc)?;

@@ -8,8 +8,7 @@ use Rattle.zeus_base.specs.TableLaws.{length-put, nth-put_other, nth-put_same, n
 use Rattle.zeus_base.specs.Tables.{nth, put}
 use Rattle.zeus_base.specs.declared.order.Stream.{Stream}
 use Rattle.zeus_model.specs.declared.state.Kept.{Kept}
-use Rattle.zeus_model.specs.Commit.{passes, passes_at}
-use Rattle.zeus_model.specs.State.{Node, StreamLog, no_log}
+use Rattle.zeus_model.specs.State.{StreamLog, no_log}
 use Rattle.follower_log.specs.Streams.{IsStreamOf, log_at, lowest_below, with_log_at}
 
 -- the stream that becomes this is this

@@ -2,13 +2,13 @@
 ghost use Rattle.std.specs.Prelude.{◌≡◌, ◌<◌, IfOk};
 ghost use Rattle.follower_log.specs.Streams.{IsStreamOf};
 
-use crate::{Kept, RInv, Store, StoredOver};
+use crate::{Kept, RInv, Store, Stored, StoredOver};
 use std::alloc::{AllocError, Global};
 use std::test::Fail;
 use zeus_base::{
     Config, NoMemory, NodeId, NodeSet, ObjId, ObjectDecl, ObjectList, SlotId, Stream, Value,
 };
-use zeus_packet::{NewWindow, PlainWindow, RingWindow, Window, Write, Writes};
+use zeus_packet::{NewWindow, PlainWindow, Window, Write, Writes};
 
 /// A call at a stream. A set of nodes is given by its bits, the lowest being that of node 0.
 #[derive(Clone, Copy, Debug, PartialEq, Eq)]
@@ -156,11 +156,11 @@ fn stream_of(slot: SlotId) -> Stream
     }
 }
 
-/// The same for new logs over each window, at the stream of the first slot of node 0.
+/// What new logs over each window answer at the first slot of node 0 otherwise than the table says.
 fn others(alloc: Global, table: &[Row]) -> Result<[Option<Row>; 2], Fail> {
     let config = config(alloc)?;
     let stream = &stream_of(SlotId(0));
-    let mut ring: StoredOver<RingWindow<Kept>> = start(alloc, &config)?;
+    let mut ring: Stored = start(alloc, &config)?;
     let mut plain: StoredOver<PlainWindow<Kept>> = start(alloc, &config)?;
     Ok([
         first_other(alloc, &mut ring, stream, table),
@@ -254,7 +254,7 @@ fn an_acknowledgement_of_one_slot_leaves_the_other(rt: HostRuntime) -> Result<()
     let config = config(alloc)?;
     let (first, second) = (stream_of(SlotId(0)), stream_of(SlotId(1)));
     let none = [None, None, None, None];
-    let mut ring: StoredOver<RingWindow<Kept>> = start(alloc, &config)?;
+    let mut ring: Stored = start(alloc, &config)?;
     assert_eq!(rt; others_of_two(alloc, &mut ring, &first, &second), none);
     let mut plain: StoredOver<PlainWindow<Kept>> = start(alloc, &config)?;
     assert_eq!(rt; others_of_two(alloc, &mut plain, &first, &second), none);
