@@ -1,9 +1,7 @@
 -- How nodes and slots begin.
-use Rattle.std.proofs.Common.{ℕ, zero, suc, ◌≡◌, ◌<◌, ◌+◌, Bool, true, false, List, [], ◌∷◌, Option, Some, None, length, map, refl, sym, ap, ◌∙◌, subst, add-one, arith}
+use Rattle.std.proofs.Common.{ℕ, zero, suc, ◌≡◌, ◌<◌, Bool, true, false, List, [], Option, Some, None, length, map, refl, sym, ap, ◌∙◌, subst, arith}
 use Rattle.std.specs.Prelude.{replicate, if◌then◌else◌}
-use Rattle.std.proofs.lemmas.Bool.{le-ltb, ne_eqb}
 use Rattle.std.proofs.lemmas.List.{length-replicate, length-map}
-use Rattle.zeus_base.specs.Nodes.{with_node}
 use Rattle.zeus_base.specs.declared.config.Config.{Config}
 use Rattle.zeus_base.specs.TableLaws.{nth-replicate}
 use Rattle.zeus_txn.specs.declared.ops.Op.{Op}
@@ -16,7 +14,7 @@ use Rattle.zeus_model.specs.Act.{just}
 use Rattle.zeus_model.specs.Commit.{as_kept, writes_of}
 use Rattle.zeus_model.specs.Local.{begin, begin_free, with_current}
 use Rattle.zeus_model.specs.State.{Node, Slot, StreamLog, no_log, no_slot, slot}
-use Rattle.zeus_model.specs.Tables.{nth, below, numbers_from}
+use Rattle.zeus_model.specs.Tables.{nth, below}
 use Rattle.zeus_model.specs.World.{start_node, start_entry, start_copy, start_gather}
 use Rattle.zeus_node.specs.Copies.{IsWithin}
 use Rattle.zeus_node.specs.FirstNode.{IsFirstConfig, IsFirstCurrent, IsFirstNode, IsFirstTx}

@@ -16,7 +16,7 @@ use Rattle.zeus_model.specs.declared.state.Pending.{Pending}
 use Rattle.zeus_model.specs.Tables.{nth, put, front}
 use Rattle.zeus_model.specs.Act.{just, to_each}
 use Rattle.zeus_model.specs.State.{Node, Slot, StreamLog, no_slot, slot, log, with_slot, with_log, with_copies, own_stream}
-use Rattle.zeus_model.specs.Commit.{as_kept, each_write, validated, writes_of, passes, passing, pass_own, advance_own, advance_own_by, told, followers_of, is_within, on_own_rack, on_kept_rack, on_rack, no_pending, no_kept, acked_pending, acked_kept, passes_at}
+use Rattle.zeus_model.specs.Commit.{as_kept, each_write, validated, writes_of, passing, pass_own, advance_own, advance_own_by, told, followers_of, is_within, on_own_rack, on_kept_rack, on_rack, no_pending, no_kept, acked_pending, acked_kept, passes_at}
 use Rattle.zeus_node.specs.declared.effect.Effect.{Effect}
 use Rattle.zeus_node.specs.Copies.{IsWithin}
 use Rattle.zeus_node.specs.Done.{Adds, IsActed, IsQuiet}

@@ -3,7 +3,6 @@ use Rattle.std.specs.Prelude.{ℕ, ◌≡◌, ◌+◌, ◌-◌, Bool, ◌&&◌, 
 use Rattle.zeus_base.specs.Nodes.{has}
 use Rattle.zeus_model.specs.declared.answer.Outcome.{Outcome}
 use Rattle.zeus_model.specs.declared.answer.Outcome.TheVariants.{Taken, Again}
-use Rattle.zeus_model.specs.declared.state.Kept.{Kept}
 use Rattle.zeus_model.specs.Commit.{is_within, no_pending, acked_pending}
 use Rattle.zeus_model.specs.State.{Slot}
 use Rattle.zeus_model.specs.Tables.{nth, put}

@@ -17,14 +17,15 @@ use Rattle.zeus_txn.specs.Ops.{is_write, mentioned, mentions, named, named_after
 use Rattle.zeus_txn.specs.Tx.{IsTx}
 use Rattle.zeus_txn.specs.declared.ops.Op.{Op}
 use Rattle.zeus_txn.specs.declared.ops.Op.TheVariants.{Get, Add}
+use Rattle.zeus_txn.specs.declared.tx.TxDecl.{TxDecl}
 use Rattle.zeus_model.specs.FirstRange.{are_first_ops, are_first_txs, is_first_object, is_first_op, is_first_step, is_first_tx}
 use Rattle.zeus_model.specs.Scripts.{FitsOp, FitsStep, FitsTx, FitsTxs, FitsVersion, FitTxs}
-use Rattle.zeus_model.specs.World.{World, happens, start, stepped}
+use Rattle.zeus_model.specs.World.{World, happens, run, start, stepped}
 use Rattle.zeus_report.specs.declared.machine.Report.{Report}
 use Rattle.zeus_world.proofs.Reaching.{IsSame, step_same}
 use Rattle.zeus_world.specs.FirstRun.{IsFirstRun}
 use Rattle.zeus_world.specs.Steps.{IsTaken}
-use Rattle.zeus_world.specs.TwoNodes.{IsOfTwo, two_nodes, write_and_read}
+use Rattle.zeus_world.specs.TwoNodes.{IsOfTwo, two_nodes, world_after, write_and_read}
 
 below_one : IsBelow 2 (0 ∷ [])
 unfolding has
@@ -116,3 +117,12 @@ try_fits w n t h = (omega (arith, t.nodes), omega (arith, t.slots))
 pub deliver_fits : (w : World) (from to i : ℕ) → IsOfTwo w → from < 2 → to < 2 → i < 2 ^ 32 → FitsStep w.config (length w.txs) (Deliver from to i)
 unfolding FitsStep
 deliver_fits w from to i t f g h = (omega (arith, t.nodes), omega (arith, t.nodes), h)
+
+-- a step that was taken leads to what the step makes of the world before
+pub taken_from : (w before v : World) (s : Step) (r : Report) → w ≡ before → IsTaken r v (happens w s) → v ≡ stepped before s
+taken_from w before v s r h t = rw (t.becomes) (rw (h) refl)
+
+-- the start of the run
+pub started : (c : Config) (txs : List TxDecl) (w : World) → c ≡ two_nodes → txs ≡ write_and_read → w ≡ start c txs → w ≡ world_after []
+unfolding run
+started c txs w h k e = rw (e) (rw (h) (rw (k) refl))

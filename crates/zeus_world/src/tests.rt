@@ -1,7 +1,15 @@
 // A run of two nodes, step by step: what it answers, and how the world then stands. The expected values are those of the
-// worked run `write_here_read_there`.
+// worked runs `write_here_read_there` and `repeated_packets`.
 ghost use Rattle.std.specs.Prelude.{◌≡◌, ◌<◌, [], ◌∷◌, None, IfOk};
-ghost use Rattle.zeus_world.specs.TwoNodes.{two_nodes, write_and_read};
+ghost use Rattle.zeus_base.specs.declared.step.Step.TheVariants.{Begin, Deliver, Try};
+ghost use Rattle.zeus_model.specs.World.{happens};
+ghost use Rattle.zeus_world.specs.Steps.{IsTaken};
+ghost use Rattle.zeus_world.specs.TwoNodes.{two_nodes, write_and_read, world_after};
+
+mod again;
+mod told;
+mod unsent;
+mod written;
 
 use crate::world::World;
 use std::alloc::{AllocError, Global};
@@ -17,9 +25,13 @@ use zeus_txn::{Op, Tx, TxDecl, TxFault, TxList};
 
 const X: ObjId = ObjId(0);
 
+const WRITER: NodeId = NodeId(0);
+
 const READER: NodeId = NodeId(1);
 
 const WRITE: TxId = TxId(0);
+
+const READ: TxId = TxId(1);
 
 // One object of value 5 at both nodes, owned by node 0.
 #[tactic(auto, unfolding(zeus_base::specs::Nodes::with_node))]
@@ -86,6 +98,7 @@ impl<'a> TwoNodes<'a> {
     fn start(alloc: Global, config: &'a Config, txs: &'a TxList) -> Result<TwoNodes<'a>, NoMemory>
         requires config { config.now ≡ two_nodes }
         requires txs { txs.now ≡ write_and_read }
+        ensures { IfOk result (λ t. t ≡ world_after []) }
     {
         Ok(TwoNodes {
             world: World::start(alloc, config, txs)?,
@@ -95,6 +108,7 @@ impl<'a> TwoNodes<'a> {
     #[tactic(auto, using(crate::proofs::TwoNodes::begin_fits), unfolding(zeus_model::specs::FirstRange::is_first_step))]
     fn begin(&mut self, id: u32) -> Result<Report, NoMemory>
         requires { id < 2 }
+        ensures { IfOk result (λ r. IsTaken r self.new (happens self.old (Begin id))) }
     {
         self.world.step(&Step::Begin(TxId(id)))
     }
@@ -102,6 +116,7 @@ impl<'a> TwoNodes<'a> {
     #[tactic(auto, using(crate::proofs::TwoNodes::try_fits), unfolding(zeus_model::specs::FirstRange::is_first_step))]
     fn try_slot(&mut self, node: u8) -> Result<Report, NoMemory>
         requires { node < 2 }
+        ensures { IfOk result (λ r. IsTaken r self.new (happens self.old (Try node 0))) }
     {
         self.world.step(&Step::Try(NodeId(node), SlotId(0)))
     }
@@ -110,51 +125,93 @@ impl<'a> TwoNodes<'a> {
     fn deliver(&mut self, from: u8, to: u8, number: u32) -> Result<Report, NoMemory>
         requires from { from < 2 }
         requires to { to < 2 }
+        ensures { IfOk result (λ r. IsTaken r self.new (happens self.old (Deliver from to number))) }
     {
         self.world
             .step(&Step::Deliver(NodeId(from), NodeId(to), number))
     }
-}
 
-// Whether a step made no point, acknowledged nothing and sent nothing.
-fn is_quiet(report: &Report) -> bool {
-    report.points.is_empty() && report.acked.is_empty() && report.sent.is_empty()
-}
-
-fn copy(value: u64, ver: u64, state: State) -> Option<Copy> {
-    Some(Copy {
-        value: Value::Num(value),
-        ver,
-        state,
-    })
-}
-
-#[test]
-fn a_packet_that_was_not_sent(rt: HostRuntime) -> Result<(), Fail> {
-    let config = two_nodes(rt.alloc())?;
-    let txs = write_and_read(rt.alloc())?;
-    let mut run = TwoNodes::start(rt.alloc(), &config, &txs)?;
-    run.begin(0)?;
-    run.try_slot(0)?;
-    // One packet was sent from node 0 to node 1, and none the other way.
-    for (from, to, number, count) in [
-        (0, 1, 1, 1),
-        (0, 1, 4_294_967_295, 1),
-        (1, 0, 0, 0),
-        (0, 0, 0, 0),
-    ] {
-        assert!(rt; from < 2 && to < 2);
-        let none = run.deliver(from, to, number)?;
-        assert!(rt;
-            match none.answer {
-                Answer::NoPacket(sent) => sent == count,
-                _ => false,
-            },
-            "{from} to {to}"
-        );
-        assert!(rt; is_quiet(&none), "{from} to {to}");
+    // Whether a node's copy of the object has this value and version, and is in this state.
+    fn has_copy(&self, at: NodeId, value: u64, ver: u64, state: State) -> bool {
+        let copy = Copy {
+            value: Value::Num(value),
+            ver,
+            state,
+        };
+        self.world.copy(at, X) == Some(copy)
     }
-    assert_eq!(rt; run.world.tx_state(WRITE), TxState::Pending);
-    assert_eq!(rt; run.world.copy(READER, X), copy(5, 0, State::Valid));
-    Ok(())
+
+    // The write is begun.
+    fn begun(alloc: Global, config: &'a Config, txs: &'a TxList) -> Result<TwoNodes<'a>, NoMemory>
+        requires config { config.now ≡ two_nodes }
+        requires txs { txs.now ≡ write_and_read }
+        ensures { IfOk result (λ t. t ≡ world_after (Begin 0 ∷ [])) }
+    {
+        let mut run = TwoNodes::start(alloc, config, txs)?;
+        run.begin(0)?;
+        Ok(run)
+    }
+
+    // The write is committed, and its entry on the way.
+    fn committed(
+        alloc: Global,
+        config: &'a Config,
+        txs: &'a TxList,
+    ) -> Result<TwoNodes<'a>, NoMemory>
+        requires config { config.now ≡ two_nodes }
+        requires txs { txs.now ≡ write_and_read }
+        ensures { IfOk result (λ t. t ≡ world_after (Begin 0 ∷ Try 0 0 ∷ [])) }
+    {
+        let mut run = TwoNodes::begun(alloc, config, txs)?;
+        run.try_slot(0)?;
+        Ok(run)
+    }
+
+    // The reader has stored the entry, and its acknowledgement is on the way.
+    fn stored(alloc: Global, config: &'a Config, txs: &'a TxList) -> Result<TwoNodes<'a>, NoMemory>
+        requires config { config.now ≡ two_nodes }
+        requires txs { txs.now ≡ write_and_read }
+        ensures { IfOk result (λ t. t ≡ world_after (Begin 0 ∷ Try 0 0 ∷ Deliver 0 1 0 ∷ [])) }
+    {
+        let mut run = TwoNodes::committed(alloc, config, txs)?;
+        run.deliver(0, 1, 0)?;
+        Ok(run)
+    }
+
+    // The write has its point, and the validation is on the way.
+    fn passed(alloc: Global, config: &'a Config, txs: &'a TxList) -> Result<TwoNodes<'a>, NoMemory>
+        requires config { config.now ≡ two_nodes }
+        requires txs { txs.now ≡ write_and_read }
+        ensures { IfOk result (λ t. t ≡ world_after (Begin 0 ∷ Try 0 0 ∷ Deliver 0 1 0 ∷ Deliver 1 0 0 ∷ [])) }
+    {
+        let mut run = TwoNodes::stored(alloc, config, txs)?;
+        run.deliver(1, 0, 0)?;
+        Ok(run)
+    }
+
+    // Both copies are valid.
+    fn validated(
+        alloc: Global,
+        config: &'a Config,
+        txs: &'a TxList,
+    ) -> Result<TwoNodes<'a>, NoMemory>
+        requires config { config.now ≡ two_nodes }
+        requires txs { txs.now ≡ write_and_read }
+        ensures { IfOk result (λ t. t ≡ world_after (Begin 0 ∷ Try 0 0 ∷ Deliver 0 1 0 ∷ Deliver 1 0 0 ∷ Deliver 0 1 1 ∷ [])) }
+    {
+        let mut run = TwoNodes::passed(alloc, config, txs)?;
+        run.deliver(0, 1, 1)?;
+        Ok(run)
+    }
+
+    // The read is begun after the write.
+    fn reading(alloc: Global, config: &'a Config, txs: &'a TxList) -> Result<TwoNodes<'a>, NoMemory>
+        requires config { config.now ≡ two_nodes }
+        requires txs { txs.now ≡ write_and_read }
+        ensures { IfOk result (λ t. t ≡ world_after (Begin 0 ∷ Try 0 0 ∷ Deliver 0 1 0 ∷ Deliver 1 0 0 ∷ Deliver 0 1 1 ∷ Begin 1 ∷ [])) }
+    {
+        let mut run = TwoNodes::validated(alloc, config, txs)?;
+        run.begin(1)?;
+        Ok(run)
+    }
 }
