@@ -8,21 +8,19 @@ use Rattle.zeus_base.specs.NodeLaws.{IsBelow, RisesFrom}
 use Rattle.zeus_base.specs.Nodes.{has}
 use Rattle.zeus_base.specs.Values.{is_num}
 use Rattle.zeus_base.specs.declared.config.Config.{Config}
-use Rattle.zeus_base.specs.declared.config.ObjectDecl.{ObjectDecl}
 use Rattle.zeus_base.specs.declared.step.NoMemory.{NoMemory}
 use Rattle.zeus_base.specs.declared.step.Step.{Step}
 use Rattle.zeus_base.specs.declared.step.Step.TheVariants.{Begin, Deliver, Try}
 use Rattle.zeus_base.specs.declared.value.Value.TheVariants.{Num}
 use Rattle.zeus_txn.specs.Ops.{is_write, mentioned, mentions, named, named_after, object_of, stores}
 use Rattle.zeus_txn.specs.Tx.{IsTx}
-use Rattle.zeus_txn.specs.declared.ops.Op.{Op}
 use Rattle.zeus_txn.specs.declared.ops.Op.TheVariants.{Get, Add}
 use Rattle.zeus_txn.specs.declared.tx.TxDecl.{TxDecl}
 use Rattle.zeus_model.specs.FirstRange.{are_first_ops, are_first_txs, is_first_object, is_first_op, is_first_step, is_first_tx}
 use Rattle.zeus_model.specs.Scripts.{FitsOp, FitsStep, FitsTx, FitsTxs, FitsVersion, FitTxs}
 use Rattle.zeus_model.specs.World.{World, happens, run, start, stepped}
 use Rattle.zeus_report.specs.declared.machine.Report.{Report}
-use Rattle.zeus_world.proofs.Reaching.{IsSame, step_same}
+use Rattle.zeus_world.proofs.Reaching.{step_same}
 use Rattle.zeus_world.specs.FirstRun.{IsFirstRun}
 use Rattle.zeus_world.specs.Steps.{IsTaken}
 use Rattle.zeus_world.specs.TwoNodes.{IsOfTwo, two_nodes, world_after, write_and_read}

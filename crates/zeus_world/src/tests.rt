@@ -18,7 +18,7 @@ use std::test::Fail;
 use zeus_base::{
     Config, NoMemory, NodeId, NodeSet, ObjId, ObjectDecl, ObjectList, SlotId, Step, TxId, Value,
 };
-use zeus_model::{Answer, Copy, TxState};
+use zeus_model::Copy;
 use zeus_packet::State;
 use zeus_report::{Machine, Report};
 use zeus_txn::{Op, Tx, TxDecl, TxFault, TxList};
