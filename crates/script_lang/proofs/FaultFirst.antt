@@ -11,7 +11,7 @@ use Rattle.script_lang.specs.declared.reading.ReadScript.{ReadScript}
 use Rattle.script_lang.specs.declared.reading.ReadScript.TheVariants as errors
 use Rattle.script_lang.specs.Cut.{cut}
 use Rattle.script_lang.specs.Drafts.{State}
-use Rattle.script_lang.specs.Opened.{IsOpened, opening}
+use Rattle.script_lang.specs.Live.{FitsLive, opening}
 use Rattle.script_lang.specs.Reading.{start, fault_at, lines_taken, scripted, script_read, ReadsScript}
 use Rattle.script_lang.proofs.FaultKinds.{kind_of_line, no_size}
 use Rattle.script_lang.proofs.FaultReached.{first_fault}
@@ -63,10 +63,10 @@ module _ (live : Bool) (bytes : List ℕ) (r : Result Script ReadScript) (h : Re
   pub returned_size : TellsSize bytes f
   returned_size = told_size live bytes f (returned r (script_read live bytes) f h e)
 
-  pub returned_first : f.line ≢ 0 → IsFirstFault (IsOpened live) bytes f.line
+  pub returned_first : f.line ≢ 0 → IsFirstFault (FitsLive live) bytes f.line
   returned_first some = first_fault live bytes f (line_fault live bytes f (returned r (script_read live bytes) f h e) some)
 
-  pub returned_kind : f.line ≢ 0 → IsKindOfLine (IsOpened live) bytes f.line f.kind
+  pub returned_kind : f.line ≢ 0 → IsKindOfLine (FitsLive live) bytes f.line f.kind
   returned_kind some = kind_of_line live bytes f (line_fault live bytes f (returned r (script_read live bytes) f h e) some)
 
   pub returned_word : IsOfWord f.kind → IsWordFault (opening live) bytes f.line f.kind

@@ -9,13 +9,13 @@ use Rattle.zeus_model.specs.declared.fault.Kind.{Kind}
 use Rattle.zeus_model.specs.declared.fault.Kind.TheVariants as kinds
 use Rattle.zeus_model.specs.declared.fault.ScriptFault.{ScriptFault}
 use Rattle.zeus_model.specs.declared.script.Script.{Script}
-use Rattle.script_lang.specs.Opened.{IsOpened, opening}
+use Rattle.script_lang.specs.Live.{FitsLive, opening}
 
 -- what reading promises of a fault
 pub record IsTold (live : Bool) (bytes : List ℕ) (f : ScriptFault) : Type 0 where
   pub size : TellsSize bytes f
-  pub first : f.line ≢ 0 → IsFirstFault (IsOpened live) bytes f.line
-  pub kind : f.line ≢ 0 → IsKindOfLine (IsOpened live) bytes f.line f.kind
+  pub first : f.line ≢ 0 → IsFirstFault (FitsLive live) bytes f.line
+  pub kind : f.line ≢ 0 → IsKindOfLine (FitsLive live) bytes f.line f.kind
   pub word : IsOfWord f.kind → IsWordFault (opening live) bytes f.line f.kind
 
 -- there is one first faulty line
@@ -98,12 +98,12 @@ module _ (live : Bool) (bytes : List ℕ) (f g : ScriptFault) (told : IsTold liv
   both_lines : f.line ≢ 0 → f ≡ g
   both_lines some =
       let other : g.line ≢ 0 = λ zero. some (told.size.line.1 (again.size.line.0 zero)) in
-      let line : f.line ≡ g.line = one_line (IsOpened live) bytes f.line g.line (told.first some) (again.first other) in
+      let line : f.line ≡ g.line = one_line (FitsLive live) bytes f.line g.line (told.first some) (again.first other) in
       let small : f.kind ≢ kinds.Size = λ e. some (told.size.line.1 (told.size.kind.0 e)) in
       let few : g.kind ≢ kinds.Size = λ e. other (again.size.line.1 (again.size.kind.0 e)) in
       let back = sym line in
       let kind : f.kind ≡ g.kind =
-      one_sort (IsOpened live) (opening live) bytes f.line f.kind g.kind (told.kind some) (subst (λ (n : ℕ). IsKindOfLine (IsOpened live) bytes n g.kind) back (again.kind other)) small few
+      one_sort (FitsLive live) (opening live) bytes f.line f.kind g.kind (told.kind some) (subst (λ (n : ℕ). IsKindOfLine (FitsLive live) bytes n g.kind) back (again.kind other)) small few
       told.word (λ a. subst (λ (n : ℕ). IsWordFault (opening live) bytes n g.kind) back (again.word a)) (sort f.kind) (sort g.kind) in
       ap (λ (n : ℕ). record { line = n; kind = f.kind }) line ∙ ap (λ (k : Kind). record { line = g.line; kind = k }) kind
 

@@ -7,7 +7,6 @@ mod head;
 mod keywords;
 mod names;
 mod objects;
-mod opened;
 mod parts;
 mod print;
 mod reader;
