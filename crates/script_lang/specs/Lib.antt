@@ -7,6 +7,7 @@ pub mod Names
 pub mod NodeLists
 pub mod Numbers
 pub mod Objects
+pub mod OneFault
 pub mod Operations
 pub mod Reading
 pub mod Reads
