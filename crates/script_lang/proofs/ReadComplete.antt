@@ -456,4 +456,4 @@ script_read-complete live bytes s spelled runs =
 
 -- so of what was returned
 pub read_only : (live : Bool) (bytes : List ℕ) (r : Result Script ReadScript) → ReadsScript r (script_read live bytes) → (s : Script) → IsSpelled bytes s → FitsLive live s → ReadsScript r (Ok s)
-read_only live bytes r h s spelled opened = rw (script_read-complete live bytes s spelled opened) at h
+read_only live bytes r h s spelled runs = rw (script_read-complete live bytes s spelled runs) at h
