@@ -5,7 +5,7 @@ use Rattle.std.specs.Io.KnownBytes.{Consumes}
 use Rattle.std.proofs.lemmas.List.{append-nil}
 use Rattle.zeus_io.specs.declared.status.Status.TheVariants.{WriteFault}
 use Rattle.zeus_model.specs.declared.script.Script.{Script}
-use Rattle.zeus_model.specs.FirstRange.{IsFirstRange}
+use Rattle.zeus_report.specs.FirstRange.{IsFirstRange}
 use Rattle.zeus_model.specs.Scripts.{IsScript}
 use Rattle.zeus_model.specs.Spelling.{spelling}
 use Rattle.zeus_cli.specs.declared.output.Output.{Output}

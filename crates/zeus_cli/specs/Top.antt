@@ -3,7 +3,7 @@ use Rattle.std.specs.Prelude.{ℕ, ◌≡◌, ◌<◌, ◌⊎◌, List, [], ◌�
 use Rattle.std.specs.Io.KnownBytes.{IsAtEnd, Appends}
 use Rattle.zeus_io.specs.Bytes.{Takes, AppendsFront}
 use Rattle.zeus_model.specs.declared.script.Script.{Script}
-use Rattle.zeus_model.specs.FirstRange.{IsFirstRange}
+use Rattle.zeus_report.specs.FirstRange.{IsFirstRange}
 use Rattle.zeus_model.specs.ReportText.{report}
 use Rattle.zeus_model.specs.Scripts.{IsSpelled}
 use Rattle.zeus_cli.specs.Refusal.{refusal_line}

@@ -5,7 +5,7 @@ ghost use Rattle.std.specs.Vec.Iter.{into_iter_items};
 ghost use Rattle.zeus_io.specs.Bytes.{AppendsFront};
 ghost use Rattle.zeus_io.specs.Faults.{Rose};
 ghost use Rattle.zeus_io.specs.Status.{exit_status};
-ghost use Rattle.zeus_model.specs.FirstRange.{IsFirstRange};
+ghost use Rattle.zeus_report.specs.FirstRange.{IsFirstRange};
 ghost use Rattle.zeus_model.specs.ReportText.{start_of};
 ghost use Rattle.zeus_model.specs.Scripts.{IsScript};
 ghost use Rattle.zeus_model.specs.Sound.{Sound};

@@ -1,6 +1,6 @@
 //! The scripts that the program runs at first.
 ghost use Rattle.std.specs.Prelude.{◌≡◌};
-ghost use Rattle.zeus_model.specs.FirstRange.{is_first_op, are_first_ops, is_first_tx, are_first_txs, count_writes, is_first_object, is_first_step, are_first_steps, is_first_range};
+ghost use Rattle.zeus_report.specs.FirstRange.{is_first_op, are_first_ops, is_first_tx, are_first_txs, count_writes, is_first_object, is_first_step, are_first_steps, is_first_range};
 
 use zeus_base::{ObjectDecl, Step};
 use zeus_model::Script;

@@ -3,7 +3,7 @@ ghost use Rattle.std.specs.Prelude.{◌≡◌, ◌<◌, ◌≤◌, ◌⊎◌, �
 ghost use Rattle.std.specs.Io.KnownBytes.{Appends};
 ghost use Rattle.zeus_io.specs.Bytes.{AppendsFront};
 ghost use Rattle.zeus_io.specs.Faults.{Rose};
-ghost use Rattle.zeus_model.specs.FirstRange.{IsFirstRange};
+ghost use Rattle.zeus_report.specs.FirstRange.{IsFirstRange};
 ghost use Rattle.zeus_model.specs.ReportText.{report, start_of};
 ghost use Rattle.zeus_model.specs.Scripts.{FitsScript, IsScript, IsSpelled};
 ghost use Rattle.zeus_model.specs.Sound.{Sound};

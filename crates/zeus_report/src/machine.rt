@@ -1,7 +1,7 @@
 //! What runs the steps of a script, as the report sees it.
 ghost use Rattle.std.specs.Prelude.{◌≡◌, ◌≤◌, true, IfOk, OnOk, length, option_copied, MatchOption};
 ghost use Rattle.zeus_model.specs.Book.{record_of};
-ghost use Rattle.zeus_model.specs.FirstRange.{is_first_step};
+ghost use Rattle.zeus_report.specs.FirstRange.{is_first_step};
 ghost use Rattle.zeus_model.specs.Readers.{owner, is_live, is_lost, tx_state};
 ghost use Rattle.zeus_model.specs.Scripts.{FitsStep};
 ghost use Rattle.zeus_model.specs.Sound.{latest_place};

@@ -1,7 +1,7 @@
 //! The report of a script.
 ghost use Rattle.std.specs.Prelude.{◌≡◌, ◌++◌, true, length, All, OnOk, IfOk, option_copied};
 ghost use Rattle.zeus_model.specs.Book.{reply_or};
-ghost use Rattle.zeus_model.specs.FirstRange.{IsFirstRange, is_first_step, are_first_steps};
+ghost use Rattle.zeus_report.specs.FirstRange.{IsFirstRange, is_first_step, are_first_steps};
 ghost use Rattle.zeus_model.specs.ReportText.{point_lines, event_text, steps_text, report_head, report, start_of};
 ghost use Rattle.zeus_model.specs.Scripts.{FitsScript, FitsStep};
 ghost use Rattle.zeus_model.specs.World.{happens, stepped, run};

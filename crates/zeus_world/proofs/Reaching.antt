@@ -10,7 +10,7 @@ use Rattle.zeus_base.specs.declared.step.Step.TheVariants.{Begin, Try, Deliver, 
 use Rattle.zeus_packet.specs.declared.letter.Letter.{Letter}
 use Rattle.zeus_txn.specs.declared.tx.TxDecl.{TxDecl}
 use Rattle.zeus_model.specs.declared.answer.Answer.{Answer}
-use Rattle.zeus_model.specs.FirstRange.{is_first_step}
+use Rattle.zeus_report.specs.FirstRange.{is_first_step}
 use Rattle.zeus_model.specs.Local.{try_slot}
 use Rattle.zeus_model.specs.Scripts.{FitsStep, FitsTxs}
 use Rattle.zeus_model.specs.Sound.{Sound}

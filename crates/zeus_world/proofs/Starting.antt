@@ -10,7 +10,7 @@ use Rattle.zeus_txn.specs.Ops.{is_write, mentioned, mentions, named, named_after
 use Rattle.zeus_txn.specs.declared.ops.Op.{Op}
 use Rattle.zeus_txn.specs.declared.tx.TxDecl.{TxDecl}
 use Rattle.zeus_model.specs.declared.state.Entry.{Entry}
-use Rattle.zeus_model.specs.FirstRange.{are_first_txs, is_first_object, is_first_tx}
+use Rattle.zeus_report.specs.FirstRange.{are_first_txs, is_first_object, is_first_tx}
 use Rattle.zeus_model.specs.Scripts.{FitTxs, FitsOp, FitsTx, FitsTxs}
 use Rattle.zeus_model.specs.Tables.{nth}
 use Rattle.zeus_model.specs.World.{no_tx, start_entry}

@@ -16,7 +16,7 @@ use Rattle.zeus_txn.specs.Ops.{is_write, mentioned, mentions, named, named_after
 use Rattle.zeus_txn.specs.Tx.{IsTx}
 use Rattle.zeus_txn.specs.declared.ops.Op.TheVariants.{Get, Add}
 use Rattle.zeus_txn.specs.declared.tx.TxDecl.{TxDecl}
-use Rattle.zeus_model.specs.FirstRange.{are_first_ops, are_first_txs, is_first_object, is_first_op, is_first_step, is_first_tx}
+use Rattle.zeus_report.specs.FirstRange.{are_first_ops, are_first_txs, is_first_object, is_first_op, is_first_step, is_first_tx}
 use Rattle.zeus_model.specs.Scripts.{FitsOp, FitsStep, FitsTx, FitsTxs, FitsVersion, FitTxs}
 use Rattle.zeus_model.specs.World.{World, happens, run, start, stepped}
 use Rattle.zeus_report.specs.declared.machine.Report.{Report}

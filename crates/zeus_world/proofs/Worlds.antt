@@ -16,7 +16,7 @@ use Rattle.zeus_model.specs.Receive.{receive}
 use Rattle.zeus_base.specs.declared.step.Passed.{Passed}
 use Rattle.zeus_base.specs.declared.step.Step.{Step}
 use Rattle.zeus_base.specs.declared.step.Step.TheVariants.{Begin as BeginStep, Try as TryStep, Deliver as DeliverStep, Tick, Stop, View, Install}
-use Rattle.zeus_model.specs.FirstRange.{is_first_step}
+use Rattle.zeus_report.specs.FirstRange.{is_first_step}
 use Rattle.zeus_model.specs.Scripts.{FitsStep}
 use Rattle.zeus_node.specs.FirstNode.{AreFirstLettersFrom, IsFirstTx}
 use Rattle.zeus_world.specs.Books.{BookState, IdsState, so_far}

@@ -2,7 +2,7 @@
 use Rattle.std.specs.Prelude.{◌≡◌, List, true, is_none}
 use Rattle.zeus_base.specs.declared.config.Config.{Config}
 use Rattle.zeus_txn.specs.declared.tx.TxDecl.{TxDecl}
-use Rattle.zeus_model.specs.FirstRange.{is_first_object}
+use Rattle.zeus_report.specs.FirstRange.{is_first_object}
 
 -- a configuration with transactions of the first range: no degree, one slot a node, and one object
 pub record IsFirstRun (c : Config) (txs : List TxDecl) : Type 0 where

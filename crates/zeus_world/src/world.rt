@@ -1,7 +1,7 @@
 //! A run of the machine, step by step.
 ghost use Rattle.std.specs.Prelude.{◌≡◌, true, IfOk, OnErr, length};
 ghost use Rattle.zeus_base.specs.Limits.{KeepsLimits};
-ghost use Rattle.zeus_model.specs.FirstRange.{is_first_step};
+ghost use Rattle.zeus_report.specs.FirstRange.{is_first_step};
 ghost use Rattle.zeus_model.specs.Scripts.{FitsStep, FitsTxs};
 ghost use Rattle.zeus_model.specs.Sound.{Sound};
 ghost use Rattle.zeus_model.specs.World.{happens, start};

@@ -1,6 +1,6 @@
 //! What each step does to a cluster.
 ghost use Rattle.std.specs.Prelude.{◌≡◌, ◌<◌, ◌+◌, ◌^◌, true, IfOk, OnErr, length};
-ghost use Rattle.zeus_model.specs.FirstRange.{is_first_step};
+ghost use Rattle.zeus_report.specs.FirstRange.{is_first_step};
 ghost use Rattle.zeus_model.specs.Local.{begin, try_slot};
 ghost use Rattle.zeus_model.specs.Scripts.{FitsStep};
 ghost use Rattle.zeus_model.specs.World.{begin_or_not, begin_refused, begun_at, deliver_or_not, happens, link, node, nth_letter, refuse_step, step_begin, tried_at, tx_decl, waits_for};

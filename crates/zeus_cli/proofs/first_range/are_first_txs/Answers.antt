@@ -1,5 +1,5 @@
 use Rattle.std.proofs.Common.{refl}
-use Rattle.zeus_model.specs.FirstRange.{are_first_txs, is_first_tx}
+use Rattle.zeus_report.specs.FirstRange.{are_first_txs, is_first_tx}
 use Rattle.zeus_cli.proofs.Passing.{passes_more, fails_here, all_passed}
 use Rattle.zeus_cli.proofs.first_range.are_first_txs.Goals as goal
 

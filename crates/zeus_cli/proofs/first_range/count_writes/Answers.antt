@@ -2,7 +2,7 @@ use Rattle.std.proofs.Common.{arith, refl}
 use Rattle.std.proofs.lemmas.Grind.{common_steps}
 use Rattle.std.proofs.lemmas.List.Recursion.{is_count_by}
 use Rattle.zeus_txn.specs.Ops.{is_write}
-use Rattle.zeus_model.specs.FirstRange.{count_writes}
+use Rattle.zeus_report.specs.FirstRange.{count_writes}
 use Rattle.zeus_cli.proofs.Counts.{count_writes-cons}
 use Rattle.zeus_cli.proofs.first_range.count_writes.Goals as goal
 

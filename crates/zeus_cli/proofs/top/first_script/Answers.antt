@@ -1,5 +1,5 @@
 use Rattle.std.proofs.Common.{ap, sym, ◌∙◌}
-use Rattle.zeus_model.specs.FirstRange.{is_first_range-Decides}
+use Rattle.zeus_report.specs.FirstRange.{is_first_range-Decides}
 use Rattle.zeus_cli.specs.Refusal.{refusal}
 use Rattle.zeus_cli.proofs.Reading.{fits_no_live, same_script}
 use Rattle.zeus_cli.proofs.top.first_script.Goals as goal

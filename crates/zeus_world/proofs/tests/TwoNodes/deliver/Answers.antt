@@ -1,5 +1,5 @@
 use Rattle.std.proofs.Common.{refl}
-use Rattle.zeus_model.specs.FirstRange.{is_first_step}
+use Rattle.zeus_report.specs.FirstRange.{is_first_step}
 use Rattle.zeus_world.proofs.TwoNodes.{two_after}
 use Rattle.zeus_world.proofs.tests.TwoNodes.deliver.Goals as goal
 
