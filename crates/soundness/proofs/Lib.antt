@@ -10,4 +10,5 @@ pub mod NeverRows
 pub mod NeverStart
 pub mod NeverUndeclared
 pub mod Owners
+pub mod Placements
 pub mod Runs
