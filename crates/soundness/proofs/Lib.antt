@@ -1,3 +1,5 @@
+pub mod BookChanges
+pub mod BookPasses
 pub mod Faithfulness
 pub mod Fitting
 pub mod Limits
@@ -12,3 +14,4 @@ pub mod NeverUndeclared
 pub mod Owners
 pub mod Placements
 pub mod Runs
+pub mod Written
