@@ -101,20 +101,21 @@ acked-here b id = nth-put_same no_record b.records id (record (record_of b id) {
 pub acked-other : (b : Book) (id j : ℕ) → j ≢ id → record_of (book_ack b id) j ≡ record_of b j
 acked-other b id j other = nth-put_other no_record b.records id j (record (record_of b id) { acked = Some b.steps }) (λ e. other (sym e))
 
--- what is told of one transaction
-told_one : (b after : Book) (id : ℕ) (pointed acks : List ℕ) → IsRewritten b.steps (nothing_said id) (how_often id pointed) (how_often id acks) (record_of b id) (record_of after id)
-    → ((j : ℕ) → j ≢ id → (how_often j pointed ≡ 0) × (how_often j acks ≡ 0) × (record_of after j ≡ record_of b j))
-    → (j : ℕ) → IsRewritten b.steps (nothing_said j) (how_often j pointed) (how_often j acks) (record_of b j) (record_of after j)
-told_one b after id pointed acks at others j = elim (same_or_not j id) [
-  | inl same ↦ subst (λ (k : ℕ). IsRewritten b.steps (nothing_said k) (how_often k pointed) (how_often k acks) (record_of b k) (record_of after k)) (sym same) at
-  | inr other ↦ let o = others j other in rw (o.0, o.1, o.2) (IsRewritten-same b.steps (record_of b j))
+-- only one transaction is told of
+pub records_one : (b after : Book) (said : ℕ → Said) (id : ℕ) (pointed acks : List ℕ)
+    → IsRewritten b.steps (said id) (how_often id pointed) (how_often id acks) (record_of b id) (record_of after id)
+    → ((j : ℕ) → j ≢ id → (said j ≡ nothing_said j) × (how_often j pointed ≡ 0) × (how_often j acks ≡ 0) × (record_of after j ≡ record_of b j))
+    → (j : ℕ) → IsRewritten b.steps (said j) (how_often j pointed) (how_often j acks) (record_of b j) (record_of after j)
+records_one b after said id pointed acks at others j = elim (same_or_not j id) [
+  | inl same ↦ subst (λ (k : ℕ). IsRewritten b.steps (said k) (how_often k pointed) (how_often k acks) (record_of b k) (record_of after k)) (sym same) at
+  | inr other ↦ let o = others j other in rw (o.0, o.1, o.2, o.3) (IsRewritten-same b.steps (record_of b j))
 ]
 
 In-one : {A : Type 0} (a b : A) → In a (b ∷ []) → a ≡ b
 In-one a b (here _ _ e) = e
 In-one a b (there _ _ i) = elim i [ ]
 
-how_often-none : (id : ℕ) → how_often id [] ≡ 0
+pub how_often-none : (id : ℕ) → how_often id [] ≡ 0
 unfolding how_often
 how_often-none id = refl
 
@@ -162,8 +163,8 @@ point_once-change b id None reply is has_reply = record {
   points = refl;
   told = refl;
   replies = λ p i. reply_added b id reply p has_reply i;
-  records = told_one b (book_point b id) id (id ∷ []) [] (record_pointed b id is)
-      (λ j other. (how_often-other id j other, how_often-none j, pointed-other b id j other));
+  records = records_one b (book_point b id) nothing_said id (id ∷ []) [] (record_pointed b id is)
+      (λ j other. (refl, how_often-other id j other, how_often-none j, pointed-other b id j other));
 }
 
 pub ack_once-change : (b : Book) (id : ℕ) (own : Bool) (o : Option ℕ) → (record_of b id).acked ≡ o → IsChange b (ack_once b id own o) nothing_said
@@ -176,8 +177,8 @@ ack_once-change b id true None is = record {
   points = sym (append-nil b.points);
   told = refl;
   replies = λ p i. elim i [ ];
-  records = told_one b (book_ack b id) id [] (id ∷ []) (record_acked b id is)
-      (λ j other. (how_often-none j, how_often-other id j other, acked-other b id j other));
+  records = records_one b (book_ack b id) nothing_said id [] (id ∷ []) (record_acked b id is)
+      (λ j other. (refl, how_often-none j, how_often-other id j other, acked-other b id j other));
 }
 
 -- ---- passes

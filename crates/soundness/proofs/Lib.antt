@@ -1,3 +1,4 @@
+pub mod BookAnswers
 pub mod BookChanges
 pub mod BookPasses
 pub mod Faithfulness
