@@ -15,4 +15,5 @@ pub mod NeverUndeclared
 pub mod Owners
 pub mod Placements
 pub mod Runs
+pub mod StepChanges
 pub mod Written
