@@ -16,4 +16,5 @@ pub mod Owners
 pub mod Placements
 pub mod Runs
 pub mod StepChanges
+pub mod Telling
 pub mod Written
