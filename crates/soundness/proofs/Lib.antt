@@ -3,6 +3,7 @@ pub mod BookChanges
 pub mod BookPasses
 pub mod Faithfulness
 pub mod Fitting
+pub mod HistoryOrder
 pub mod Limits
 pub mod NeverAnswers
 pub mod NeverBare
@@ -15,6 +16,8 @@ pub mod NeverUndeclared
 pub mod Owners
 pub mod Placements
 pub mod Runs
+pub mod RunsTold
 pub mod StepChanges
 pub mod Telling
+pub mod Told
 pub mod Written
