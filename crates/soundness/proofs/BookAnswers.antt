@@ -1,5 +1,5 @@
 -- What a begin and a try write into the book is what they answer and tell.
-use Rattle.std.specs.Prelude.{ℕ, suc, ◌≡◌, ◌≢◌, ◌≤◌, ◌==◌, Bool, true, false, List, [], ◌∷◌, ◌++◌, Option, Some, None, is_some, is_none, ◌⊎◌, if◌then◌else◌}
+use Rattle.std.specs.Prelude.{ℕ, ◌≡◌, ◌≢◌, ◌==◌, Bool, true, false, [], ◌∷◌, Option, Some, None, is_none, if◌then◌else◌}
 use Rattle.std.proofs.Common.{arith, refl, ap, sym, ◌∙◌, inl, inr, subst}
 use Rattle.std.proofs.lemmas.Bool.{cases_Bool, eq-eqb, ne_eqb, eqb-true}
 use Rattle.std.proofs.lemmas.List.{append-nil}
@@ -13,13 +13,12 @@ use Rattle.zeus_model.specs.declared.answer.Answer.TheVariants.{Begin as BeginAn
 use Rattle.zeus_model.specs.declared.answer.Begin.{Begin as BeginOutcome}
 use Rattle.zeus_model.specs.declared.answer.Begin.TheVariants.{Begun, Stopped as BeginStopped, Busy}
 use Rattle.zeus_model.specs.declared.answer.Tried.{Tried}
-use Rattle.zeus_model.specs.declared.answer.Tried.TheVariants.{Stopped, Nothing, NoCopy, NotValid, Read, PipeFull, NotOwner, Held, WornOut, Committed}
-use Rattle.zeus_model.specs.In.{In}
-use Rattle.zeus_model.specs.Book.{Book, BookChange, EntryId, Point, TxRecord, no_record, record_of, with_record, changed, unchanged, book_begin, book_point, book_commit, book_reply, book_refuse, book_read, book_tried, point_once, ack_once}
+use Rattle.zeus_model.specs.declared.answer.Tried.TheVariants.{NoCopy, Read, Committed}
+use Rattle.zeus_model.specs.Book.{Book, BookChange, EntryId, TxRecord, no_record, record_of, with_record, changed, unchanged, book_point, book_commit, book_reply, book_refuse, book_read, book_tried, point_once, ack_once}
 use Rattle.zeus_model.specs.World.{book_begun}
 use Rattle.soundness.specs.Telling.{how_often, ids_of}
 use Rattle.soundness.proofs.Written.{Writes, leaves, fills}
-use Rattle.soundness.proofs.BookChanges.{Notes, keeps, notes, Said, nothing_said, IsRewritten, IsRewritten-same, IsChange, IsChange-then, IsChange-unchanged}
+use Rattle.soundness.proofs.BookChanges.{keeps, Said, nothing_said, IsRewritten, IsChange, IsChange-then, IsChange-unchanged}
 use Rattle.soundness.proofs.BookPasses.{SaysReplies, records_one, how_often-none, how_often-one, point_once-change, ack_once-change, pointed-here}
 
 -- ---- what an answer says

@@ -1,10 +1,10 @@
 -- A change of the book writes just what it tells, and writes nothing twice.
-use Rattle.std.specs.Prelude.{ℕ, suc, ◌≡◌, ◌+◌, ◌==◌, List, [], ◌∷◌, ◌++◌, Option, Some, None, if◌then◌else◌}
+use Rattle.std.specs.Prelude.{ℕ, ◌≡◌, ◌+◌, ◌==◌, List, [], ◌∷◌, ◌++◌, Option, Some, None}
 use Rattle.std.proofs.Common.{arith, refl, ap, sym, ◌∙◌, inl, inr, subst}
 use Rattle.std.proofs.lemmas.Bool.{cases_Bool}
 use Rattle.std.proofs.lemmas.List.{append-nil, append_assoc}
 use Rattle.zeus_txn.specs.declared.reply.Reply.{Reply}
-use Rattle.zeus_model.specs.In.{In, here, there}
+use Rattle.zeus_model.specs.In.{In}
 use Rattle.zeus_model.specs.Book.{Book, BookChange, EntryId, Point, TxRecord, record_of, unchanged, changes_joined}
 use Rattle.machine_moves.proofs.Lists.{In-append}
 use Rattle.soundness.specs.Telling.{how_often, ids_of}

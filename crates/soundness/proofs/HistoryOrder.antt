@@ -1,5 +1,5 @@
 -- The history is in the order in which things happened.
-use Rattle.std.specs.Prelude.{ℕ, zero, suc, ◌≡◌, ◌≢◌, ◌<◌, ◌≤◌, ◌==◌, true, List, [], ◌∷◌, ◌++◌, Option, Some, None, is_some, slice_get, ◌⊎◌, if◌then◌else◌}
+use Rattle.std.specs.Prelude.{ℕ, suc, ◌≡◌, ◌≢◌, ◌<◌, ◌≤◌, ◌==◌, List, [], ◌∷◌, ◌++◌, Option, Some, slice_get, ◌⊎◌}
 use Rattle.std.proofs.Common.{arith, refl, ap, sym, ◌∙◌, inl, inr, subst}
 use Rattle.std.proofs.lemmas.Bool.{cases_Bool, eqb-true, ne_eqb}
 use Rattle.zeus_base.specs.declared.step.Step.{Step}
@@ -7,10 +7,10 @@ use Rattle.zeus_model.specs.In.{In, here, there}
 use Rattle.zeus_model.specs.Book.{Point, record_of}
 use Rattle.zeus_model.specs.Sound.{IsOneHistory, times}
 use Rattle.zeus_model.specs.World.{World, Event, events, run}
-use Rattle.machine_moves.proofs.Lists.{In-append, In-append_left, In-append_right}
+use Rattle.machine_moves.proofs.Lists.{In-append}
 use Rattle.invariants.proofs.ObjectSeen.{same_or_not}
 use Rattle.soundness.specs.History.{StandsBefore, first, later, IsInOrder}
-use Rattle.soundness.specs.Telling.{Does, IsTold, ids_of, told_points}
+use Rattle.soundness.specs.Telling.{IsTold, ids_of, told_points}
 use Rattle.soundness.proofs.BookPasses.{HasReplies}
 
 -- ---- one before the other
@@ -112,8 +112,8 @@ module _ (w : World) (steps : List Step) (t : IsTold w steps) (one : IsOneHistor
       let same : point_b.1 ≡ begun = some_same (record_of book b).begun point_b.1 begun point_b.3 started in
       let high : begun ≤ point_b.0 = let le = point_b.4 in omega arith in
       let apart : a ≢ b = λ e.
-          let both : point_a.0 ≡ point_b.0 = some_same (record_of book a).point point_a.0 point_b.0 point_a.2 (ap (λ (i : ℕ). (record_of book i).point) e ∙ point_b.2) in
-          omega arith in
+      let both : point_a.0 ≡ point_b.0 = some_same (record_of book a).point point_a.0 point_b.0 point_a.2 (ap (λ (i : ℕ). (record_of book i).point) e ∙ point_b.2) in
+      omega arith in
       elim (either_first a b book.points apart there_a there_b) [
         | inl before ↦ before
         | inr after ↦ absurd (let wrong : point_b.0 ≤ point_a.0 = in_order b a point_b.0 point_a.0 after point_b.2 point_a.2 in omega arith)

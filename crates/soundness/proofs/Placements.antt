@@ -3,22 +3,20 @@ use Rattle.std.specs.Prelude.{ℕ, ◌≡◌, ◌<◌, ◌≤◌, true, false, l
 use Rattle.std.proofs.Common.{arith, sym, ap, ◌∙◌, inl, inr, subst}
 use Rattle.zeus_base.specs.Nodes.{has}
 use Rattle.zeus_base.specs.Order.{is_below}
-use Rattle.zeus_base.specs.OrderLaws.{is_below-irrefl}
 use Rattle.zeus_base.specs.declared.order.Stamp.{Stamp}
-use Rattle.zeus_packet.specs.declared.place.Place.{Place}
 use Rattle.zeus_model.specs.declared.state.Copy.{Copy}
 use Rattle.zeus_model.specs.declared.state.Entry.{Entry}
 use Rattle.zeus_model.specs.Sound.{IsLive, IsUpToDate, latest_entry, latest_place, left as left_of}
 use Rattle.zeus_model.specs.State.{Node, copy, entry}
 use Rattle.zeus_model.specs.World.{World, node}
 use Rattle.machine_moves.specs.Scene.{scene}
-use Rattle.ownership_safety.specs.Object.{Object, chain_stamp, place_at}
+use Rattle.ownership_safety.specs.Object.{chain_stamp, place_at}
 use Rattle.ownership_safety.specs.Ordered.{IsDecided}
 use Rattle.invariants.specs.Objects.{object}
 use Rattle.data_safety.specs.Story.{Truth, story, place_now}
 use Rattle.data_safety.specs.Faithful.{Faithful}
 use Rattle.soundness.specs.Placements.{AgreeOn, IsLatest, IsPlaced}
-use Rattle.soundness.proofs.Faithfulness.{IsNewest, latest_is, latest-newest, left-same, object_node, scene_config, scene_node, scene_objects, up_to_date}
+use Rattle.soundness.proofs.Faithfulness.{latest_is, latest-newest, left-same, object_node, scene_config, scene_node, scene_objects, up_to_date}
 
 module _ (w : World) (u : Truth) (f : Faithful (story w) u) (count : length w.nodes ≡ w.config.nodes) where
   -- what a node has settled is a link of the chain

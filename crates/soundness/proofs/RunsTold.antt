@@ -1,13 +1,13 @@
 -- From a reached run: its history is in order, its objects are placed, and its steps tell what its book has, each once.
-use Rattle.std.specs.Prelude.{ℕ, ◌≡◌, List, [], ◌∷◌, length, Some, is_some, All}
-use Rattle.std.proofs.Common.{refl, ap, ◌∙◌}
+use Rattle.std.specs.Prelude.{ℕ, ◌≡◌, List, [], ◌∷◌, length, Some, All}
+use Rattle.std.proofs.Common.{◌∙◌}
 use Rattle.std.proofs.lemmas.List.Elements.{All-head, All-tail}
 use Rattle.zeus_base.specs.Limits.{KeepsLimits}
 use Rattle.zeus_base.specs.declared.config.Config.{Config}
-use Rattle.zeus_base.specs.declared.order.Stream.{Stream}
 use Rattle.zeus_base.specs.declared.step.Step.{Step}
 use Rattle.zeus_txn.specs.declared.tx.TxDecl.{TxDecl}
-use Rattle.zeus_model.specs.Book.{EntryId, record_of}
+use Rattle.zeus_model.specs.Book.{Point, record_of}
+use Rattle.zeus_model.specs.In.{In}
 use Rattle.zeus_model.specs.Scripts.{FitsTxs, FitsStep}
 use Rattle.zeus_model.specs.World.{World, happens, run, start, stepped}
 use Rattle.machine_moves.specs.Fits.{StepFits}
@@ -18,7 +18,7 @@ use Rattle.data_safety.proofs.RowsRuns.{moves_txs, start-txs}
 use Rattle.data_safety.proofs.RowsSteps.{step_is_story_moves}
 use Rattle.soundness.specs.History.{IsInOrder}
 use Rattle.soundness.specs.Placements.{IsPlaced}
-use Rattle.soundness.specs.Telling.{Commits, IsOnce, IsTold}
+use Rattle.soundness.specs.Telling.{Answers, IsOnce, IsTold}
 use Rattle.soundness.proofs.BookPasses.{HasReplies}
 use Rattle.soundness.proofs.Fitting.{fits-steps}
 use Rattle.soundness.proofs.HistoryOrder.{is_in_order}
@@ -26,7 +26,7 @@ use Rattle.soundness.proofs.Placements.{faithful-placed}
 use Rattle.soundness.proofs.Runs.{IsReached, start-reached, step-reached, run-reached, run-sound}
 use Rattle.soundness.proofs.StepChanges.{StepTells, step_tells}
 use Rattle.soundness.proofs.Telling.{RunTells, RunTells-none, RunTells-more}
-use Rattle.soundness.proofs.Told.{IsNew, is_told, answered_once, start-new, new-replies}
+use Rattle.soundness.proofs.Told.{is_told, answered_once, start-new, new-replies}
 
 -- a run from a reached world tells what it writes
 run_tells : (c : Config) (txs : List TxDecl) (steps : List Step) (w : World) → w.config ≡ c → w.txs ≡ txs → IsReached w → HasReplies w.book → All (StepFits c txs) steps → RunTells w steps
@@ -70,3 +70,12 @@ module _ (c : Config) (txs : List TxDecl) (steps : List Step) (keeps : KeepsLimi
   -- the objects of a run have one latest placement each, and copies where it places them
   pub run-placed : IsPlaced (run (start c txs) steps)
   run-placed = let r = reached in faithful-placed (run (start c txs) steps) r.truth r.faithful r.counts
+
+  -- each transaction of the history has the reply that it was answered
+  pub run-replies : (p : Point) → In p (run (start c txs) steps).book.points
+      → ((record_of (run (start c txs) steps).book p.id).reply ≡ Some p.reply) × ((k : ℕ) × Answers (start c txs) steps k p.id p.reply)
+  run-replies p i =
+      let order = run-in_order in
+      let told = run-told in
+      let kept = order.replies p i in
+      (kept, (told.reply p.id p.reply).0 kept)

@@ -1,5 +1,5 @@
 -- Each step of a run writes into the book just what it answers and tells.
-use Rattle.std.specs.Prelude.{ℕ, suc, ◌≡◌, ◌-◌, Bool, true, false, nat_lt, List, [], ◌++◌, length, Option, Some, None, is_some, ◌⊎◌}
+use Rattle.std.specs.Prelude.{ℕ, suc, ◌≡◌, ◌-◌, Bool, true, false, nat_lt, List, [], ◌++◌, length, Option, Some, None, is_some}
 use Rattle.std.proofs.Common.{arith, refl, ap, sym, ◌∙◌, inl, inr, subst}
 use Rattle.std.proofs.lemmas.Bool.{cond_both}
 use Rattle.std.proofs.lemmas.List.{append-nil}
@@ -9,32 +9,28 @@ use Rattle.zeus_base.specs.declared.order.Stream.{Stream}
 use Rattle.zeus_base.specs.declared.step.Passed.{Passed}
 use Rattle.zeus_packet.specs.declared.letter.Letter.{Letter}
 use Rattle.zeus_txn.specs.Ops.{is_write}
-use Rattle.zeus_txn.specs.declared.reply.Reply.{Reply}
 use Rattle.zeus_model.specs.Tables.{nth, or_else, where_true}
 use Rattle.zeus_model.specs.declared.answer.Answer.{Answer}
-use Rattle.zeus_model.specs.declared.answer.Answer.TheVariants.{Begin as BeginAnswer, Twice, Waits, Try as TryAnswer, NoPacket, Receive, Tick as TickAnswer, Stop as StopAnswer, View as ViewAnswer, NoView, Install as InstallAnswer}
+use Rattle.zeus_model.specs.declared.answer.Answer.TheVariants.{Begin as BeginAnswer, Twice, Waits, Try as TryAnswer, NoView}
 use Rattle.zeus_model.specs.declared.answer.Begin.{Begin as BeginOutcome}
 use Rattle.zeus_model.specs.declared.answer.Begin.TheVariants.{Stopped as BeginStopped}
 use Rattle.zeus_model.specs.declared.answer.Made.{Made}
 use Rattle.zeus_model.specs.declared.answer.Tried.{Tried}
-use Rattle.zeus_model.specs.declared.answer.Tried.TheVariants.{Stopped, Nothing, NoCopy, NotValid, Read, PipeFull, NotOwner, Held, WornOut, Committed}
+use Rattle.zeus_model.specs.declared.answer.Tried.TheVariants.{Stopped, Read, NotOwner, Committed}
 use Rattle.zeus_model.specs.declared.state.Current.{Current}
 use Rattle.zeus_model.specs.State.{Node, slot}
 use Rattle.zeus_model.specs.Act.{Did, just}
 use Rattle.zeus_model.specs.Book.{Book, BookChange, Point, TxRecord, record_of, unchanged, change_then, counted, book_tried, book_passes, in_stream_order}
-use Rattle.zeus_model.specs.Commit.{advance_own}
 use Rattle.zeus_model.specs.Local.{begin, Hindrance, Missing, Unready, hindrance, read_missing, read_row, write_cause, write_row, commit, commit_entry, try_current, try_slot}
-use Rattle.zeus_model.specs.Membership.{install, stop, tick}
-use Rattle.zeus_model.specs.Receive.{receive}
+use Rattle.zeus_model.specs.Membership.{install}
 use Rattle.zeus_model.specs.World.{World, Event, node, tx_decl, link, refuse_step, acted, book_begun, begun_at, begin_refused, begin_or_not, step_begin, waits_for, tried_at, nth_letter, received_at, deliver_or_not, ticked_at, stopped_at, installed_at, view_refused, view_or_not, step_install, happens}
-use Rattle.machine_moves.specs.Scene.{scene}
 use Rattle.machine_moves.proofs.Causes.{or_else-none, where_true-none}
 use Rattle.data_safety.specs.Story.{Truth, story}
 use Rattle.data_safety.specs.Faithful.{Faithful}
 use Rattle.data_safety.proofs.RowsQuiet.{IsObstacle, write_cause-obstructs}
 use Rattle.soundness.specs.Telling.{how_often, ids_of}
-use Rattle.soundness.proofs.BookChanges.{Said, nothing_said, how_often-append, IsRewritten, IsRewritten-same, IsChange, IsChange-then, IsChange-unchanged}
-use Rattle.soundness.proofs.BookPasses.{HasReplies, HasReplies-after, HasReplies-passed, SaysReplies, book_passes-change, how_often-none}
+use Rattle.soundness.proofs.BookChanges.{Said, nothing_said, how_often-append, IsRewritten, IsRewritten-same, IsChange, IsChange-then}
+use Rattle.soundness.proofs.BookPasses.{HasReplies, HasReplies-after, SaysReplies, book_passes-change, how_often-none}
 use Rattle.soundness.proofs.BookAnswers.{silence, said, said_begin, said_tried, ended_id, IsOpen, begun-change, tried-change, said_begin-replies, said_tried-replies}
 use Rattle.soundness.proofs.Faithfulness.{scene_node, some_value}
 
@@ -115,9 +111,9 @@ is_open w u n s c f r is =
       ]);
       point = now.3;
       acked = none_of (record_of w.book c.id).acked (λ some.
-      let step = some_value (record_of w.book c.id).acked some in
-      let point : (record_of w.book c.id).point ≡ Some step.0 = f.booked.acked_at c.id step.0 step.1 in
-      absurd (cc (point, now.3)));
+          let step = some_value (record_of w.book c.id).acked some in
+          let point : (record_of w.book c.id).point ≡ Some step.0 = f.booked.acked_at c.id step.0 step.1 in
+          absurd (cc (point, now.3)));
     }
 
 -- ---- steps
@@ -213,8 +209,8 @@ tried_tells w u n s f r =
     let c : BookChange = book_tried w.book t w.config.degree d.answer in
     let passed = in_stream_order d.passed in
     let ends : (id : ℕ) → ended_id d.answer ≡ Some id → IsOpen (record_of w.book id) = λ id ended.
-        let it = try_slot-ends (node w n) s id ended in
-        subst (λ (j : ℕ). IsOpen (record_of w.book j)) it.2 (is_open w u n s it.0 f r it.1) in
+    let it = try_slot-ends (node w n) s id ended in
+    subst (λ (j : ℕ). IsOpen (record_of w.book j)) it.2 (is_open w u n s it.0 f r it.1) in
     let first : IsChange w.book c (said_tried t d.answer) = tried-change w.book t w.config.degree d.answer ends in
     let says : SaysReplies (said_tried t d.answer) c = said_tried-replies w.book t w.config.degree d.answer in
     let then_passes = book_passes-change c.book n passed (HasReplies-after w.book c (said_tried t d.answer) r first says) in

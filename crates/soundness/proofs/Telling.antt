@@ -1,16 +1,14 @@
 -- Over a run: what its steps tell, one after another, is what the book has.
-use Rattle.std.specs.Prelude.{ℕ, zero, suc, ◌≡◌, ◌+◌, ◌≤◌, ◌==◌, List, [], ◌∷◌, ◌++◌, length, Option, Some, None, slice_get, is_some, All, if◌then◌else◌}
-use Rattle.std.proofs.Common.{arith, refl, ap, sym, ◌∙◌, inl, inr, subst}
-use Rattle.std.proofs.lemmas.Bool.{cases_Bool, eqb-true, eq-eqb}
+use Rattle.std.specs.Prelude.{ℕ, zero, suc, ◌≡◌, ◌+◌, ◌≤◌, List, [], ◌∷◌, ◌++◌, length, Option, Some, None, slice_get}
+use Rattle.std.proofs.Common.{arith, refl, ap, sym, ◌∙◌}
 use Rattle.std.proofs.lemmas.List.{append-nil, append_assoc}
 use Rattle.zeus_base.specs.declared.step.Step.{Step}
-use Rattle.zeus_model.specs.In.{In, here, there}
-use Rattle.zeus_model.specs.Book.{Book, EntryId, Point, TxRecord, record_of}
+use Rattle.zeus_model.specs.Book.{EntryId, Point, TxRecord, record_of}
 use Rattle.zeus_model.specs.World.{World, Event, events, happens, run, stepped}
 use Rattle.zeus_txn.specs.declared.reply.Reply.{Reply}
 use Rattle.soundness.specs.Telling.{how_often, ids_of, told_points, told_acks}
 use Rattle.soundness.proofs.Written.{Writes, leaves, fills, Written, ended, onward}
-use Rattle.soundness.proofs.BookChanges.{Notes, keeps, notes, Said, IsRewritten, how_often-append, ids_of-append}
+use Rattle.soundness.proofs.BookChanges.{Notes, keeps, notes, IsRewritten, how_often-append, ids_of-append}
 use Rattle.soundness.proofs.BookPasses.{HasReplies}
 use Rattle.soundness.proofs.BookAnswers.{said}
 use Rattle.soundness.proofs.StepChanges.{StepTells}

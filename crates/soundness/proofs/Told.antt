@@ -1,5 +1,5 @@
 -- The book after a run from the start has what the steps tell, and what happens to a transaction happens once.
-use Rattle.std.specs.Prelude.{ℕ, zero, suc, ◌≡◌, ◌+◌, ◌≤◌, ◌==◌, true, List, [], ◌∷◌, ◌++◌, length, Option, Some, None, is_some, slice_get, if◌then◌else◌}
+use Rattle.std.specs.Prelude.{ℕ, zero, suc, ◌≡◌, ◌+◌, ◌≤◌, ◌==◌, true, List, [], ◌∷◌, ◌++◌, length, Option, Some, None, is_some, slice_get}
 use Rattle.std.proofs.Common.{arith, refl, ap, sym, ◌∙◌, inl, inr, subst}
 use Rattle.std.proofs.lemmas.Bool.{cases_Bool, eqb-true, eq-eqb}
 use Rattle.zeus_base.specs.declared.config.Config.{Config}
@@ -18,11 +18,11 @@ use Rattle.zeus_model.specs.In.{In, here, there}
 use Rattle.zeus_model.specs.Book.{EntryId, Point, TxRecord, no_record, record_of}
 use Rattle.zeus_model.specs.World.{World, Event, events, run, start}
 use Rattle.machine_moves.proofs.Lists.{nth-replicate}
-use Rattle.soundness.specs.Telling.{Answers, Begins, Commits, Does, IsOnce, IsTold, Replies, Tries, commits, reads, how_often, ids_of, told_points, told_acks}
-use Rattle.soundness.proofs.Written.{Written, Written-found, Written-kept, Written-once}
+use Rattle.soundness.specs.Telling.{Answers, Begins, Commits, Does, IsTold, Replies, Tries, commits, reads, how_often, ids_of, told_points, told_acks}
+use Rattle.soundness.proofs.Written.{Written-found, Written-kept, Written-once}
 use Rattle.soundness.proofs.BookPasses.{HasReplies}
-use Rattle.soundness.proofs.BookAnswers.{silence, said, said_begin, said_tried}
-use Rattle.soundness.proofs.Telling.{IsAt, along, along-found, along-there, step_there, begun_at, entry_at, reply_at, point_at, acked_at, at_step, FitsOnce, RunTells, Writing}
+use Rattle.soundness.proofs.BookAnswers.{said, said_begin, said_tried}
+use Rattle.soundness.proofs.Telling.{along, along-found, along-there, step_there, begun_at, entry_at, reply_at, point_at, acked_at, at_step, FitsOnce, RunTells, Writing}
 
 -- ---- what an answer says, read backwards
 

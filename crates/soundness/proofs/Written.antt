@@ -1,6 +1,6 @@
 -- A value that is written once: steps that write it where there was none, and leave it else.
 use Rattle.std.specs.Prelude.{ℕ, zero, suc, ◌≡◌, List, [], ◌∷◌, Option, Some, None, slice_get}
-use Rattle.std.proofs.Common.{refl, ap, sym, ◌∙◌}
+use Rattle.std.proofs.Common.{refl, ap}
 
 -- a step writes a value where there was none, or leaves what is there
 pub data Writes {A : Type 0} : Option A → Option A → Option A → Type 0 where
