@@ -22,7 +22,7 @@ use Rattle.soundness.specs.Telling.{Answers, Begins, Commits, Does, IsTold, Repl
 use Rattle.soundness.proofs.Written.{Written-found, Written-kept, Written-once}
 use Rattle.soundness.proofs.BookPasses.{HasReplies}
 use Rattle.soundness.proofs.BookAnswers.{said, said_begin, said_tried}
-use Rattle.soundness.proofs.Telling.{along, along-found, along-there, step_there, begun_at, entry_at, reply_at, point_at, acked_at, at_step, FitsOnce, RunTells, Writing}
+use Rattle.soundness.proofs.Telling.{IsAt, along, along-found, along-there, step_there, begun_at, entry_at, reply_at, point_at, acked_at, at_step, FitsOnce, RunTells, Writing}
 
 -- ---- what an answer says, read backwards
 
@@ -188,6 +188,10 @@ unfolding at_step
 at_step-told step zero h = absurd (omega arith)
 at_step-told step (suc n) h = refl
 
+-- a step that is a try, with what it does
+tries_at : (w : World) (steps : List Step) (k : ℕ) (t : Stream) (o : Tried) (s : Step) (e : Event) → IsAt w steps k s e → IsTryOf s e.answer t o → Tries w steps k t o
+tries_at w steps k t o s e h tried = record { step = h.step ∙ ap (λ (i : Step). Some i) tried.step; answer = (e, h.event, tried.answer) }
+
 -- ---- a run from the start
 
 -- a world in which nothing has happened yet
@@ -280,9 +284,7 @@ module _ (w : World) (steps : List Step) (new : IsNew w) (t : RunTells w steps) 
       let found = Written-found (along (entry_at id) 0 w steps) None (record_of (run w steps).book id).entry x at.entry refl h in
       let there_is = along-found (entry_at id) 0 w steps found.0 (Some x) found.1 in
       let by = said-entry (0 + found.0) there_is.0 there_is.1.answer id x there_is.3 in
-      let there_at = there_is.2 in
-      let tried = by.1 in
-      (found.0, (by.0, record { step = there_at.step ∙ ap (λ (i : Step). Some i) tried.step; answer = (there_is.1, there_at.event, tried.answer) }))
+      (found.0, (by.0, tries_at w steps found.0 s (Committed id number by.0) there_is.0 there_is.1 there_is.2 by.1))
 
   committed : (k id number : ℕ) (s : Stream) (reply : Reply) → Tries w steps k s (Committed id number reply)
       → slice_get (along (entry_at id) 0 w steps) k ≡ Some (Some record { stream = s; number = number })
@@ -303,9 +305,7 @@ module _ (w : World) (steps : List Step) (new : IsNew w) (t : RunTells w steps) 
       let found = Written-found (along (reply_at id) 0 w steps) None (record_of (run w steps).book id).reply r at.reply refl h in
       let there_is = along-found (reply_at id) 0 w steps found.0 (Some r) found.1 in
       let by = said-reply (0 + found.0) there_is.0 there_is.1.answer id r there_is.3 in
-      let there_at = there_is.2 in
-      let tried = by.2 in
-      (found.0, (by.0, by.1, record { step = there_at.step ∙ ap (λ (i : Step). Some i) tried.step; answer = (there_is.1, there_at.event, tried.answer) }, by.3))
+      (found.0, (by.0, by.1, tries_at w steps found.0 by.0 by.1 there_is.0 there_is.1 there_is.2 by.2, by.3))
 
   answered : (k id : ℕ) (r : Reply) → Answers w steps k id r → slice_get (along (reply_at id) 0 w steps) k ≡ Some (Some r)
   answered k id r h =

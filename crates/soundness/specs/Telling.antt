@@ -59,7 +59,7 @@ Commits w steps k t number id = (reply : Reply) × Tries w steps k t (Committed 
 abbrev pub Answers : World → List Step → ℕ → ℕ → Reply → Type 0
 Answers w steps k id reply = (t : Stream) × (a : Tried) × Tries w steps k t a × Replies id reply a
 
--- the book after a run has what the steps of the run tell, and nothing else
+-- the book after a run has what the steps of the run tell
 pub record IsTold (w : World) (steps : List Step) : Type 0 where
   -- it counts the steps
   pub counted : (run w steps).book.steps ≡ length steps

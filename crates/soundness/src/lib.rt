@@ -123,6 +123,11 @@ pub fn every_run_tells_its_history()
         → (id : ℕ) (reply : Reply)
         → ((record_of (run (start c txs) steps).book id).reply ≡ Some reply) ↔ ((k : ℕ) × Answers (start c txs) steps k id reply) }
 
+    // The reply that a transaction has when a step tells its point, which a report prints there, is that of the history.
+    ensures told_replies { (c : Config) (txs : List TxDecl) (steps : List Step) → KeepsLimits c → FitsTxs c txs → All (FitsStep c (length txs)) steps
+        → (id k : ℕ) (e : Event) → Does (start c txs) steps k e → In id e.points
+        → (p : Point) × In p (run (start c txs) steps).book.points × (p.id ≡ id) × ((record_of e.world.book id).reply ≡ Some p.reply) }
+
     // No transaction is committed or read twice, and none that was committed is read too.
     ensures once_committed { (c : Config) (txs : List TxDecl) (steps : List Step) → KeepsLimits c → FitsTxs c txs → All (FitsStep c (length txs)) steps
         → (id k l : ℕ) (p q : Reply)

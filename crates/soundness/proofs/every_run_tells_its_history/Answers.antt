@@ -1,4 +1,4 @@
-use Rattle.soundness.proofs.RunsTold.{run-told, run-once}
+use Rattle.soundness.proofs.RunsTold.{run-told, run-told_replies, run-once}
 use Rattle.soundness.proofs.every_run_tells_its_history.Goals as goal
 
 pub returns-clause-counted : goal.returns-clause-counted
@@ -30,3 +30,6 @@ returns-clause-once_committed c = λ config txs steps keeps fit fits. (run-once 
 
 pub returns-clause-own_entry : goal.returns-clause-own_entry
 returns-clause-own_entry c = λ config txs steps keeps fit fits. (run-once config txs steps keeps fit fits).entries
+
+pub returns-clause-told_replies : goal.returns-clause-told_replies
+returns-clause-told_replies c = λ config txs steps keeps fit fits. run-told_replies config txs steps keeps fit fits
