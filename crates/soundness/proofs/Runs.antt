@@ -46,7 +46,7 @@ start-reached c txs keeps fits = record {
 -- ---- steps
 
 -- a reached world goes on to a reached world
-step-reached : (c : Config) (txs : List TxDecl) (w : World) (s : Step) → w.config ≡ c → w.txs ≡ txs → IsReached w → StepFits c txs s → IsReached (stepped w s)
+pub step-reached : (c : Config) (txs : List TxDecl) (w : World) (s : Step) → w.config ≡ c → w.txs ≡ txs → IsReached w → StepFits c txs s → IsReached (stepped w s)
 step-reached c txs w s config same r fits =
     let here : StepFits w.config w.txs s = rw (config, same) fits in
     let next : IsFaithful (story (stepped w s)) = moves-faithful (story w) (story (stepped w s)) r.truth r.faithful (step_is_story_moves w s r.usual here) in
@@ -57,7 +57,7 @@ step-reached c txs w s config same r fits =
       faithful = next.1;
     }
 
-run-reached : (c : Config) (txs : List TxDecl) (steps : List Step) (w : World) → w.config ≡ c → w.txs ≡ txs → IsReached w → All (StepFits c txs) steps → IsReached (run w steps)
+pub run-reached : (c : Config) (txs : List TxDecl) (steps : List Step) (w : World) → w.config ≡ c → w.txs ≡ txs → IsReached w → All (StepFits c txs) steps → IsReached (run w steps)
 unfolding run
 run-reached c txs [] w config same r fits = r
 run-reached c txs (s ∷ ss) w config same r fits =

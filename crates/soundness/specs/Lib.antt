@@ -1,1 +1,4 @@
+pub mod History
+pub mod Placements
 pub mod Refusals
+pub mod Telling
