@@ -77,7 +77,7 @@ pub run-config : (c : Config) (txs : List TxDecl) (steps : List Step) → KeepsL
 run-config c txs steps keeps fits = (reached_usual c txs steps keeps (fits-steps c txs steps fits)).1
 
 -- so is every run of its first steps
-All-take : {A : Type 0} (P : A → Type 0) (k : ℕ) (xs : List A) → All P xs → All P (take k xs)
+pub All-take : {A : Type 0} (P : A → Type 0) (k : ℕ) (xs : List A) → All P xs → All P (take k xs)
 All-take P zero xs h = All-nil P
 All-take P (suc k) [] h = All-nil P
 All-take P (suc k) (x ∷ xs) h = All-cons P x (take k xs) (All-head P x xs h) (All-take P k xs (All-tail P x xs h))

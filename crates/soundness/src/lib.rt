@@ -22,6 +22,7 @@ ghost use Rattle.zeus_model.specs.declared.answer.Outcome.TheVariants.{Refused};
 ghost use Rattle.zeus_model.specs.declared.state.Copy.{Copy};
 ghost use Rattle.soundness.specs.History.{StandsBefore};
 ghost use Rattle.soundness.specs.Placements.{AgreeOn, IsLatest};
+ghost use Rattle.soundness.specs.Promise.{KeepsPromise};
 ghost use Rattle.soundness.specs.Telling.{Answers, Begins, Commits, Does, how_often, ids_of, told_acks, told_points};
 
 /// Every run is sound: whatever the configuration and the transactions within the limits, and whatever the steps, which may
@@ -147,4 +148,11 @@ pub fn never_refused_so()
         → let answer = (happens (run (start c txs) steps) s).answer in
         (answer ≢ Receive (Refused OwnStream)) × (answer ≢ Receive (Refused Window)) × (answer ≢ Receive (Refused NotArbiter))
         × (answer ≢ Receive (Refused NotCollector)) × (answer ≢ Receive (Refused OwnPlace)) }
+{}
+
+/// Every run keeps the whole promise, after each of its steps: all that `every_run_is_sound` and
+/// `every_run_tells_its_history` say, in one word for who hands it on.
+pub fn every_run_keeps_its_promise()
+    ensures { (c : Config) (txs : List TxDecl) (steps : List Step) → KeepsLimits c → FitsTxs c txs → All (FitsStep c (length txs)) steps
+        → (k : ℕ) → KeepsPromise (start c txs) (take k steps) }
 {}
