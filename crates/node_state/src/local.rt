@@ -1,5 +1,5 @@
 //! The transactions of a node's slots: begun, tried on the copies, and committed into the pipe.
-ghost use Rattle.std.specs.Prelude.{◌≡◌, ◌<◌, None, Some, OnSome, length};
+ghost use Rattle.std.specs.Prelude.{◌≡◌, ◌<◌, None, Some, IfSome, length};
 ghost use Rattle.zeus_model.specs.Local.{hindrance, run_here, with_current, write_cause, write_row};
 ghost use Rattle.zeus_model.specs.State.{slot as slot_of};
 ghost use Rattle.zeus_model.specs.declared.state.Current.{Current};
@@ -37,7 +37,7 @@ impl NodeState {
     pub fn try_write(&mut self, slot: SlotId) -> Option<WriteTry>
         requires { slot < length self.old.slots }
         ensures none { (slot_of self.old slot).current ≡ None → (result ≡ None) × (self.new ≡ self.old) }
-        ensures answer { (c : Current) → (slot_of self.old slot).current ≡ Some c → OnSome result (λ t. tried_as c.id t ≡ (write_row self.old slot c (write_cause self.old slot c.tx)).answer) }
+        ensures answer { (c : Current) → (slot_of self.old slot).current ≡ Some c → IfSome result (λ t. tried_as c.id t ≡ (write_row self.old slot c (write_cause self.old slot c.tx)).answer) }
         ensures after { (c : Current) → (slot_of self.old slot).current ≡ Some c → self.new ≡ after_try self.old slot c (write_cause self.old slot c.tx) }
     {
         let me = self.me;
