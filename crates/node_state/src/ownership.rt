@@ -117,7 +117,6 @@ impl NodeState {
         content: Option<Content>,
     ) -> Ack
         requires object { obj < length self.old.entries }
-        requires from { from < length self.old.logs }
         requires proposal { proposal_fits (limits_of self.old) p.now ≡ true }
         ensures answer { result ≡ ack_at (gather self.old obj) from p.now content }
         ensures after { self.new ≡ with_gather self.old obj (gathered (gather self.old obj) from p.now content) }
