@@ -207,13 +207,3 @@ KeepsRanges-store limits n r fit next room h =
     record { done = (log n r.stream).done; kept = (log n r.stream).kept ++ record { followers = r.followers; writes = r.writes; acks = [] } ∷ [] }
     parts.node parts.slot (FitsLog-stored limits r (log n r.stream) parts next room (h.logs r.stream))
     (KeepsRanges-each_write limits applied n r.writes (LeavesFit-applied limits) parts.writes h)
-
--- ---- acknowledgements
-
--- what holds of each element, and of another, holds of each after that was put in range
-pub All-put : {A : Type 0} (P : A → Type 0) (d : A) (xs : List A) (i : ℕ) (v : A) → i < length xs → P v → All P xs → All P (put d xs i v)
-All-put P d xs i v less h all = rw (put-set d xs i v less) (All-set P xs i v h all)
-
--- what holds of each element holds at a place in range
-pub All-nth : {A : Type 0} (P : A → Type 0) (d : A) (xs : List A) (i : ℕ) → i < length xs → All P xs → P (nth d xs i)
-All-nth P d xs i less all = rw (nth_here d xs i less) (All-get_or P xs i (nth d xs i) less all)
