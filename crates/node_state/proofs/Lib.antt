@@ -3,3 +3,4 @@ pub mod Cut
 pub mod Keeping
 pub mod Owning
 pub mod Searching
+pub mod Starting

@@ -23,7 +23,6 @@ use Rattle.node_ranges.specs.OwnershipChanges.{FitsGathered-for, FitsGathered-no
 use Rattle.node_ranges.specs.Parts.{KeepsRanges-with_gather}
 use Rattle.node_ranges.specs.Ranges.{KeepsRanges, limits_of}
 
-
 -- the node with this directory
 abbrev pub knowing : Node → Directory → Node
 knowing n d = record n { directory = d.nodes; degree = d.degree; entries = d.entries }

@@ -74,13 +74,7 @@ impl NodeState {
         ensures letters { (advance_kept self.old s).sent ≡ to_each self.old result.tell (RVal s result.after) }
         ensures passed { (advance_kept self.old s).passed ≡ passed_by s result }
     {
-        reliable_commit::advance_kept(
-            &mut self.copies,
-            &mut self.logs,
-            s,
-            self.me,
-            self.members,
-        )
+        reliable_commit::advance_kept(&mut self.copies, &mut self.logs, s, self.me, self.members)
     }
 
     /// Notes that the node has reported in this epoch. True exactly where it had not.

@@ -54,7 +54,8 @@ impl NodeState {
         requires { obj < length self.now.entries }
         ensures { result ≡ answered (drive_cause self.now obj requester want) (driven self.now obj requester want) }
     {
-        self.dir.may_drive(obj, requester, self.me, self.members, want)
+        self.dir
+            .may_drive(obj, requester, self.me, self.members, want)
     }
 
     /// Whether the node is the source of the placement.
