@@ -1,14 +1,15 @@
 -- The rules of commits keep the ranges, and send letters that fit: entries, acknowledgements, passes, reports and the finish.
-use Rattle.std.specs.Prelude.{ℕ, zero, suc, ◌≡◌, ◌≢◌, ◌+◌, ◌-◌, ◌<◌, ◌≤◌, ◌==◌, ◌&&◌, not, nat_lt, Bool, true, false, List, [], ◌∷◌, ◌++◌, length, take, map, All, Option, Some, None, if◌then◌else◌, refl}
+use Rattle.std.specs.Prelude.{ℕ, zero, suc, ◌≡◌, ◌≢◌, ◌+◌, ◌-◌, ◌<◌, ◌≤◌, ◌==◌, ◌&&◌, not, nat_lt, nat_le, Bool, true, false, List, [], ◌∷◌, ◌++◌, length, take, map, All, Option, Some, None, if◌then◌else◌, refl}
+use Rattle.std.specs.List.{list_all}
 use Rattle.std.proofs.Common.{arith, ◌∙◌, inl, inr}
-use Rattle.std.proofs.lemmas.Bool.{and_parts, and_from, cond_both, lt-ltb, ltb-true, ltb-false, eqb-false, not-true}
+use Rattle.std.proofs.lemmas.Bool.{and_parts, and_from, cond_both, lt-ltb, le-leb, ltb-true, ltb-false, eqb-false, not-true}
 use Rattle.std.proofs.lemmas.List.{length-map}
 use Rattle.std.proofs.lemmas.List.Elements.{All-nil, All-cons, All-append}
 use Rattle.zeus_base.specs.Nodes.{has, without, meet, with_node}
 use Rattle.zeus_base.specs.Tables.{numbers_from}
 use Rattle.zeus_base.specs.declared.config.Limits.{Limits}
 use Rattle.zeus_base.specs.declared.order.Stream.{Stream}
-use Rattle.zeus_packet.specs.Fits.{nodes_fit, stream_fits, inv_fits, body_fits, fits}
+use Rattle.zeus_packet.specs.Fits.{nodes_fit, stream_fits, write_fits, are_once, writes_fit, inv_fits, body_fits, fits}
 use Rattle.zeus_packet.specs.declared.letter.Body.TheVariants.{RAck, RVal, Recovered}
 use Rattle.zeus_packet.specs.declared.letter.Cause.TheVariants.{OwnStream, Window}
 use Rattle.zeus_packet.specs.declared.letter.RInv.{RInv}
@@ -24,7 +25,7 @@ use Rattle.node_ranges.specs.Acts.{letter-fits, to_nodes-fit, Keeping, KeepsAndF
 use Rattle.node_ranges.specs.CommitChanges.{KeepsRanges-pass_own, KeepsRanges-pass_kept, KeepsRanges-raise, KeepsRanges-store, InvParts, inv_fits-parts, stream_fits-node, stream_fits-slot}
 use Rattle.node_ranges.specs.NodeSets.{nodes_fit-without, nodes_fit-meet_right}
 use Rattle.node_ranges.specs.Places.{AllFit-one}
-use Rattle.node_ranges.specs.Ranges.{AllFit, HasNodes, KeepsRanges, KeepsAndFits}
+use Rattle.node_ranges.specs.Ranges.{AllFit, FitsKept, HasNodes, KeepsRanges, KeepsAndFits}
 use Rattle.node_ranges.specs.SlotChanges.{acked_slot, acked_log, KeepsRanges-acked_pending, KeepsRanges-acked_kept, KeepsRanges-heard}
 
 pub stream_fits-from : (limits : Limits) (s : Stream) → s.node < limits.nodes → s.slot < limits.slots → stream_fits limits s ≡ true
@@ -219,3 +220,26 @@ finish-keeps limits n k =
     KeepsAndFits-then limits (in_turn advance_own n slots) (λ m. and_then (in_turn advance_kept m (outside m)) report)
     (in_turn-keeps limits advance_own (λ s. s < limits.slots) slots (λ s within. advance_own-keeps limits s within) (All-below 0 (length n.slots) limits.slots (omega (arith, k.sizes.slots))) n k)
     (λ m h. KeepsAndFits-then limits (in_turn advance_kept m (outside m)) report (advances-keep limits m h) (report-keeps limits))
+
+-- ---- letters of entries
+
+-- the letter of an entry that has writes fits
+pub entry_letter-fits : (limits : Limits) (s : Stream) (number done : ℕ) (e : Kept) → stream_fits limits s ≡ true → number < 4294967295 → done ≤ number → FitsKept limits e → 1 ≤ length e.writes →
+    inv_fits limits record { stream = s; number = number; done = done; followers = e.followers; writes = e.writes } ≡ true
+unfolding inv_fits writes_fit
+entry_letter-fits limits s number done e stream small passed h some =
+    let a = stream_fits limits s in
+    let b = nat_lt number 4294967295 in
+    let c = nat_le done number in
+    let d = nodes_fit limits e.followers in
+    let p = nat_le 1 (length e.writes) in
+    let q = nat_le (length e.writes) 8 in
+    let w = list_all (write_fits limits) e.writes in
+    let o = are_once e.writes in
+    let two = and_from a b stream (lt-ltb number 4294967295 small) in
+    let three = and_from (a && b) c two (le-leb done number passed) in
+    let four = and_from (a && b && c) d three h.followers in
+    let twos = and_from p q (le-leb 1 (length e.writes) some) (le-leb (length e.writes) 8 h.few) in
+    let threes = and_from (p && q) w twos h.writes in
+    let fours = and_from (p && q && w) o threes h.once in
+    and_from (a && b && c && d) (p && q && w && o) four fours

@@ -34,7 +34,7 @@ use Rattle.zeus_model.specs.State.{Node, Slot, entry, copy, slot, own_stream, ne
 use Rattle.zeus_model.specs.Tables.{or_else, where_true, first_of}
 use Rattle.node_ranges.specs.Acts.{letter-fits, to_each-fit, KeepsAndFits-still, KeepsAndFits-did_then}
 use Rattle.node_ranges.specs.CommitChanges.{write_fits-object}
-use Rattle.node_ranges.specs.CommitRules.{advance_own-keeps, stream_fits-from}
+use Rattle.node_ranges.specs.CommitRules.{advance_own-keeps, entry_letter-fits, stream_fits-from}
 use Rattle.node_ranges.specs.NodeSets.{nodes_fit-has, nodes_fit-none, nodes_fit-join, nodes_fit-without, nodes_fit-meet, nodes_fit-meet_right, nodes_fit-least, has-meet_left, has-without_in}
 use Rattle.node_ranges.specs.Places.{AllFit-none, AllFit-cons, object_fits-from, place_fits-parts}
 use Rattle.node_ranges.specs.Ranges.{AllFit, FitsKept, FitsPending, FitsTx, FitsCurrent, KeepsRanges, KeepsAndFits}
@@ -179,3 +179,79 @@ commit_fits limits n c fit k =
       others = has-without_same n.me (replicas_of n ws);
       named = fit.named;
     }
+
+-- ---- commits
+
+or_else-none : {A : Type 0} (a b : Option A) → or_else a b ≡ None → (a ≡ None) × (b ≡ None)
+unfolding or_else
+or_else-none None b h = (refl, h)
+or_else-none (Some a) b h = absurd cc
+
+where_true-none : {A : Type 0} (test : Bool) (a : A) → where_true test a ≡ None → test ≡ false
+unfolding where_true
+where_true-none true a h = absurd cc
+where_true-none false a h = refl
+
+-- where a write is not hindered, the slot has room, and its next number is not the last of 32 bits
+write_cause-room : (n : Node) (s : ℕ) (tx : List Op) → write_cause n s tx ≡ None → length (slot n s).pending ≢ 16
+unfolding write_cause full_cause
+write_cause-room n s tx h = eqb-false (length (slot n s).pending) 16 (where_true-none _ _ (or_else-none _ _ h).0)
+
+write_cause-left : (n : Node) (s : ℕ) (tx : List Op) → write_cause n s tx ≡ None → next_number (slot n s) ≢ 4294967295
+unfolding write_cause worn_cause
+write_cause-left n s tx h =
+    let one = or_else-none (full_cause (slot n s)) _ h in
+    let two = or_else-none (owner_cause n tx) _ one.1 in
+    let three = or_else-none (holder_cause n s tx) _ two.1 in
+    let four = or_else-none _ _ three.1 in
+    eqb-false (next_number (slot n s)) 4294967295 (where_true-none _ _ four.0)
+
+commit_letters-fit : (limits : Limits) (n : Node) (s : ℕ) (followers : List ℕ) (writes : List WriteOf) → s < limits.slots → next_number (slot n s) < 4294967295 → FitsKept limits record { followers = followers; writes = writes; acks = [] } → KeepsRanges limits n →
+    AllFit limits (to_each n (meet followers n.members) (RInv (invalidation n s followers writes)))
+unfolding body_fits
+commit_letters-fit limits n s followers writes within small h k =
+    let e : Kept = record { followers = followers; writes = writes; acks = [] } in
+    to_each-fit limits n (meet followers n.members) (RInv (invalidation n s followers writes)) k.nodes
+    (λ to is. nodes_fit-has limits followers to h.followers (has-meet_left to followers n.members is))
+    (λ to is. entry_letter-fits limits (own_stream n s) (next_number (slot n s)) (slot n s).done e (stream_fits-from limits (own_stream n s) k.nodes.me within) small (omega arith) h
+    (h.some to (has-meet_left to followers n.members is)))
+
+commit-keeps : (limits : Limits) (n : Node) (s : ℕ) (c : Current) → s < limits.slots → write_cause n s c.tx ≡ None → FitsTx limits c.tx → KeepsRanges limits n →
+    KeepsAndFits limits (commit n s c (run_here n c.tx)).node (commit n s c (run_here n c.tx)).sent
+unfolding commit commit_entry
+commit-keeps limits n s c within none fit k =
+    let ran = run_here n c.tx in
+    let writes = new_writes n ran.writes in
+    let followers = without n.me (replicas_of n writes) in
+    let new = commit_fits limits n c fit k in
+    let left = write_cause-left n s c.tx none in
+    let small : next_number (slot n s) < 4294967295 = omega (arith, left, (k.slots s).numbered) in
+    let letters = to_each n (meet followers n.members) (RInv (invalidation n s followers writes)) in
+    let first : Did Tried = sends (committed n s c ran followers writes) (Committed c.id (next_number (slot n s)) ran.reply) letters in
+    let kept : KeepsAndFits limits first.node first.sent = record {
+      node = KeepsRanges-committed limits n s c ran followers writes within (write_cause-room n s c.tx none) left new k;
+      sent = commit_letters-fit limits n s followers writes within small (record { followers = new.entry.followers; some = new.entry.some; few = new.entry.few; writes = new.entry.writes; once = new.entry.once }) k;
+    } in
+    KeepsAndFits-did_then limits first (λ m. advance_own m s) kept (advance_own-keeps limits s within)
+
+write_row-keeps : (limits : Limits) (n : Node) (s : ℕ) (c : Current) (cause : Option Tried) → write_cause n s c.tx ≡ cause → s < limits.slots → FitsTx limits c.tx → KeepsRanges limits n → KeepsAndFits limits (write_row n s c cause).node (write_row n s c cause).sent
+unfolding write_row
+write_row-keeps limits n s c None is within fit k = commit-keeps limits n s c within is fit k
+write_row-keeps limits n s c (Some (NotOwner x)) is within fit k =
+    record { node = k; sent = requests-fit limits n Own (not_owned n (named c.tx)) k (not_owned-within (λ (y : ℕ). y < limits.objects) n (named c.tx) fit.named) }
+write_row-keeps limits n s c (Some other) is within fit k = KeepsAndFits-still limits n k
+
+-- ---- try
+
+try_current-keeps : (limits : Limits) (n : Node) (s : ℕ) (o : Option Current) → s < limits.slots → FitsCurrent limits o → KeepsRanges limits n → KeepsAndFits limits (try_current n s o).node (try_current n s o).sent
+unfolding try_current FitsCurrent
+try_current-keeps limits n s None within fit k = KeepsAndFits-still limits n k
+try_current-keeps limits n s (Some c) within fit k =
+    cond_both (is_write c.tx) (write_row n s c (write_cause n s c.tx)) (read_row n s c (hindrance n c.tx)) (λ (d : Did Tried). KeepsAndFits limits d.node d.sent)
+    (λ _. write_row-keeps limits n s c (write_cause n s c.tx) refl within fit k) (λ _. read_row-keeps limits n s c (hindrance n c.tx) within fit k)
+
+pub try_slot-keeps : (limits : Limits) (n : Node) (s : ℕ) → s < limits.slots → KeepsRanges limits n → KeepsAndFits limits (try_slot n s).node (try_slot n s).sent
+unfolding try_slot
+try_slot-keeps limits n s within k =
+    cond_both n.stopped (just n TryStopped) (try_current n s (slot n s).current) (λ (d : Did Tried). KeepsAndFits limits d.node d.sent)
+    (λ _. KeepsAndFits-still limits n k) (λ _. try_current-keeps limits n s (slot n s).current within (k.slots s).current k)
