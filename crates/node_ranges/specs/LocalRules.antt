@@ -32,6 +32,7 @@ use Rattle.zeus_model.specs.Commit.{advance_own, as_kept}
 use Rattle.zeus_model.specs.Local.{with_current, begin_free, begin, least_from, driver, ask, requests, not_owned, not_copied, Hindrance, Missing, Unready, hindrance, run_here, read_missing, read_row, full_cause, owner_cause, holder_cause, worn_cause, write_cause, new_writes, replicas_of, invalidation, committed, commit_entry, commit, write_row, try_current, try_slot}
 use Rattle.zeus_model.specs.State.{Node, Slot, entry, copy, slot, own_stream, next_number, owns, value_of, version_of}
 use Rattle.zeus_model.specs.Tables.{or_else, where_true, first_of}
+use Rattle.node_ranges.specs.Options.{or_else-none, or_else-either, where_true-none}
 use Rattle.node_ranges.specs.Acts.{letter-fits, to_each-fit, KeepsAndFits-still, KeepsAndFits-did_then}
 use Rattle.node_ranges.specs.CommitChanges.{write_fits-object}
 use Rattle.node_ranges.specs.CommitRules.{advance_own-keeps, entry_letter-fits, stream_fits-from}
@@ -65,11 +66,6 @@ least_from-has me d (n ∷ ns) h =
       | true ↦ λ later. has-tail d n ns (least_from-has me d ns later)
       | false ↦ λ here. let same : n ≡ d = cc in rw same (has-head d ns)
     ] h
-
-or_else-either : {A : Type 0} (a b : Option A) (v : A) (P : Type 0) → or_else a b ≡ Some v → (a ≡ Some v → P) → (b ≡ Some v → P) → P
-unfolding or_else
-or_else-either None b v P h f g = g h
-or_else-either (Some a) b v P h f g = f h
 
 -- requests go to a node that there is
 pub driver-fits : (limits : Limits) (n : Node) (d : ℕ) → KeepsRanges limits n → driver n ≡ Some d → d < limits.nodes
@@ -181,16 +177,6 @@ commit_fits limits n c fit k =
     }
 
 -- ---- commits
-
-or_else-none : {A : Type 0} (a b : Option A) → or_else a b ≡ None → (a ≡ None) × (b ≡ None)
-unfolding or_else
-or_else-none None b h = (refl, h)
-or_else-none (Some a) b h = absurd cc
-
-where_true-none : {A : Type 0} (test : Bool) (a : A) → where_true test a ≡ None → test ≡ false
-unfolding where_true
-where_true-none true a h = absurd cc
-where_true-none false a h = refl
 
 -- where a write is not hindered, the slot has room, and its next number is not the last of 32 bits
 write_cause-room : (n : Node) (s : ℕ) (tx : List Op) → write_cause n s tx ≡ None → length (slot n s).pending ≢ 16
