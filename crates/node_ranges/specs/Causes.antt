@@ -1,25 +1,25 @@
 -- The causes of refusals fit: a stamp that they name is of a node, and a slot is one that there is.
-use Rattle.std.specs.Prelude.{ℕ, zero, suc, ◌≡◌, ◌+◌, ◌<◌, ◌≤◌, ◌==◌, ◌||◌, ◌&&◌, ◌^◌, ◌-◌, not, nat_lt, Bool, true, false, List, [], ◌∷◌, length, Option, Some, None, is_none, if◌then◌else◌, refl}
-use Rattle.std.proofs.Common.{arith, ◌∙◌}
+use Rattle.std.specs.Prelude.{ℕ, zero, suc, ◌≡◌, ◌+◌, ◌<◌, ◌==◌, ◌||◌, ◌&&◌, ◌^◌, ◌-◌, not, nat_lt, Bool, true, false, length, Option, Some, None, is_none, refl}
+use Rattle.std.proofs.Common.{arith}
 use Rattle.std.proofs.lemmas.Bool.{cond_both, lt-ltb}
 use Rattle.zeus_base.specs.Nodes.{has, meet}
 use Rattle.zeus_base.specs.Order.{is_below}
 use Rattle.zeus_base.specs.Tables.{numbers_from}
 use Rattle.zeus_base.specs.declared.config.Limits.{Limits}
 use Rattle.zeus_base.specs.declared.order.Stamp.{Stamp}
-use Rattle.zeus_packet.specs.Fits.{stamp_fits, cause_fits, want_fits}
+use Rattle.zeus_packet.specs.Fits.{cause_fits}
 use Rattle.zeus_packet.specs.Place.{source}
 use Rattle.zeus_packet.specs.declared.letter.Cause.{Cause}
-use Rattle.zeus_packet.specs.declared.letter.Cause.TheVariants.{NotDirectory, Proposed, Owns, HasCopy, NotReader, NoSource, Degree, IsSource, WornOut, NoCopy, Held, NotValid, Kept, NotArbiter, NotCollector, OwnPlace}
+use Rattle.zeus_packet.specs.declared.letter.Cause.TheVariants.{NotDirectory, Proposed, Owns, HasCopy, NotReader, NoSource, Degree, IsSource, WornOut, NotArbiter}
 use Rattle.zeus_packet.specs.declared.letter.State.{State}
 use Rattle.zeus_packet.specs.declared.place.Place.{Place}
 use Rattle.zeus_packet.specs.declared.place.Proposal.{Proposal}
 use Rattle.zeus_packet.specs.declared.place.Want.{Want}
 use Rattle.zeus_packet.specs.declared.place.Want.TheVariants.{Own, Read, Leave}
 use Rattle.zeus_model.specs.declared.state.Copy.{Copy}
-use Rattle.zeus_model.specs.Ownership.{is_node, is_source, keeps, keeper, missing_cause, held_cause, not_valid, state_refused, state_cause, kept_by, kept_cause, unready_cause, source_cause, proposed_cause, want_cause, exceeds, leave_cause, drive_cause, request_cause, greater_cause, is_held, accept_cause, hold_cause, takes_over, collect_cause}
+use Rattle.zeus_model.specs.Ownership.{is_node, is_source, keeps, keeper, missing_cause, held_cause, not_valid, state_refused, state_cause, kept_by, kept_cause, unready_cause, source_cause, proposed_cause, want_cause, exceeds, leave_cause, drive_cause, request_cause, greater_cause, is_held, accept_cause, hold_cause}
 use Rattle.zeus_model.specs.State.{Node, entry, copy, slot, pending_names, holder}
-use Rattle.zeus_model.specs.Tables.{or_else, where_true, first_of, below}
+use Rattle.zeus_model.specs.Tables.{or_else, where_true, first_of}
 use Rattle.node_ranges.specs.Places.{proposal_fits-parts}
 use Rattle.node_ranges.specs.Ranges.{FitsHeld, KeepsRanges}
 

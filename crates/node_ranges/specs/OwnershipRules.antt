@@ -1,7 +1,6 @@
 -- The rules of ownership keep the ranges, and send letters that fit: requests, proposals, acknowledgements and decisions.
-use Rattle.std.specs.Prelude.{ℕ, zero, suc, ◌≡◌, ◌+◌, ◌<◌, ◌≤◌, ◌==◌, ◌||◌, ◌&&◌, not, Bool, true, false, List, [], ◌∷◌, ◌++◌, Option, Some, None, if◌then◌else◌, refl}
-use Rattle.std.proofs.Common.{arith, ◌∙◌}
-use Rattle.std.proofs.lemmas.Bool.{and_from, cond_both, or_parts, not_from_false, not-false}
+use Rattle.std.specs.Prelude.{ℕ, ◌≡◌, ◌+◌, ◌<◌, ◌==◌, ◌||◌, ◌&&◌, not, Bool, true, false, [], ◌∷◌, Option, Some, None, if◌then◌else◌, refl}
+use Rattle.std.proofs.lemmas.Bool.{and_from, cond_both}
 use Rattle.zeus_base.specs.Nodes.{has, without}
 use Rattle.zeus_base.specs.Order.{is_below}
 use Rattle.zeus_base.specs.declared.config.Limits.{Limits}
@@ -11,27 +10,25 @@ use Rattle.zeus_packet.specs.Place.{arbiters, new_place}
 use Rattle.zeus_packet.specs.declared.letter.Body.TheVariants.{OInv, OAck, ONack, OVal}
 use Rattle.zeus_packet.specs.declared.letter.Cause.{Cause}
 use Rattle.zeus_packet.specs.declared.letter.Cause.TheVariants.{OwnPlace}
-use Rattle.zeus_packet.specs.declared.letter.Letter.{Letter}
 use Rattle.zeus_packet.specs.declared.place.Place.{Place}
 use Rattle.zeus_packet.specs.declared.place.Proposal.{Proposal}
 use Rattle.zeus_packet.specs.declared.place.Want.{Want}
 use Rattle.zeus_packet.specs.declared.place.Want.TheVariants.{Own, Read, Leave}
 use Rattle.zeus_packet.specs.declared.write.Content.{Content}
 use Rattle.zeus_model.specs.declared.answer.Outcome.{Outcome}
-use Rattle.zeus_model.specs.declared.answer.Outcome.TheVariants.{Taken, Again, Older, Settled, Refused}
+use Rattle.zeus_model.specs.declared.answer.Outcome.TheVariants.{Taken, Again, Refused}
 use Rattle.zeus_model.specs.declared.state.Copy.{Copy}
 use Rattle.zeus_model.specs.declared.state.Gather.{Gather}
-use Rattle.zeus_model.specs.Act.{Act, Did, still, just, sends, did_then, letter, to_each}
-use Rattle.zeus_model.specs.Ownership.{settle, holding, is_source, content_of, own_content, drive_cause, want_cause, request_cause, driven, invalidations, acknowledgement, drive, answer_request, on_oreq, answer_settled, takes_over, rebased, is_held, hold_cause, refusal, advice, refuse_proposal, collector, hold_or_refuse, oinv_on_base, on_oinv, is_decidable, bring, decide_with, decide_on, decide_gathered, decide, gather_for, greater_gather, noted, is_noted, take_ack, gather_or_older, collect_cause, collect_or_refuse, oack_on_base, on_oack, on_oval}
+use Rattle.zeus_model.specs.Act.{Act, Did, still, just, letter}
+use Rattle.zeus_model.specs.Ownership.{settle, is_source, content_of, own_content, drive_cause, want_cause, request_cause, driven, invalidations, acknowledgement, answer_request, on_oreq, answer_settled, takes_over, rebased, hold_cause, advice, collector, hold_or_refuse, oinv_on_base, on_oinv, is_decidable, decide_with, decide_on, decide_gathered, decide, gather_for, greater_gather, noted, is_noted, take_ack, gather_or_older, collect_cause, collect_or_refuse, oack_on_base, on_oack, on_oval}
 use Rattle.zeus_model.specs.State.{Node, entry, copy, gather, value_of, with_gather}
-use Rattle.zeus_model.specs.Tables.{or_else, where_true}
 use Rattle.node_ranges.specs.Acts.{letter-fits, to_nodes-fit, Keeping, KeepsAndFits-still, KeepsAndFits-did_then}
 use Rattle.node_ranges.specs.Causes.{CauseFits, request-fits, hold-fits}
 use Rattle.node_ranges.specs.Options.{or_else-none, where_true-none}
 use Rattle.node_ranges.specs.NodeSets.{nodes_fit-without}
 use Rattle.node_ranges.specs.OwnershipChanges.{KeepsRanges-settle, KeepsRanges-rebased, KeepsRanges-holding, KeepsRanges-gathered, KeepsRanges-bring, FitsGathered, FitsGathered-for, FitsGathered-noted, FitsGathered-at}
 use Rattle.node_ranges.specs.Places.{AllFit-none, AllFit-one, AllFit-append, object_fits-from, stamp_fits-from, proposal_fits-parts, proposal_fits-from, new_place-fits, arbiters-fit}
-use Rattle.node_ranges.specs.Ranges.{AllFit, HasNodes, KeepsRanges, KeepsAndFits}
+use Rattle.node_ranges.specs.Ranges.{AllFit, KeepsRanges, KeepsAndFits}
 
 -- ---- letters of ownership
 

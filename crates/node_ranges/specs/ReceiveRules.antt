@@ -1,8 +1,8 @@
 -- A letter that fits keeps the ranges of the node that receives it, and what the node sends fits.
-use Rattle.std.specs.Prelude.{ℕ, ◌≡◌, ◌<◌, ◌&&◌, true, Option, Some, None, refl}
+use Rattle.std.specs.Prelude.{ℕ, ◌≡◌, ◌<◌, ◌&&◌, true, Option, Some, None}
 use Rattle.std.proofs.lemmas.Bool.{and_parts}
 use Rattle.zeus_base.specs.declared.config.Limits.{Limits}
-use Rattle.zeus_packet.specs.Fits.{object_fits, stamp_fits, place_fits, proposal_fits, content_fits, cause_fits, body_fits, fits}
+use Rattle.zeus_packet.specs.Fits.{object_fits, stamp_fits, place_fits, proposal_fits, content_fits, body_fits, fits}
 use Rattle.zeus_packet.specs.declared.letter.Body.{Body}
 use Rattle.zeus_packet.specs.declared.letter.Body.TheVariants.{RInv, RAck, RVal, OReq, OInv, OAck, ONack, OVal, Recovered}
 use Rattle.zeus_packet.specs.declared.letter.Letter.{Letter}

@@ -1,11 +1,11 @@
 -- What a node sends when its timer fires fits; and a view and a stop keep the ranges.
-use Rattle.std.specs.Prelude.{ℕ, zero, suc, ◌≡◌, ◌+◌, ◌-◌, ◌^◌, ◌<◌, ◌≤◌, ◌==◌, ◌&&◌, not, nat_lt, Bool, true, false, List, [], ◌∷◌, ◌++◌, length, map, All, Option, Some, None, is_none, is_some, if◌then◌else◌, refl}
-use Rattle.std.proofs.Common.{arith, ◌∙◌, inl, inr}
-use Rattle.std.proofs.lemmas.Bool.{and_from, cond_both, or_cases, or_left, or_right}
+use Rattle.std.specs.Prelude.{ℕ, suc, ◌≡◌, ◌+◌, ◌^◌, ◌<◌, ◌≤◌, ◌==◌, ◌&&◌, nat_lt, Bool, true, List, [], ◌∷◌, ◌++◌, length, map, All, Option, Some, None, is_none, is_some, if◌then◌else◌, refl}
+use Rattle.std.proofs.Common.{arith, inl, inr}
+use Rattle.std.proofs.lemmas.Bool.{cond_both, or_cases, or_left, or_right}
 use Rattle.std.proofs.lemmas.List.{length-map}
 use Rattle.std.proofs.lemmas.List.Elements.{All-nil, All-cons, All-head, All-tail}
 use Rattle.zeus_base.specs.Nodes.{has, without, meet}
-use Rattle.zeus_base.specs.NodeLaws.{has-head, has-tail}
+use Rattle.zeus_base.specs.NodeLaws.{has-tail}
 use Rattle.zeus_base.specs.declared.config.Limits.{Limits}
 use Rattle.zeus_base.specs.declared.order.Stream.{Stream}
 use Rattle.zeus_packet.specs.Fits.{nodes_fit, stream_fits, proposal_fits, body_fits}
@@ -109,7 +109,7 @@ entries-fit limits n s done number (e ∷ es) stream passed small all k =
     let body = RInv record { stream = s; number = number; done = done; followers = e.followers; writes = e.writes } in
     let bound : number + suc (length es) < 2 ^ 32 = small (omega arith) in
     let follows : (m : ℕ) → has m tos ≡ true → has m e.followers ≡ true = λ m is.
-            has-meet_left m e.followers n.members (has-without_in m n.me (meet e.followers n.members) (has-apart m (without n.me (meet e.followers n.members)) e.acks is)) in
+    has-meet_left m e.followers n.members (has-without_in m n.me (meet e.followers n.members) (has-apart m (without n.me (meet e.followers n.members)) e.acks is)) in
     AllFit-append limits (to_each n tos body) (repeat_entries n s done (number + 1) es)
     (to_each-fit limits n tos body k.nodes (λ m is. nodes_fit-has limits e.followers m fit.followers (follows m is))
     (λ m is. entry_letter-fits limits s number done e stream (omega arith) passed fit (fit.some m (follows m is))))
