@@ -1,7 +1,9 @@
 //! The state of a node, seen as the node of the rules, and each small change of it as one call.
 #![tactic(auto)]
 
+mod commit;
 mod effect;
+mod local;
 mod ownership;
 mod slot;
 mod state;

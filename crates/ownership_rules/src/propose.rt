@@ -120,13 +120,7 @@ fn is_held(p: &Proposal, held: &Option<Proposal>) -> bool
 }
 
 /// Holds the proposal, and acknowledges it to the collector.
-fn hold(
-    node: &mut NodeState,
-    from: NodeId,
-    obj: ObjId,
-    p: &Proposal,
-    out: &mut Effect,
-) -> Outcome
+fn hold(node: &mut NodeState, from: NodeId, obj: ObjId, p: &Proposal, out: &mut Effect) -> Outcome
     requires object { obj < length node.old.entries }
     requires proposal { proposal_fits (limits_of node.old) p.now ≡ true }
     ensures { IsDone (hold_or_refuse node.old from obj p.now None) result node.new out.old out.new }
