@@ -4,3 +4,6 @@ pub mod Keeping
 pub mod Owning
 pub mod Searching
 pub mod Starting
+pub mod SlotTrying
+pub mod Slots
+pub mod Requesting

@@ -2,3 +2,4 @@ pub mod Effect
 pub mod Done
 pub mod Changes
 pub mod Shown
+pub mod SlotTries
