@@ -152,7 +152,7 @@ replicas_of-some n [] m h = absurd (false≢true h)
 replicas_of-some n (w ∷ ws) m h = omega arith
 
 -- the entry that a commit makes fits
-commit_fits : (limits : Limits) (n : Node) (c : Current) → FitsTx limits c.tx → KeepsRanges limits n →
+pub commit_fits : (limits : Limits) (n : Node) (c : Current) → FitsTx limits c.tx → KeepsRanges limits n →
     FitsPending limits n.me (new_pending c (run_here n c.tx) (without n.me (replicas_of n (new_writes n (run_here n c.tx).writes))) (new_writes n (run_here n c.tx).writes))
 commit_fits limits n c fit k =
     let ran = run_here n c.tx in
@@ -198,6 +198,14 @@ commit_letters-fit limits n s followers writes within small h k =
     (λ to is. entry_letter-fits limits (own_stream n s) (next_number (slot n s)) (slot n s).done e (stream_fits-from limits (own_stream n s) k.nodes.me within) small (omega arith) h
     (h.some to (has-meet_left to followers n.members is)))
 
+-- a write transaction that nothing hinders is committed
+pub KeepsRanges-commit : (limits : Limits) (n : Node) (s : ℕ) (c : Current) → s < limits.slots → write_cause n s c.tx ≡ None → FitsTx limits c.tx → KeepsRanges limits n →
+    KeepsRanges limits (committed n s c (run_here n c.tx) (without n.me (replicas_of n (new_writes n (run_here n c.tx).writes))) (new_writes n (run_here n c.tx).writes))
+KeepsRanges-commit limits n s c within none fit k =
+    let ran = run_here n c.tx in
+    let writes = new_writes n ran.writes in
+    KeepsRanges-committed limits n s c ran (without n.me (replicas_of n writes)) writes within (write_cause-room n s c.tx none) (write_cause-left n s c.tx none) (commit_fits limits n c fit k) k
+
 commit-keeps : (limits : Limits) (n : Node) (s : ℕ) (c : Current) → s < limits.slots → write_cause n s c.tx ≡ None → FitsTx limits c.tx → KeepsRanges limits n →
     KeepsAndFits limits (commit n s c (run_here n c.tx)).node (commit n s c (run_here n c.tx)).sent
 unfolding commit commit_entry
@@ -211,7 +219,7 @@ commit-keeps limits n s c within none fit k =
     let letters = to_each n (meet followers n.members) (RInv (invalidation n s followers writes)) in
     let first : Did Tried = sends (committed n s c ran followers writes) (Committed c.id (next_number (slot n s)) ran.reply) letters in
     let kept : KeepsAndFits limits first.node first.sent = record {
-      node = KeepsRanges-committed limits n s c ran followers writes within (write_cause-room n s c.tx none) left new k;
+      node = KeepsRanges-commit limits n s c within none fit k;
       sent = commit_letters-fit limits n s followers writes within small (record { followers = new.entry.followers; some = new.entry.some; few = new.entry.few; writes = new.entry.writes; once = new.entry.once }) k;
     } in
     KeepsAndFits-did_then limits first (λ m. advance_own m s) kept (advance_own-keeps limits s within)
