@@ -7,3 +7,4 @@ pub mod Starting
 pub mod SlotTrying
 pub mod Slots
 pub mod Requesting
+pub mod Wanting

@@ -23,7 +23,8 @@ use Rattle.replica_reads.specs.Reads.{read_told}
 use Rattle.replica_reads.specs.declared.reads.ReadTry.{ReadTry}
 use Rattle.std.proofs.Math.ListN.{get_or, set}
 use Rattle.zeus_base.specs.declared.config.Limits.{Limits}
-use Rattle.node_ranges.specs.Ranges.{FitsCurrent, KeepsRanges}
+use Rattle.node_ranges.specs.Ranges.{FitsCurrent, FitsTx, KeepsRanges}
+use Rattle.node_ranges.specs.LocalRules.{KeepsRanges-commit}
 use Rattle.node_state.proofs.Slots.{slot_read, slot_written}
 use Rattle.node_state.specs.declared.attempt.SlotTry.{SlotTry}
 use Rattle.node_state.specs.declared.attempt.SlotTry.TheVariants.{Nothing, Read, Write}
@@ -171,8 +172,20 @@ pub tables_put : (n : Node) (s : ℕ) (copies : List (Option Copy)) (l : Slot) �
 tables_put n s copies l h = ap (λ (ls : List Slot). let m : Node = record n { copies = copies; slots = ls } in m) (slot_written n s l h)
 
 -- the node keeps its ranges after the try
+after_try-ranges : (limits : Limits) (n : Node) (s : ℕ) (c : Current) (o : Option Tried) → s < limits.slots → write_cause n s c.tx ≡ o → FitsTx limits c.tx → KeepsRanges limits n → KeepsRanges limits (after_try n s c o)
+unfolding after_try
+after_try-ranges limits n s c None there e fits h = KeepsRanges-commit limits n s c there e fits h
+after_try-ranges limits n s c (Some cause) there e fits h = h
+
+current_fits : (limits : Limits) (c : Option Current) (d : Current) → c ≡ Some d → FitsCurrent limits c → FitsTx limits d.tx
+unfolding FitsCurrent
+current_fits limits c d e h = rw e at h
+
 pub tried_ranges : (limits : Limits) (n : Node) (s : ℕ) (t : SlotTry) (m : Node) → s < limits.slots → IsTried n s t m → KeepsRanges limits n → KeepsRanges limits m
 unfolding IsTried
 tried_ranges limits n s Nothing m there tried h = rw tried.stays h
 tried_ranges limits n s (Read id t) m there tried h = rw tried.stays h
-tried_ranges limits n s (Write id t) m there tried h = ?
+tried_ranges limits n s (Write id t) m there tried h =
+    let c : Current = record { id = id; tx = tried.tx } in
+    rw tried.becomes
+    (after_try-ranges limits n s c (write_cause n s c.tx) there refl (current_fits limits (slot n s).current c tried.current (h.slots s).current) h)

@@ -10,8 +10,8 @@ mod requests;
 mod slot;
 mod state;
 
-pub use attempt::SlotTry;
 pub use arbitration::{Ack, Decision};
+pub use attempt::SlotTry;
 pub use directory::Drive;
 pub use effect::{Effect, Letters, PassedList};
 pub use local_txn::WriteTry;

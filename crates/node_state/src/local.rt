@@ -7,7 +7,7 @@ ghost use Rattle.node_state.specs.SlotTries.{IsTried};
 
 use crate::attempt::SlotTry;
 use crate::state::NodeState;
-use zeus_base::SlotId;
+use zeus_base::{ObjId, SlotId};
 use zeus_model::Current;
 
 impl NodeState {
@@ -30,5 +30,12 @@ impl NodeState {
     {
         let own = &mut self.slots[slot.place()];
         own.try_current(&mut self.copies, &self.dir, self.me, slot)
+    }
+
+    /// Whether a current transaction of the node names the object.
+    pub fn is_wanted(&self, obj: ObjId) -> bool
+        ensures { result ≡ is_wanted self.now obj }
+    {
+        self.slots.iter().any(|slot| slot.wants(obj))
     }
 }
