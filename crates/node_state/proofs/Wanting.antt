@@ -1,5 +1,5 @@
 -- Whether some slot passes a test, by a search through the slots in order.
-use Rattle.std.proofs.Common.{ℕ, zero, suc, ◌≡◌, ◌<◌, ◌≤◌, ◌+◌, Bool, true, false, List, [], ◌∷◌, Some, length, drop, refl, sym, ap, ◌∙◌, add-one, drop-cons, arith}
+use Rattle.std.proofs.Common.{ℕ, zero, suc, ◌≡◌, ◌<◌, ◌≤◌, ◌+◌, Bool, true, false, List, [], ◌∷◌, Some, None, length, drop, refl, sym, ap, ◌∙◌, add-one, drop-cons, arith}
 use Rattle.std.specs.List.{list_any}
 use Rattle.std.specs.Prelude.{is_some}
 use Rattle.std.proofs.lemmas.List.{drop_all}
@@ -28,8 +28,9 @@ module _ {A : Type 0} (P : A → Bool) (d : A) (all : List A) where
             let found : where_true (P (nth d all i)) i ≡ Some i = rw here refl in
             rw (drop_here i less, here, found_from-here (λ s. where_true (P (nth d all s)) s) (length all) i i less found) refl
         | false ↦ λ other.
-            rw (drop_here i less, other)
-            (rest ∙ ?)
+            let none : where_true (P (nth d all i)) i ≡ None = rw other refl in
+            let later = found_from-later (λ s. where_true (P (nth d all s)) s) (length all) i less none in
+            rw (drop_here i less, other) (rest ∙ ap is_some (rw add-one at later))
       ] refl
 
 -- a current transaction names the object where that of some slot does

@@ -1,11 +1,13 @@
 //! The transactions of a node's slots: set, tried, and looked through.
 ghost use Rattle.std.specs.Prelude.{◌≡◌, ◌<◌, length};
 ghost use Rattle.zeus_model.specs.Local.{with_current};
-ghost use Rattle.zeus_model.specs.Membership.{is_wanted};
+ghost use Rattle.std.specs.List.{list_any};
+ghost use Rattle.zeus_model.specs.Membership.{is_wanted, names_it};
 ghost use Rattle.node_ranges.specs.Ranges.{FitsCurrent, limits_of};
 ghost use Rattle.node_state.specs.SlotTries.{IsTried};
 
 use crate::attempt::SlotTry;
+use crate::slot::Slot;
 use crate::state::NodeState;
 use zeus_base::{ObjId, SlotId};
 use zeus_model::Current;
@@ -36,6 +38,13 @@ impl NodeState {
     pub fn is_wanted(&self, obj: ObjId) -> bool
         ensures { result ≡ is_wanted self.now obj }
     {
-        self.slots.iter().any(|slot| slot.wants(obj))
+        is_wanted_by(&self.slots, obj)
     }
+}
+
+/// Whether the current transaction of one of the slots names the object.
+fn is_wanted_by(slots: &[Slot], obj: ObjId) -> bool
+    ensures { result ≡ list_any (λ l. names_it obj l.current) slots.now }
+{
+    slots.iter().any(|slot| slot.wants(obj))
 }
