@@ -1,5 +1,6 @@
 pub mod Effect
 pub mod Done
+pub mod EffectLaws
 pub mod Changes
 pub mod Shown
 pub mod SlotTries
