@@ -1,0 +1,4 @@
+pub mod Adding
+pub mod Cut
+pub mod Keeping
+pub mod Owning
