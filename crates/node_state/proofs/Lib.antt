@@ -2,3 +2,4 @@ pub mod Adding
 pub mod Cut
 pub mod Keeping
 pub mod Owning
+pub mod Committing
