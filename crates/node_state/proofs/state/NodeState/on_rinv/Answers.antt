@@ -1,12 +1,11 @@
 use Rattle.std.proofs.Common.{refl}
 use Rattle.zeus_model.specs.Commit.{on_rinv}
-use Rattle.reliable_commit.specs.Frames.{on_rinv-frame}
 use Rattle.node_ranges.specs.CommitChanges.{inv_fits-parts}
 use Rattle.node_ranges.specs.CommitRules.{on_rinv-keeps}
 use Rattle.node_ranges.specs.Derived.{within-letter}
 use Rattle.node_ranges.specs.Ranges.{limits_of}
 use Rattle.node_state.specs.Shown.{shown}
-use Rattle.node_state.proofs.Committing.{followed-entry, itself, on_rinv-node, slots-replicating}
+use Rattle.node_state.proofs.Committing.{followed-entry, itself, on_rinv-node, slots-of}
 use Rattle.node_state.proofs.Keeping.{IsKept-beside}
 use Rattle.node_state.proofs.state.NodeState.on_rinv.Goals as goal
 
@@ -26,7 +25,7 @@ invariant_of-self c =
     let becomes = on_rinv-node n n.me r _ _ (c.on_rinv.ensures.copies n n.me (itself n)) (c.on_rinv.ensures.logs n n.me (itself n)) in
     IsKept-beside c.self.inside _ (on_rinv n n.me r).node becomes refl refl c.self.invariant
     (on_rinv-keeps (limits_of n) n n.me r c.self.invariant.ranges.nodes.me (rw (← c.self.view_is) at c.requires) c.self.invariant.ranges).node
-    c.on_rinv.ensures.holds (slots-replicating n (on_rinv n n.me r).node (on_rinv-frame n n.me r))
+    c.on_rinv.ensures.holds (slots-of _ _ becomes)
 
 pub returns-clause-after : goal.returns-clause-after
 returns-clause-after c = λ from.

@@ -1,10 +1,9 @@
 use Rattle.std.proofs.Common.{refl}
 use Rattle.zeus_model.specs.Commit.{on_rval}
-use Rattle.reliable_commit.specs.Frames.{on_rval-frame}
 use Rattle.node_ranges.specs.CommitRules.{on_rval-keeps}
 use Rattle.node_ranges.specs.Ranges.{limits_of}
 use Rattle.node_state.specs.Shown.{shown}
-use Rattle.node_state.proofs.Committing.{followed, itself, on_rval-node, slots-replicating}
+use Rattle.node_state.proofs.Committing.{followed, itself, on_rval-node, slots-of}
 use Rattle.node_state.proofs.Keeping.{IsKept-beside}
 use Rattle.node_state.proofs.state.NodeState.on_rval.Goals as goal
 
@@ -17,7 +16,7 @@ invariant_of-self c =
     let becomes = on_rval-node n c.args.s c.args.done _ _ (c.on_rval.ensures.copies n (itself n)) (c.on_rval.ensures.logs n (itself n)) in
     IsKept-beside c.self.inside _ (on_rval n c.args.s c.args.done).node becomes refl refl c.self.invariant
     (on_rval-keeps (limits_of n) n c.args.s c.args.done (rw (← c.self.view_is) at c.requires) c.self.invariant.ranges).node
-    c.on_rval.ensures.holds (slots-replicating n (on_rval n c.args.s c.args.done).node (on_rval-frame n c.args.s c.args.done))
+    c.on_rval.ensures.holds (slots-of _ _ becomes)
 
 pub returns-clause-after : goal.returns-clause-after
 returns-clause-after c =
