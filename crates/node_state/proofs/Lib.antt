@@ -6,3 +6,4 @@ pub mod SlotTrying
 pub mod Slots
 pub mod Requesting
 pub mod Wanting
+pub mod Committing
