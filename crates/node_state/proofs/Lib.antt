@@ -7,3 +7,4 @@ pub mod Slots
 pub mod Requesting
 pub mod Wanting
 pub mod Committing
+pub mod Passing

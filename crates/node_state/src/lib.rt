@@ -6,6 +6,7 @@ mod commit;
 mod effect;
 mod local;
 mod ownership;
+mod passes;
 mod requests;
 mod slot;
 mod state;
