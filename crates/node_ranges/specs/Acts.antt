@@ -1,5 +1,5 @@
 -- Acts that keep the ranges and send letters that fit: nothing, letters alone, one after another, and in turn.
-use Rattle.std.specs.Prelude.{ℕ, ◌≡◌, ◌<◌, ◌≤◌, true, List, [], ◌∷◌, ◌++◌, All, refl}
+use Rattle.std.specs.Prelude.{ℕ, ◌≡◌, ◌<◌, true, List, [], ◌∷◌, ◌++◌, All}
 use Rattle.std.proofs.lemmas.List.Elements.{All-head, All-tail}
 use Rattle.zeus_base.specs.Nodes.{has}
 use Rattle.zeus_base.specs.NodeLaws.{has-head, has-tail}
@@ -8,7 +8,7 @@ use Rattle.zeus_packet.specs.Fits.{nodes_fit, body_fits, fits}
 use Rattle.zeus_packet.specs.declared.letter.Body.{Body}
 use Rattle.zeus_packet.specs.declared.letter.Letter.{Letter}
 use Rattle.zeus_model.specs.State.{Node}
-use Rattle.zeus_model.specs.Act.{Act, Did, letter, to_each, still, and_then, did_then, in_turn}
+use Rattle.zeus_model.specs.Act.{Act, Did, letter, to_each, and_then, did_then, in_turn}
 use Rattle.node_ranges.specs.NodeSets.{nodes_fit-has}
 use Rattle.node_ranges.specs.Places.{AllFit-none, AllFit-cons, AllFit-append, fits-from}
 use Rattle.node_ranges.specs.Ranges.{AllFit, HasNodes, KeepsRanges, KeepsAndFits}

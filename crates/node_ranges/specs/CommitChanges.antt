@@ -1,32 +1,24 @@
 -- The changes that commits make of a node keep its ranges: writes of copies, entries that are stored, acknowledged or pass, and begun transactions.
-use Rattle.std.specs.Prelude.{ℕ, zero, suc, ◌≡◌, ◌≢◌, ◌+◌, ◌-◌, ◌^◌, ◌<◌, ◌≤◌, ◌==◌, ◌&&◌, not, nat_lt, nat_le, Bool, true, false, List, [], ◌∷◌, ◌++◌, length, take, drop, map, All, Option, Some, None, if◌then◌else◌, refl}
+use Rattle.std.specs.Prelude.{ℕ, ◌≡◌, ◌≢◌, ◌+◌, ◌-◌, ◌<◌, ◌≤◌, ◌==◌, ◌&&◌, nat_lt, nat_le, true, List, [], ◌∷◌, ◌++◌, length, take, drop, map, All, Option, Some, None, refl}
 use Rattle.std.specs.List.{list_all}
-use Rattle.std.proofs.Common.{arith, sym, ap, ◌∙◌, length-append, length-drop}
+use Rattle.std.proofs.Common.{arith, ◌∙◌, length-append, length-drop}
 use Rattle.std.proofs.lemmas.Bool.{and_parts, and_from, ltb-true, leb-true, cond_both}
-use Rattle.std.proofs.lemmas.List.{length-map}
-use Rattle.std.proofs.lemmas.List.Elements.{All-cons, All-nil, All-head, All-tail, All-get_or, All-set, All-push, All-take, All-drop, All-map, All-weaker}
+use Rattle.std.proofs.lemmas.List.Elements.{All-head, All-tail, All-push, All-take, All-drop, All-map, All-weaker}
 use Rattle.std.proofs.lemmas.List.Folds.{list_all-append}
-use Rattle.zeus_base.specs.Nodes.{has, with_node}
-use Rattle.zeus_base.specs.TableLaws.{nth_here, put-set}
 use Rattle.zeus_base.specs.declared.config.Limits.{Limits}
 use Rattle.zeus_base.specs.declared.order.Stream.{Stream}
 use Rattle.zeus_packet.specs.Fits.{nodes_fit, stream_fits, value_fits, write_fits, are_once, writes_fit, inv_fits}
 use Rattle.zeus_packet.specs.declared.letter.RInv.{RInv}
 use Rattle.zeus_packet.specs.declared.write.Write.{Write}
-use Rattle.zeus_txn.specs.Ops.{named}
-use Rattle.zeus_txn.specs.declared.reply.Ran.{Ran}
 use Rattle.zeus_model.specs.declared.state.Copy.{Copy}
-use Rattle.zeus_model.specs.declared.state.Current.{Current}
 use Rattle.zeus_model.specs.declared.state.Kept.{Kept}
 use Rattle.zeus_model.specs.declared.state.Pending.{Pending}
-use Rattle.zeus_model.specs.Commit.{validated, applied, each_write, writes_of, as_kept, after_passing, pass_own, pass_kept, raise, next_kept, store, no_pending, no_kept, acked_pending, acked_kept}
-use Rattle.zeus_model.specs.Local.{with_current, rewritten_copy, committed}
-use Rattle.zeus_model.specs.State.{Node, Slot, StreamLog, copy, slot, log, value_of, next_number, with_copies, with_copy, with_slot, with_log}
-use Rattle.zeus_model.specs.Tables.{nth, put}
-use Rattle.node_ranges.specs.NodeSets.{nodes_fit-with_node}
-use Rattle.node_ranges.specs.Parts.{KeepsRanges-with_copy, KeepsRanges-with_slot, KeepsRanges-with_log, KeepsRanges-reported}
+use Rattle.zeus_model.specs.Commit.{validated, applied, each_write, writes_of, as_kept, after_passing, pass_own, pass_kept, raise, next_kept, store}
+use Rattle.zeus_model.specs.Local.{rewritten_copy}
+use Rattle.zeus_model.specs.State.{Node, Slot, StreamLog, copy, slot, log, value_of, with_copies, with_copy, with_log}
+use Rattle.node_ranges.specs.Parts.{KeepsRanges-with_copy, KeepsRanges-with_slot, KeepsRanges-with_log}
 use Rattle.node_ranges.specs.Places.{object_fits-less}
-use Rattle.node_ranges.specs.Ranges.{FitsKept, FitsPending, FitsCurrent, FitsSlot, FitsLog, KeepsRanges}
+use Rattle.node_ranges.specs.Ranges.{FitsKept, FitsPending, FitsSlot, FitsLog, KeepsRanges}
 
 -- ---- writes of copies
 

@@ -1,7 +1,7 @@
 -- The rules of commits keep the ranges, and send letters that fit: entries, acknowledgements, passes, reports and the finish.
-use Rattle.std.specs.Prelude.{ℕ, zero, suc, ◌≡◌, ◌≢◌, ◌+◌, ◌-◌, ◌<◌, ◌≤◌, ◌==◌, ◌&&◌, not, nat_lt, nat_le, Bool, true, false, List, [], ◌∷◌, ◌++◌, length, take, map, All, Option, Some, None, if◌then◌else◌, refl}
+use Rattle.std.specs.Prelude.{ℕ, zero, suc, ◌≡◌, ◌+◌, ◌-◌, ◌<◌, ◌≤◌, ◌==◌, ◌&&◌, not, nat_lt, nat_le, Bool, true, List, [], ◌∷◌, ◌++◌, length, take, map, All, if◌then◌else◌, refl}
 use Rattle.std.specs.List.{list_all}
-use Rattle.std.proofs.Common.{arith, ◌∙◌, inl, inr}
+use Rattle.std.proofs.Common.{arith}
 use Rattle.std.proofs.lemmas.Bool.{and_parts, and_from, cond_both, lt-ltb, le-leb, ltb-true, ltb-false, eqb-false, not-true}
 use Rattle.std.proofs.lemmas.List.{length-map}
 use Rattle.std.proofs.lemmas.List.Elements.{All-nil, All-cons, All-append}
@@ -9,7 +9,7 @@ use Rattle.zeus_base.specs.Nodes.{has, without, meet, with_node}
 use Rattle.zeus_base.specs.Tables.{numbers_from}
 use Rattle.zeus_base.specs.declared.config.Limits.{Limits}
 use Rattle.zeus_base.specs.declared.order.Stream.{Stream}
-use Rattle.zeus_packet.specs.Fits.{nodes_fit, stream_fits, write_fits, are_once, writes_fit, inv_fits, body_fits, fits}
+use Rattle.zeus_packet.specs.Fits.{nodes_fit, stream_fits, write_fits, are_once, writes_fit, inv_fits, body_fits}
 use Rattle.zeus_packet.specs.declared.letter.Body.TheVariants.{RAck, RVal, Recovered}
 use Rattle.zeus_packet.specs.declared.letter.Cause.TheVariants.{OwnStream, Window}
 use Rattle.zeus_packet.specs.declared.letter.RInv.{RInv}
@@ -22,10 +22,10 @@ use Rattle.zeus_model.specs.Receive.{on_recovered}
 use Rattle.zeus_model.specs.State.{Node, slot, log, with_slot, with_log, own_stream}
 use Rattle.zeus_model.specs.Tables.{nth, below, front}
 use Rattle.node_ranges.specs.Acts.{letter-fits, to_nodes-fit, Keeping, KeepsAndFits-still, KeepsAndFits-then, in_turn-keeps}
-use Rattle.node_ranges.specs.CommitChanges.{KeepsRanges-pass_own, KeepsRanges-pass_kept, KeepsRanges-raise, KeepsRanges-store, InvParts, inv_fits-parts, stream_fits-node, stream_fits-slot}
+use Rattle.node_ranges.specs.CommitChanges.{KeepsRanges-pass_own, KeepsRanges-pass_kept, KeepsRanges-raise, KeepsRanges-store, inv_fits-parts, stream_fits-node, stream_fits-slot}
 use Rattle.node_ranges.specs.NodeSets.{nodes_fit-without, nodes_fit-meet_right}
 use Rattle.node_ranges.specs.Places.{AllFit-one}
-use Rattle.node_ranges.specs.Ranges.{AllFit, FitsKept, HasNodes, KeepsRanges, KeepsAndFits}
+use Rattle.node_ranges.specs.Ranges.{AllFit, FitsKept, KeepsRanges, KeepsAndFits}
 use Rattle.node_ranges.specs.SlotChanges.{acked_slot, acked_log, KeepsRanges-acked_pending, KeepsRanges-acked_kept, KeepsRanges-heard}
 
 pub stream_fits-from : (limits : Limits) (s : Stream) → s.node < limits.nodes → s.slot < limits.slots → stream_fits limits s ≡ true
@@ -87,7 +87,7 @@ stored_rinv-keeps limits n from r less fit k =
     let next = next_kept (log n r.stream) in
     let parts = inv_fits-parts limits r fit in
     let ack : AllFit limits (letter n from (RAck r.stream r.number) ∷ []) =
-        AllFit-one limits (letter n from (RAck r.stream r.number)) (letter-fits limits n from (RAck r.stream r.number) k.nodes less (stream_fits-from limits r.stream parts.node parts.slot)) in
+    AllFit-one limits (letter n from (RAck r.stream r.number)) (letter-fits limits n from (RAck r.stream r.number) k.nodes less (stream_fits-from limits r.stream parts.node parts.slot)) in
     let stores = sends (store n r) Taken (letter n from (RAck r.stream r.number) ∷ []) in
     let full = just n (Refused Window) in
     let gap = just n (Gap next) in

@@ -1,7 +1,7 @@
 -- What a node that keeps its ranges has: streams and entries that the parts can work on; and its ranges at the limits that it shows itself.
-use Rattle.std.specs.Prelude.{ℕ, zero, suc, ◌≡◌, ◌+◌, ◌<◌, ◌≤◌, ◌&&◌, ◌==◌, Bool, true, false, nat_lt, nat_le, List, [], ◌∷◌, ◌++◌, length, All, Option, Some, None, refl}
+use Rattle.std.specs.Prelude.{ℕ, ◌≡◌, ◌<◌, ◌&&◌, Bool, true, false, nat_lt, nat_le, List, [], ◌∷◌, length, All, Option, Some, None, refl}
 use Rattle.std.specs.List.{list_all}
-use Rattle.std.proofs.Common.{arith, sym, ap, ◌∙◌}
+use Rattle.std.proofs.Common.{arith, sym}
 use Rattle.std.proofs.lemmas.Bool.{and_parts, and_from}
 use Rattle.std.proofs.lemmas.List.Elements.{All-head, All-tail, All-weaker}
 use Rattle.zeus_base.specs.declared.config.Limits.{Limits}
@@ -33,7 +33,7 @@ use Rattle.object_table.specs.Table.{AreWithin}
 use Rattle.follower_log.specs.Streams.{IsStreamOf}
 use Rattle.reliable_commit.specs.Following.{IsFollowed}
 use Rattle.node_ranges.specs.CommitChanges.{write_fits-object, writes_of-fit, inv_fits-parts}
-use Rattle.node_ranges.specs.Ranges.{AllFit, limits_of, FitsHeld, FitsEntry, FitsGather, FitsKept, FitsPending, OpFits, FitsTx, FitsCurrent, FitsSlot, FitsLog, HasSizes, HasNodes, KeepsRanges}
+use Rattle.node_ranges.specs.Ranges.{limits_of, FitsHeld, FitsEntry, FitsGather, FitsKept, FitsPending, OpFits, FitsCurrent, FitsSlot, FitsLog, KeepsRanges}
 
 -- ---- what the parts ask for
 

@@ -1,41 +1,38 @@
 -- Begin and try keep the ranges, and send letters that fit: requests, and the entries of commits.
-use Rattle.std.specs.Prelude.{ℕ, zero, suc, ◌≡◌, ◌≢◌, ◌+◌, ◌-◌, ◌^◌, ◌<◌, ◌≤◌, ◌==◌, ◌||◌, ◌&&◌, not, nat_lt, nat_le, Bool, true, false, List, [], ◌∷◌, ◌++◌, length, All, Option, Some, None, is_none, if◌then◌else◌, refl}
+use Rattle.std.specs.Prelude.{ℕ, ◌≡◌, ◌≢◌, ◌+◌, ◌<◌, ◌≤◌, ◌==◌, not, nat_lt, true, false, List, [], ◌∷◌, length, All, Option, Some, None, is_none, if◌then◌else◌, refl}
 use Rattle.std.specs.List.{list_all, list_any}
-use Rattle.std.proofs.Common.{arith, sym, ap, ◌∙◌, inl, inr}
-use Rattle.std.proofs.lemmas.Bool.{and_parts, and_from, cond_both, lt-ltb, le-leb, eqb-false, eqb-true, eq-eqb, false≢true, not_from_false, cases_Bool, cases_eq}
+use Rattle.std.proofs.Common.{arith}
+use Rattle.std.proofs.lemmas.Bool.{and_parts, and_from, cond_both, eqb-false, false≢true, not_from_false}
 use Rattle.std.proofs.lemmas.Bool.Decides.{nat_tests}
-use Rattle.std.proofs.lemmas.List.Elements.{All-nil, All-cons, All-head, All-tail}
-use Rattle.zeus_base.specs.Nodes.{has, without, meet, join, least}
+use Rattle.std.proofs.lemmas.List.Elements.{All-cons, All-head, All-tail}
+use Rattle.zeus_base.specs.Nodes.{has, without, meet, least}
 use Rattle.zeus_base.specs.NodeLaws.{has-head, has-tail, has-without_same}
 use Rattle.zeus_base.specs.declared.config.Limits.{Limits}
 use Rattle.zeus_base.specs.declared.value.Value.{Value}
-use Rattle.zeus_packet.specs.Fits.{nodes_fit, object_fits, write_fits, are_once, writes_fit, stream_fits, inv_fits, body_fits, value_fits, fits}
+use Rattle.zeus_packet.specs.Fits.{nodes_fit, object_fits, write_fits, are_once, body_fits, value_fits}
 use Rattle.zeus_packet.specs.declared.letter.Body.TheVariants.{RInv, OReq}
-use Rattle.zeus_packet.specs.declared.letter.Letter.{Letter}
-use Rattle.zeus_packet.specs.declared.letter.RInv.{RInv as Invalidation}
-use Rattle.zeus_packet.specs.declared.letter.State.{State}
 use Rattle.zeus_packet.specs.declared.place.Want.{Want}
 use Rattle.zeus_packet.specs.declared.place.Want.TheVariants.{Own, Read as ReadCopy}
 use Rattle.zeus_packet.specs.declared.write.Write.{Write as WriteOf}
-use Rattle.zeus_txn.specs.Ops.{mentions, named, written, is_write}
+use Rattle.zeus_txn.specs.Ops.{mentions, named, is_write}
 use Rattle.zeus_txn.specs.RunLaws.{keys, AreDistinct, AreOf, run-are_of}
 use Rattle.zeus_txn.specs.declared.ops.Op.{Op}
-use Rattle.zeus_txn.specs.declared.reply.Ran.{Ran}
 use Rattle.zeus_model.specs.declared.answer.Begin.{Begin}
-use Rattle.zeus_model.specs.declared.answer.Begin.TheVariants.{Begun, Stopped, Busy}
+use Rattle.zeus_model.specs.declared.answer.Begin.TheVariants.{Stopped}
 use Rattle.zeus_model.specs.declared.answer.Tried.{Tried}
-use Rattle.zeus_model.specs.declared.answer.Tried.TheVariants.{Stopped as TryStopped, Nothing, NoCopy, NotValid, Read, PipeFull, NotOwner, Held, WornOut, Committed}
+use Rattle.zeus_model.specs.declared.answer.Tried.TheVariants.{Stopped as TryStopped, NotOwner, Committed}
 use Rattle.zeus_model.specs.declared.state.Current.{Current}
 use Rattle.zeus_model.specs.declared.state.Kept.{Kept}
-use Rattle.zeus_model.specs.Act.{Did, just, sends, did_then, letter, to_each}
-use Rattle.zeus_model.specs.Commit.{advance_own, as_kept}
+use Rattle.zeus_model.specs.Act.{Did, just, sends, letter, to_each}
+use Rattle.zeus_model.specs.Commit.{advance_own}
 use Rattle.zeus_model.specs.Local.{with_current, begin_free, begin, least_from, driver, ask, requests, not_owned, not_copied, Hindrance, Missing, Unready, hindrance, run_here, read_missing, read_row, full_cause, owner_cause, holder_cause, worn_cause, write_cause, new_writes, replicas_of, invalidation, committed, commit_entry, commit, write_row, try_current, try_slot}
-use Rattle.zeus_model.specs.State.{Node, Slot, entry, copy, slot, own_stream, next_number, owns, value_of, version_of}
+use Rattle.zeus_model.specs.State.{Node, entry, copy, slot, own_stream, next_number, owns, value_of, version_of}
 use Rattle.zeus_model.specs.Tables.{or_else, where_true, first_of}
+use Rattle.node_ranges.specs.Options.{or_else-none, or_else-either, where_true-none}
 use Rattle.node_ranges.specs.Acts.{letter-fits, to_each-fit, KeepsAndFits-still, KeepsAndFits-did_then}
 use Rattle.node_ranges.specs.CommitChanges.{write_fits-object}
 use Rattle.node_ranges.specs.CommitRules.{advance_own-keeps, entry_letter-fits, stream_fits-from}
-use Rattle.node_ranges.specs.NodeSets.{nodes_fit-has, nodes_fit-none, nodes_fit-join, nodes_fit-without, nodes_fit-meet, nodes_fit-meet_right, nodes_fit-least, has-meet_left, has-without_in}
+use Rattle.node_ranges.specs.NodeSets.{nodes_fit-has, nodes_fit-none, nodes_fit-join, nodes_fit-without, nodes_fit-meet, nodes_fit-least, has-meet_left}
 use Rattle.node_ranges.specs.Places.{AllFit-none, AllFit-cons, object_fits-from, place_fits-parts}
 use Rattle.node_ranges.specs.Ranges.{AllFit, FitsKept, FitsPending, FitsTx, FitsCurrent, KeepsRanges, KeepsAndFits}
 use Rattle.node_ranges.specs.RunValues.{ValueFits, run-fits, run-few, All-mentions, length-new_writes}
@@ -65,11 +62,6 @@ least_from-has me d (n ∷ ns) h =
       | true ↦ λ later. has-tail d n ns (least_from-has me d ns later)
       | false ↦ λ here. let same : n ≡ d = cc in rw same (has-head d ns)
     ] h
-
-or_else-either : {A : Type 0} (a b : Option A) (v : A) (P : Type 0) → or_else a b ≡ Some v → (a ≡ Some v → P) → (b ≡ Some v → P) → P
-unfolding or_else
-or_else-either None b v P h f g = g h
-or_else-either (Some a) b v P h f g = f h
 
 -- requests go to a node that there is
 pub driver-fits : (limits : Limits) (n : Node) (d : ℕ) → KeepsRanges limits n → driver n ≡ Some d → d < limits.nodes
@@ -160,14 +152,14 @@ replicas_of-some n [] m h = absurd (false≢true h)
 replicas_of-some n (w ∷ ws) m h = omega arith
 
 -- the entry that a commit makes fits
-commit_fits : (limits : Limits) (n : Node) (c : Current) → FitsTx limits c.tx → KeepsRanges limits n →
+pub commit_fits : (limits : Limits) (n : Node) (c : Current) → FitsTx limits c.tx → KeepsRanges limits n →
     FitsPending limits n.me (new_pending c (run_here n c.tx) (without n.me (replicas_of n (new_writes n (run_here n c.tx).writes))) (new_writes n (run_here n c.tx).writes))
 commit_fits limits n c fit k =
     let ran = run_here n c.tx in
     let ws = new_writes n ran.writes in
     let are : AreOf (named c.tx) ran.writes = run-are_of (λ x. value_of (copy n x)) c.tx in
     let all_fit : list_all (write_fits limits) ws ≡ true =
-        new_writes-fit limits n ran.writes (run-fits limits (λ x. value_of (copy n x)) c.tx fit.values) (λ x is. All-mentions (λ (y : ℕ). y < limits.objects) (named c.tx) x fit.named (are.named x is)) in
+    new_writes-fit limits n ran.writes (run-fits limits (λ x. value_of (copy n x)) c.tx fit.values) (λ x is. All-mentions (λ (y : ℕ). y < limits.objects) (named c.tx) x fit.named (are.named x is)) in
     record {
       entry = record {
         followers = nodes_fit-without limits n.me (replicas_of n ws) (replicas_of-fit limits n ws all_fit k);
@@ -181,16 +173,6 @@ commit_fits limits n c fit k =
     }
 
 -- ---- commits
-
-or_else-none : {A : Type 0} (a b : Option A) → or_else a b ≡ None → (a ≡ None) × (b ≡ None)
-unfolding or_else
-or_else-none None b h = (refl, h)
-or_else-none (Some a) b h = absurd cc
-
-where_true-none : {A : Type 0} (test : Bool) (a : A) → where_true test a ≡ None → test ≡ false
-unfolding where_true
-where_true-none true a h = absurd cc
-where_true-none false a h = refl
 
 -- where a write is not hindered, the slot has room, and its next number is not the last of 32 bits
 write_cause-room : (n : Node) (s : ℕ) (tx : List Op) → write_cause n s tx ≡ None → length (slot n s).pending ≢ 16
@@ -216,6 +198,14 @@ commit_letters-fit limits n s followers writes within small h k =
     (λ to is. entry_letter-fits limits (own_stream n s) (next_number (slot n s)) (slot n s).done e (stream_fits-from limits (own_stream n s) k.nodes.me within) small (omega arith) h
     (h.some to (has-meet_left to followers n.members is)))
 
+-- a write transaction that nothing hinders is committed
+pub KeepsRanges-commit : (limits : Limits) (n : Node) (s : ℕ) (c : Current) → s < limits.slots → write_cause n s c.tx ≡ None → FitsTx limits c.tx → KeepsRanges limits n →
+    KeepsRanges limits (committed n s c (run_here n c.tx) (without n.me (replicas_of n (new_writes n (run_here n c.tx).writes))) (new_writes n (run_here n c.tx).writes))
+KeepsRanges-commit limits n s c within none fit k =
+    let ran = run_here n c.tx in
+    let writes = new_writes n ran.writes in
+    KeepsRanges-committed limits n s c ran (without n.me (replicas_of n writes)) writes within (write_cause-room n s c.tx none) (write_cause-left n s c.tx none) (commit_fits limits n c fit k) k
+
 commit-keeps : (limits : Limits) (n : Node) (s : ℕ) (c : Current) → s < limits.slots → write_cause n s c.tx ≡ None → FitsTx limits c.tx → KeepsRanges limits n →
     KeepsAndFits limits (commit n s c (run_here n c.tx)).node (commit n s c (run_here n c.tx)).sent
 unfolding commit commit_entry
@@ -229,7 +219,7 @@ commit-keeps limits n s c within none fit k =
     let letters = to_each n (meet followers n.members) (RInv (invalidation n s followers writes)) in
     let first : Did Tried = sends (committed n s c ran followers writes) (Committed c.id (next_number (slot n s)) ran.reply) letters in
     let kept : KeepsAndFits limits first.node first.sent = record {
-      node = KeepsRanges-committed limits n s c ran followers writes within (write_cause-room n s c.tx none) left new k;
+      node = KeepsRanges-commit limits n s c within none fit k;
       sent = commit_letters-fit limits n s followers writes within small (record { followers = new.entry.followers; some = new.entry.some; few = new.entry.few; writes = new.entry.writes; once = new.entry.once }) k;
     } in
     KeepsAndFits-did_then limits first (λ m. advance_own m s) kept (advance_own-keeps limits s within)

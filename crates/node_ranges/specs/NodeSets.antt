@@ -1,8 +1,7 @@
 -- Sets of nodes that fit: by their members, and after each operation on sets.
-use Rattle.std.specs.Prelude.{ℕ, zero, suc, ◌≡◌, ◌<◌, ◌≤◌, ◌+◌, ◌==◌, ◌||◌, ◌&&◌, not, Bool, true, false, nat_lt, List, [], ◌∷◌, Option, Some, None, refl}
-use Rattle.std.proofs.Common.{arith, sym, ap, ◌∙◌, inl, inr}
+use Rattle.std.specs.Prelude.{ℕ, zero, suc, ◌≡◌, ◌<◌, ◌≤◌, ◌+◌, ◌==◌, not, true, nat_lt, List, [], ◌∷◌, Some, refl}
+use Rattle.std.proofs.Common.{arith, sym, ◌∙◌, inl, inr}
 use Rattle.std.proofs.lemmas.Bool.{and_parts, and_from, or_cases, lt-ltb, ltb-true, eqb-true, false≢true}
-use Rattle.std.proofs.lemmas.Bool.Decides.{nat_tests}
 use Rattle.zeus_base.specs.Nodes.{has, with_node, without, meet, join, least}
 use Rattle.zeus_base.specs.NodeLaws.{has-head, has-tail, has-with_node, has-without, has-meet, has-join, least-has}
 use Rattle.zeus_base.specs.Tables.{below, numbers_from}

@@ -1,8 +1,6 @@
 -- The changes that ownership makes of a node keep its ranges: settled placements, held proposals, gathers and brought copies.
-use Rattle.std.specs.Prelude.{ℕ, ◌≡◌, ◌<◌, ◌==◌, Bool, true, false, List, [], Option, Some, None, if◌then◌else◌, refl}
-use Rattle.std.proofs.Common.{arith}
+use Rattle.std.specs.Prelude.{ℕ, ◌≡◌, ◌<◌, ◌==◌, true, [], Option, Some, None, if◌then◌else◌, refl}
 use Rattle.std.proofs.lemmas.Bool.{cond_both}
-use Rattle.zeus_base.specs.Nodes.{has, with_node}
 use Rattle.zeus_base.specs.Order.{is_below, same_stamp}
 use Rattle.zeus_base.specs.declared.config.Limits.{Limits}
 use Rattle.zeus_base.specs.declared.order.Stamp.{Stamp}

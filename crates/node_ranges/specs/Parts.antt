@@ -1,6 +1,6 @@
 -- A node keeps its ranges where one of its parts becomes another that fits.
-use Rattle.std.specs.Prelude.{ℕ, zero, suc, ◌≡◌, ◌≢◌, ◌+◌, ◌<◌, ◌≤◌, true, List, [], ◌∷◌, length, Option, Some, None, refl}
-use Rattle.std.proofs.Common.{arith, sym, ap, ◌∙◌, inl, inr}
+use Rattle.std.specs.Prelude.{ℕ, zero, suc, ◌≡◌, ◌<◌, ◌≤◌, true, List, [], ◌∷◌, length, Option, None, refl}
+use Rattle.std.proofs.Common.{arith, ap, ◌∙◌, inl, inr}
 use Rattle.std.proofs.lemmas.Bool.{cases_eq}
 use Rattle.zeus_base.specs.TableLaws.{nth-put_same, nth-put_other, length-put}
 use Rattle.zeus_base.specs.declared.config.Limits.{Limits}
@@ -10,10 +10,10 @@ use Rattle.zeus_model.specs.declared.state.Copy.{Copy}
 use Rattle.zeus_model.specs.declared.state.Entry.{Entry}
 use Rattle.zeus_model.specs.declared.state.Gather.{Gather}
 use Rattle.zeus_model.specs.Membership.{dropped}
-use Rattle.zeus_model.specs.State.{Node, Slot, StreamLog, no_entry, no_slot, no_log, entry, value_of, with_entry, with_copies, with_copy, with_gather, with_slot, with_log}
+use Rattle.zeus_model.specs.State.{Node, Slot, StreamLog, no_entry, no_slot, no_log, value_of, with_entry, with_copies, with_copy, with_gather, with_slot, with_log}
 use Rattle.zeus_model.specs.Tables.{nth, put}
 use Rattle.node_ranges.specs.NodeSets.{nodes_fit-none}
-use Rattle.node_ranges.specs.Ranges.{FitsEntry, FitsGather, FitsSlot, FitsLog, HasSizes, HasNodes, KeepsRanges}
+use Rattle.node_ranges.specs.Ranges.{FitsEntry, FitsGather, FitsSlot, FitsLog, KeepsRanges}
 
 -- what holds at each place of a table holds at each place after a put, if it holds of what was put
 pub nth-put : {A : Type 0} (P : ℕ → A → Type 0) (d : A) (xs : List A) (i : ℕ) (v : A) → P i v → ((j : ℕ) → P j (nth d xs j)) → (j : ℕ) → P j (nth d (put d xs i v) j)

@@ -1,26 +1,21 @@
 -- Placements, proposals and copies that fit, and the letters of lists that do.
-use Rattle.std.specs.Prelude.{ℕ, zero, suc, ◌≡◌, ◌<◌, ◌≤◌, ◌+◌, ◌==◌, ◌||◌, ◌&&◌, not, Bool, true, false, nat_lt, nat_le, List, [], ◌∷◌, ◌++◌, take, All, Option, Some, None, if◌then◌else◌, refl}
-use Rattle.std.proofs.Common.{arith, sym, ap, ◌∙◌, inl, inr}
-use Rattle.std.proofs.lemmas.Bool.{and_parts, and_from, or_cases, lt-ltb, ltb-true, eqb-true, false≢true, cond_both, le-leb, not_from_false, not-true}
-use Rattle.std.proofs.lemmas.Bool.Decides.{nat_tests}
+use Rattle.std.specs.Prelude.{ℕ, ◌≡◌, ◌<◌, ◌≤◌, ◌==◌, ◌&&◌, not, true, nat_lt, nat_le, List, [], ◌∷◌, ◌++◌, take, Option, Some, None, refl}
+use Rattle.std.proofs.Common.{arith, ◌∙◌}
+use Rattle.std.proofs.lemmas.Bool.{and_parts, and_from, lt-ltb, ltb-true, cond_both, le-leb}
 use Rattle.std.proofs.lemmas.List.Elements.{All-nil, All-cons, All-append, All-take}
-use Rattle.zeus_base.specs.Nodes.{has, with_node, without, meet, join, least}
+use Rattle.zeus_base.specs.Nodes.{has, meet, least}
 use Rattle.zeus_base.specs.NodeLaws.{has-with_node, has-without, has-with_same}
 use Rattle.zeus_base.specs.declared.config.Limits.{Limits}
 use Rattle.zeus_base.specs.declared.order.Stamp.{Stamp}
-use Rattle.zeus_base.specs.declared.order.Stream.{Stream}
-use Rattle.zeus_packet.specs.Fits.{nodes_fit, stream_fits, stamp_fits, object_fits, place_fits, want_fits, proposal_fits, value_fits, content_fits, cause_fits, body_fits, fits}
+use Rattle.zeus_packet.specs.Fits.{nodes_fit, stamp_fits, object_fits, place_fits, want_fits, proposal_fits, body_fits, fits}
 use Rattle.zeus_packet.specs.Place.{source, with_optional, arbiters, changed_place, new_place}
-use Rattle.zeus_packet.specs.declared.letter.Body.{Body}
 use Rattle.zeus_packet.specs.declared.letter.Letter.{Letter}
 use Rattle.zeus_packet.specs.declared.place.Place.{Place}
 use Rattle.zeus_packet.specs.declared.place.Proposal.{Proposal}
 use Rattle.zeus_packet.specs.declared.place.Want.{Want}
 use Rattle.zeus_packet.specs.declared.place.Want.TheVariants.{Own, Read, Leave}
-use Rattle.zeus_model.specs.State.{Node}
-use Rattle.zeus_model.specs.Act.{letter, to_each}
 use Rattle.node_ranges.specs.Ranges.{AllFit}
-use Rattle.node_ranges.specs.NodeSets.{nodes_fit-has, nodes_fit-with_node, nodes_fit-without, nodes_fit-meet, nodes_fit-meet_right, nodes_fit-least}
+use Rattle.node_ranges.specs.NodeSets.{nodes_fit-has, nodes_fit-with_node, nodes_fit-without, nodes_fit-meet_right, nodes_fit-least}
 
 -- ---- the parts of what fits
 

@@ -1,25 +1,22 @@
 -- What transactions write fits where the values that they find and have fit.
-use Rattle.std.specs.Prelude.{ℕ, suc, ◌≡◌, ◌<◌, ◌≤◌, ◌==◌, ◌+◌, ◌||◌, ◌&&◌, not, ◌%◌, ◌^◌, Bool, true, false, List, [], ◌∷◌, length, All, Option, Some, None, IfSome, if◌then◌else◌, refl}
-use Rattle.std.specs.List.{list_all, list_any}
-use Rattle.std.proofs.Common.{arith, sym, ap, ◌∙◌, inl, inr}
-use Rattle.std.proofs.lemmas.Bool.{and_from, cond_both, eqb-true, cases_Bool, or_cases, false≢true}
-use Rattle.std.proofs.lemmas.Bool.Decides.{nat_tests}
+use Rattle.std.specs.Prelude.{ℕ, suc, ◌≡◌, ◌≤◌, ◌==◌, Bool, true, false, List, [], ◌∷◌, length, All, Option, Some, None, IfSome, refl}
+use Rattle.std.proofs.Common.{ap, inl, inr}
+use Rattle.std.proofs.lemmas.Bool.{cond_both, eqb-true, or_cases, false≢true}
 use Rattle.std.proofs.lemmas.List.Elements.{All-nil, All-cons, All-head, All-tail}
 use Rattle.zeus_base.specs.Values.{same_value}
 use Rattle.zeus_base.specs.declared.config.Limits.{Limits}
 use Rattle.zeus_base.specs.declared.value.Value.{Value}
 use Rattle.zeus_base.specs.declared.value.Value.TheVariants.{Num, Text}
-use Rattle.zeus_packet.specs.Fits.{object_fits, value_fits, write_fits, are_once}
-use Rattle.zeus_packet.specs.declared.write.Write.{Write}
+use Rattle.zeus_packet.specs.Fits.{value_fits}
 use Rattle.zeus_txn.specs.Ops.{object_of, mentions, named}
-use Rattle.zeus_txn.specs.Run.{added, reaches, tested, effect, given, latest, rewritten, stored, fails_at, succeeds, run_from, run}
+use Rattle.zeus_txn.specs.Run.{added, reaches, tested, effect, given, latest, rewritten, stored, fails_at, run_from, run}
 use Rattle.zeus_txn.specs.OpLaws.{AllIn, named-all}
 use Rattle.zeus_txn.specs.RunLaws.{keys, HasRoom, HasRoom-none, HasRoom-stored, HasRoom-length}
 use Rattle.zeus_txn.specs.declared.ops.Op.{Op}
 use Rattle.zeus_txn.specs.declared.ops.Op.TheVariants.{Get, Put, Add, Need, Same}
 use Rattle.zeus_txn.specs.declared.reply.Ran.{Ran}
 use Rattle.zeus_model.specs.Local.{new_writes}
-use Rattle.zeus_model.specs.State.{Node, copy, version_of}
+use Rattle.zeus_model.specs.State.{Node}
 use Rattle.node_ranges.specs.Ranges.{OpFits}
 
 -- the value of a write fits

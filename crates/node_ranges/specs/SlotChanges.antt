@@ -1,20 +1,18 @@
 -- More changes of a node's slots and streams that keep its ranges: acknowledgements, current transactions and commits; and reports.
-use Rattle.std.specs.Prelude.{ℕ, zero, suc, ◌≡◌, ◌≢◌, ◌+◌, ◌-◌, ◌^◌, ◌<◌, ◌≤◌, true, List, [], ◌∷◌, ◌++◌, length, All, Option, Some, None, refl}
-use Rattle.std.specs.List.{list_all}
-use Rattle.std.proofs.Common.{arith, ◌∙◌, length-append}
+use Rattle.std.specs.Prelude.{ℕ, ◌≢◌, ◌<◌, List, [], ◌∷◌, ◌++◌, length, All, Option, None}
+use Rattle.std.proofs.Common.{arith, length-append}
 use Rattle.std.proofs.lemmas.List.Elements.{All-push, All-set, All-get_or}
 use Rattle.zeus_base.specs.Nodes.{with_node}
 use Rattle.zeus_base.specs.TableLaws.{length-put, nth_here, put-set}
 use Rattle.zeus_base.specs.declared.config.Limits.{Limits}
 use Rattle.zeus_base.specs.declared.order.Stream.{Stream}
-use Rattle.zeus_packet.specs.Fits.{write_fits}
 use Rattle.zeus_packet.specs.declared.write.Write.{Write}
 use Rattle.zeus_txn.specs.Ops.{named}
 use Rattle.zeus_txn.specs.declared.reply.Ran.{Ran}
 use Rattle.zeus_model.specs.declared.state.Current.{Current}
 use Rattle.zeus_model.specs.declared.state.Kept.{Kept}
 use Rattle.zeus_model.specs.declared.state.Pending.{Pending}
-use Rattle.zeus_model.specs.Commit.{as_kept, each_write, no_pending, no_kept, acked_pending, acked_kept}
+use Rattle.zeus_model.specs.Commit.{each_write, no_pending, no_kept, acked_pending, acked_kept}
 use Rattle.zeus_model.specs.Local.{with_current, rewritten_copy, committed}
 use Rattle.zeus_model.specs.State.{Node, Slot, StreamLog, slot, log, next_number, with_copies, with_slot, with_log}
 use Rattle.zeus_model.specs.Tables.{nth, put}

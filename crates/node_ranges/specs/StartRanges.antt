@@ -1,27 +1,22 @@
 -- A node keeps the ranges of its configuration at the start.
-use Rattle.std.specs.Prelude.{ℕ, zero, suc, ◌≡◌, ◌+◌, ◌<◌, ◌≤◌, ◌==◌, ◌^◌, Bool, true, false, List, [], ◌∷◌, length, map, replicate, All, Option, Some, None, refl}
-use Rattle.std.proofs.Common.{arith, ◌∙◌}
+use Rattle.std.specs.Prelude.{ℕ, zero, suc, ◌≡◌, ◌<◌, ◌≤◌, true, List, [], ◌∷◌, length, map, replicate, All, Some, None, refl}
+use Rattle.std.proofs.Common.{arith}
 use Rattle.std.proofs.lemmas.Bool.{cond_both, eq-eqb, false≢true}
 use Rattle.std.proofs.lemmas.List.{length-map, length-replicate}
 use Rattle.std.proofs.lemmas.List.Elements.{All-head, All-tail, All-nil}
 use Rattle.zeus_base.specs.Limits.{KeepsDeclaration, KeepsLimits, limits_of}
-use Rattle.zeus_base.specs.NodeLaws.{IsBelow}
 use Rattle.zeus_base.specs.Nodes.{has}
 use Rattle.zeus_base.specs.TableLaws.{nth-replicate}
 use Rattle.zeus_base.specs.Values.{is_num}
 use Rattle.zeus_base.specs.declared.config.Config.{Config}
 use Rattle.zeus_base.specs.declared.config.Limits.{Limits}
 use Rattle.zeus_base.specs.declared.config.ObjectDecl.{ObjectDecl}
-use Rattle.zeus_base.specs.declared.order.Stream.{Stream}
 use Rattle.zeus_base.specs.declared.value.Value.{Value}
 use Rattle.zeus_base.specs.declared.value.Value.TheVariants.{Num, Text}
-use Rattle.zeus_packet.specs.Fits.{nodes_fit, value_fits}
+use Rattle.zeus_packet.specs.Fits.{value_fits}
 use Rattle.zeus_packet.specs.declared.letter.State.TheVariants.{Valid}
-use Rattle.zeus_model.specs.declared.state.Copy.{Copy}
-use Rattle.zeus_model.specs.declared.state.Entry.{Entry}
-use Rattle.zeus_model.specs.declared.state.Gather.{Gather}
-use Rattle.zeus_model.specs.State.{Node, Slot, StreamLog, no_entry, no_slot, no_log, value_of}
-use Rattle.zeus_model.specs.Tables.{nth, below, where_true}
+use Rattle.zeus_model.specs.State.{no_entry, no_slot, no_log, value_of}
+use Rattle.zeus_model.specs.Tables.{nth, where_true}
 use Rattle.zeus_model.specs.World.{start_entry, start_copy, start_gather, start_node}
 use Rattle.node_ranges.specs.NodeSets.{nodes_fit-members, nodes_fit-below}
 use Rattle.node_ranges.specs.Places.{place_fits-from, stamp_fits-from}

@@ -5,22 +5,16 @@ use Rattle.zeus_model.specs.Tables.{nth}
 use Rattle.object_table.specs.declared.hold.Hold.{Hold}
 use Rattle.object_table.specs.Holding.{AreHeld}
 use Rattle.object_table.specs.NodeHolds.{AreHeld-same}
+use Rattle.node_ranges.specs.Derived.{KeepsRanges-shown}
 use Rattle.node_ranges.specs.Ranges.{KeepsRanges, limits_of}
 use Rattle.node_state.specs.declared.state.NodeState.TheInside.{Inside}
 use Rattle.node_state.specs.Shown.{IsKept, shown}
 
--- a node that keeps the ranges of another's tables has tables of the same sizes, so it keeps those of its own
-pub KeepsRanges-own : (n m : Node) → KeepsRanges (limits_of n) m → KeepsRanges (limits_of m) m
-KeepsRanges-own n m k = rw (k.sizes.nodes, k.sizes.slots, k.sizes.entries) k
-
-pub limits_of-kept : (n m : Node) → KeepsRanges (limits_of n) m → limits_of m ≡ limits_of n
-limits_of-kept n m k = rw (k.sizes.nodes, k.sizes.slots, k.sizes.entries) refl
-
 -- the same holds of an equal node
-own_at : (k m : Node) → k ≡ m → KeepsRanges (limits_of m) m → KeepsRanges (limits_of k) k
+pub own_at : (k m : Node) → k ≡ m → KeepsRanges (limits_of m) m → KeepsRanges (limits_of k) k
 own_at k m e h = rw e h
 
-held_at : (k m : Node) (holds : List (Option Hold)) → k ≡ m → AreHeld m holds → AreHeld k holds
+pub held_at : (k m : Node) (holds : List (Option Hold)) → k ≡ m → AreHeld m holds → AreHeld k holds
 held_at k m holds e h = rw e h
 
 module _ (a b : Inside) (m : Node) (becomes : shown b ≡ m) (nodes : b.node_count ≡ a.node_count) (slots : b.slot_count ≡ a.slot_count) (is : IsKept a) where
@@ -28,7 +22,7 @@ module _ (a b : Inside) (m : Node) (becomes : shown b ≡ m) (nodes : b.node_cou
   pub IsKept-becomes : KeepsRanges (limits_of (shown a)) m → AreHeld m b.copies.holds → IsKept b
   IsKept-becomes ranges held =
       record {
-        ranges = own_at (shown b) m becomes (KeepsRanges-own (shown a) m ranges);
+        ranges = own_at (shown b) m becomes (KeepsRanges-shown (limits_of (shown a)) m ranges);
         held = held_at (shown b) m b.copies.holds becomes held;
         nodes = nodes ∙ is.nodes ∙ sym (ap (λ (n : Node). length n.logs) becomes ∙ ranges.sizes.nodes);
         slots = slots ∙ is.slots ∙ sym (ap (λ (n : Node). length n.slots) becomes ∙ ranges.sizes.slots);

@@ -1,5 +1,5 @@
-pub mod Adding
-pub mod Cut
 pub mod Keeping
 pub mod Owning
 pub mod Committing
+pub mod Searching
+pub mod Starting

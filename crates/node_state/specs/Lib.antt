@@ -2,3 +2,5 @@ pub mod Effect
 pub mod Done
 pub mod Changes
 pub mod Shown
+pub mod Cut
+pub mod Adding

@@ -35,10 +35,11 @@ impl NodeState {
         requires proposal { proposal_fits (limits_of self.old) p.now ≡ true }
         ensures { self.new ≡ holding self.old obj p.now }
     {
-        let _ = self.dir.accept(obj, p);
+        let _ = self.dir.hold(obj, p);
     }
 
     /// Whether the placement would make the node the owner of the object, which its settled placement does not name.
+    #[tactic(auto, unfolding(zeus_model::specs::Ownership::takes_over))]
     pub fn takes_over(&self, obj: ObjId, place: &Place) -> bool
         requires { obj < length self.now.entries }
         ensures { result ≡ takes_over self.now obj place.now }
@@ -53,14 +54,19 @@ impl NodeState {
         requires { obj < length self.now.entries }
         ensures { result ≡ answered (drive_cause self.now obj requester want) (driven self.now obj requester want) }
     {
-        self.dir.may_drive(obj, requester, self.me, self.members, want)
+        self.dir
+            .may_drive(obj, requester, self.me, self.members, want)
     }
 
     /// Whether the node is the source of the placement.
+    #[tactic(auto, unfolding(zeus_model::specs::Ownership::is_node))]
     pub fn is_source(&self, place: &Place) -> bool
         ensures { result ≡ is_source self.now place.now }
     {
-        source(place, self.members) == Some(self.me)
+        match source(place, self.members) {
+            None => false,
+            Some(node) => node == self.me,
+        }
     }
 
     /// The least slot whose current write transaction names the object.
@@ -94,6 +100,7 @@ impl NodeState {
     }
 
     /// The content of the node's copy, where the node is the source of the placement and has one.
+    #[tactic(auto, unfolding(zeus_model::specs::Ownership::own_content, zeus_model::specs::Ownership::content_of))]
     pub fn own_content(&self, obj: ObjId, place: &Place) -> Option<Content>
         ensures { result ≡ own_content self.now obj place.now }
     {
@@ -137,17 +144,17 @@ impl NodeState {
         requires { obj < length self.old.entries }
         ensures { self.new ≡ bring self.old obj p.now content.now }
     {
-        if p.requester != self.me {
-            return;
-        }
-        match p.want {
-            Want::Own | Want::Read => self.copies.place_copy(obj, content),
-            Want::Leave => self.copies.drop_copy(obj),
+        if p.requester == self.me {
+            match p.want {
+                Want::Own | Want::Read => self.copies.place_copy(obj, content),
+                Want::Leave => self.copies.drop_copy(obj),
+            }
         }
     }
 }
 
 /// The cause that an answer tells.
+#[tactic(auto, unfolding(arbitration::specs::Giving::told_cause))]
 fn cause_of(answer: GiveUp) -> Option<Cause>
     ensures { result ≡ told_cause answer }
 {

@@ -1,11 +1,13 @@
 //! An own slot: its current transaction, and the entries of its stream that wait.
-ghost use Rattle.std.specs.Prelude.{◌≡◌};
+ghost use Rattle.std.specs.Prelude.{◌≡◌, IfOk, replicate};
 ghost use Rattle.zeus_model.specs.Ownership.{keeps};
+ghost use Rattle.zeus_model.specs.State.{no_slot};
 ghost use Rattle.zeus_txn.specs.Ops.{mentions, named};
 
 use commit_pipeline::Pipe;
+use std::alloc::Global;
 use std::marker::Model;
-use zeus_base::ObjId;
+use zeus_base::{NoMemory, ObjId};
 use zeus_model::Current;
 use zeus_txn::Tx;
 
@@ -26,6 +28,16 @@ impl Model for Slot {
 }
 
 impl Slot {
+    /// A free slot whose stream has no entry.
+    fn new(alloc: Global) -> Result<Slot, NoMemory>
+        ensures { IfOk result (λ slot. slot ≡ no_slot) }
+    {
+        Ok(Slot {
+            current: None,
+            pipe: Pipe::new(alloc)?,
+        })
+    }
+
     /// Whether the slot's current transaction is a write transaction that names the object.
     #[tactic(auto, unfolding(zeus_model::specs::Ownership::keeps))]
     pub(crate) fn keeps(&self, obj: ObjId) -> bool
@@ -36,6 +48,17 @@ impl Slot {
             Some(current) => current.tx.is_write() && names(&current.tx, obj),
         }
     }
+}
+
+/// So many slots at the start of a run.
+pub(crate) fn start_slots(alloc: Global, count: u8) -> Result<Vec<Slot>, NoMemory>
+    ensures { IfOk result (λ slots. slots.items ≡ replicate count no_slot) }
+{
+    let mut slots = Vec::with_capacity(alloc, usize::from(count)).map_err(|_| NoMemory)?;
+    for _slot in 0..count {
+        slots.push_reserved(Slot::new(alloc)?);
+    }
+    Ok(slots)
 }
 
 /// Whether the transaction names the object.

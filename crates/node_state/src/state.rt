@@ -1,19 +1,22 @@
 //! The state of a node: its parts, and what they are read for.
-ghost use Rattle.std.specs.Prelude.{◌≡◌, ◌==◌, ◌<◌, ◌≤◌, [], ◌∷◌, length, option_copied};
+ghost use Rattle.std.specs.Prelude.{◌≡◌, ◌==◌, ◌<◌, ◌≤◌, [], ◌∷◌, IfOk, length, option_copied};
+ghost use Rattle.zeus_base.specs.Limits.{KeepsLimits};
 ghost use Rattle.zeus_base.specs.Nodes.{has};
 ghost use Rattle.zeus_model.specs.Act.{letter, to_each};
 ghost use Rattle.zeus_model.specs.State.{entry, copy, holder, is_open, owns, slot as slot_of};
+ghost use Rattle.zeus_model.specs.World.{start_node};
 ghost use Rattle.node_state.specs.Done.{Adds};
 
 use crate::effect::Effect;
-use crate::slot::Slot;
+use crate::slot::{Slot, start_slots};
 use arbitration::Gathers;
 use follower_log::Stored;
 use membership::Barrier;
 use object_table::Copies;
 use owner_entry::{Dir, OwnerEntry};
+use std::alloc::Global;
 use std::marker::Model;
-use zeus_base::{NodeId, NodeSet, ObjId, SlotId};
+use zeus_base::{Config, NoMemory, NodeId, NodeSet, ObjId, SlotId};
 use zeus_model::{Copy, Current, Entry};
 use zeus_packet::{Body, Letter};
 
@@ -47,9 +50,38 @@ impl Model for NodeState {
 }
 
 impl NodeState {
+    /// The state of the node `me` at the start of a run: in epoch 1 with all nodes as members, all of them reported,
+    /// and with a valid copy of each object that it is declared to replicate. All memory of the node is taken here.
+    ///
+    /// # Errors
+    ///
+    /// `NoMemory` where that memory is not there.
+    pub fn new(alloc: Global, config: &Config, me: NodeId) -> Result<NodeState, NoMemory>
+        requires limits { KeepsLimits config.now }
+        requires me { me < config.now.nodes }
+        ensures { IfOk result (λ state. state ≡ start_node config.now me) }
+    {
+        let all = NodeSet::below(config.nodes);
+        Ok(NodeState {
+            me,
+            epoch: 1,
+            members: all,
+            stopped: false,
+            node_count: config.nodes,
+            slot_count: config.slots,
+            dir: Dir::new(alloc, config)?,
+            copies: Copies::new(alloc, config, me)?,
+            gathers: Gathers::new(alloc, config)?,
+            slots: start_slots(alloc, config.slots)?,
+            logs: Stored::new(alloc, config)?,
+            barrier: Barrier::new(all),
+        })
+    }
+
     /// The node's number.
     pub fn me(&self) -> NodeId
-        ensures { result ≡ self.now.me }
+        ensures number { result ≡ self.now.me }
+        ensures there { result < length self.now.logs }
     {
         self.me
     }

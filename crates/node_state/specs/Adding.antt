@@ -8,7 +8,7 @@ use Rattle.zeus_model.specs.Act.{Act, Did, did_then, letter, to_each}
 use Rattle.zeus_model.specs.State.{Node}
 use Rattle.node_state.specs.declared.effect.Effect.{Effect}
 use Rattle.node_state.specs.Done.{Adds, IsActed, IsDone, IsQuiet}
-use Rattle.node_state.proofs.Cut.{cut-append}
+use Rattle.node_state.specs.Cut.{cut-append}
 
 -- nothing is added
 pub adds_nothing : (out : Effect) → length out.sent ≤ 64 → Adds [] [] out out
