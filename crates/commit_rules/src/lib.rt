@@ -1,13 +1,9 @@
-// A library with one function.
+//! The rules of commit and replication at a node: what it does with the letters of streams, and how it finishes.
 #![tactic(auto)]
 
-ghost use Rattle.std.specs.Prelude.{◌≡◌};
-ghost use Rattle.commit_rules.specs.Echo.{echo_of};
+mod finish;
+mod follow;
 
-// The `ensures` clause is the contract: what `echo` returns is `echo_of` of its argument, a definition
-// in `specs/Echo.antt`, which a caller's clause can cite too.
-pub fn echo(x: usize) -> usize
-    ensures { result ≡ echo_of x }
-{
-    x
-}
+pub use finish::finish;
+pub use follow::{on_rack, on_recovered, on_rinv, on_rval};
+pub use node_state::{Effect, NodeState};
