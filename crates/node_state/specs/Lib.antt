@@ -3,3 +3,4 @@ pub mod Done
 pub mod EffectLaws
 pub mod Changes
 pub mod Shown
+pub mod SlotTries
