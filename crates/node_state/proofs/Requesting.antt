@@ -18,7 +18,7 @@ use Rattle.zeus_model.specs.State.{Node, copy, owns}
 use Rattle.zeus_model.specs.Tables.{first_of, or_else, where_true}
 use Rattle.node_state.specs.declared.effect.Effect.{Effect}
 use Rattle.node_state.specs.Done.{Adds}
-use Rattle.node_state.proofs.Cut.{cut-append}
+use Rattle.node_state.specs.EffectLaws.{cut-append}
 
 -- ---- the driver
 

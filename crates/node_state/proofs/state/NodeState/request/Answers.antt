@@ -1,5 +1,5 @@
 use Rattle.std.proofs.Common.{sym, ◌∙◌}
-use Rattle.node_state.proofs.Adding.{adds_nothing}
+use Rattle.node_state.specs.EffectLaws.{adds_nothing}
 use Rattle.node_state.proofs.Requesting.{ask-nobody, ask-one}
 use Rattle.node_state.proofs.state.NodeState.request.Goals as goal
 

@@ -1,16 +1,13 @@
 //! How a node finishes: entries that are acknowledged pass, and the node reports what it has replayed.
 ghost use Rattle.std.specs.Prelude.{◌≡◌, ◌+◌, ◌<◌, ◌≤◌, [], true, length};
-ghost use Rattle.zeus_packet.specs.Fits.{stream_fits};
-ghost use Rattle.zeus_packet.specs.declared.letter.Body.TheVariants.{RVal};
-ghost use Rattle.zeus_model.specs.Act.{in_turn, to_each};
+ghost use Rattle.zeus_model.specs.Act.{in_turn};
 ghost use Rattle.zeus_model.specs.Commit.{advance_kept, advance_own, finish, outside, report, streams_of};
 ghost use Rattle.zeus_model.specs.Tables.{below};
 ghost use Rattle.node_ranges.specs.Ranges.{limits_of};
-ghost use Rattle.reliable_commit.specs.Advancing.{passed_by};
-ghost use Rattle.node_state.specs.Done.{Adds, IsActed};
+ghost use Rattle.node_state.specs.Done.{IsActed};
 
-use node_state::{Advance, Effect, NodeState};
-use zeus_base::{NodeId, Passed, SlotId, Stream};
+use node_state::{Effect, NodeState};
+use zeus_base::{NodeId, SlotId, Stream};
 use zeus_packet::Body;
 
 /// Own streams advance in the order of slots, then the streams of the nodes that are no members in the order of node
@@ -33,25 +30,8 @@ fn advance_own_streams(node: &mut NodeState, out: &mut Effect)
     ensures few { length out.new.passed ≤ 8 }
 {
     for slot in 0..node.slot_count() {
-        advance_own(node, SlotId(slot), out);
+        node.pass_own(SlotId(slot), out);
     }
-}
-
-/// The longest front of acknowledged entries of the slot passes, and the members among their followers are told.
-fn advance_own(node: &mut NodeState, slot: SlotId, out: &mut Effect)
-    requires slot { slot < length node.old.slots }
-    requires room { length out.old.sent ≤ 64 }
-    requires passes { length out.old.passed < 72 }
-    ensures acted { IsActed (advance_own node.old slot) node.new out.old out.new }
-    ensures few { length out.new.passed ≤ length out.old.passed + 1 }
-    ensures limits { limits_of node.new ≡ limits_of node.old }
-{
-    let advance = node.advance_own(slot);
-    let stream = &Stream {
-        node: node.me(),
-        slot,
-    };
-    tell(node, stream, &advance, out);
 }
 
 /// Each stream of a node that is no member advances.
@@ -83,37 +63,7 @@ fn advance_streams_of(node: &mut NodeState, other: NodeId, out: &mut Effect)
             node: other,
             slot: SlotId(slot),
         };
-        advance_kept(node, stream, out);
-    }
-}
-
-/// The longest front of acknowledged entries of the stream passes, and the members among their followers are told.
-fn advance_kept(node: &mut NodeState, stream: &Stream, out: &mut Effect)
-    requires stream { stream_fits (limits_of node.old) stream.now ≡ true }
-    requires room { length out.old.sent ≤ 64 }
-    requires passes { length out.old.passed < 72 }
-    ensures acted { IsActed (advance_kept node.old stream.now) node.new out.old out.new }
-    ensures few { length out.new.passed ≤ length out.old.passed + 1 }
-    ensures limits { limits_of node.new ≡ limits_of node.old }
-{
-    let advance = node.advance_kept(*stream);
-    tell(node, stream, &advance, out);
-}
-
-/// Tells which entries of the stream have passed.
-fn tell(node: &NodeState, stream: &Stream, advance: &Advance, out: &mut Effect)
-    requires room { length out.old.sent ≤ 64 }
-    requires passes { length out.old.passed < 72 }
-    ensures added { Adds (to_each node.now advance.now.tell (RVal stream.now advance.now.after)) (passed_by stream.now advance.now) out.old out.new }
-    ensures few { length out.new.passed ≤ length out.old.passed + 1 }
-{
-    node.send_each(advance.tell, &Body::RVal(*stream, advance.after), out);
-    if advance.first != advance.after {
-        out.passed.push(Passed {
-            stream: *stream,
-            first: advance.first,
-            after: advance.after,
-        });
+        node.pass_kept(stream, out);
     }
 }
 
