@@ -1,3 +1,2 @@
 pub mod Leading
-pub mod Finishing
-pub mod Following
+pub mod Passing

@@ -1,5 +1,5 @@
 -- Requests for objects, one after another.
-use Rattle.std.proofs.Common.{ℕ, ◌+◌, ◌≡◌, ◌≤◌, ◌<◌, Bool, true, false, List, [], ◌∷◌, ◌++◌, Option, Some, None, length, take, drop, refl, sym, ap, ◌∙◌, add-one, drop-cons, append-nil, arith}
+use Rattle.std.proofs.Common.{All, ℕ, ◌+◌, ◌≡◌, ◌≤◌, ◌<◌, Bool, true, false, List, [], ◌∷◌, ◌++◌, Option, Some, None, length, take, drop, refl, sym, ap, ◌∙◌, add-one, drop-cons, append-nil, arith}
 use Rattle.std.specs.Prelude.{not, nat_lt, is_none, if◌then◌else◌}
 use Rattle.std.specs.Prelude.{cond, ◌==◌}
 use Rattle.std.specs.Option.{is_some}
@@ -11,13 +11,19 @@ use Rattle.std.proofs.lemmas.List.{drop_all, take_all}
 use Rattle.zeus_packet.specs.declared.letter.Body.TheVariants.{OReq}
 use Rattle.zeus_packet.specs.declared.letter.Letter.{Letter}
 use Rattle.zeus_packet.specs.declared.place.Want.{Want}
+use Rattle.zeus_packet.specs.declared.place.Want.TheVariants.{Own, Read}
+use Rattle.zeus_base.specs.declared.config.Limits.{Limits}
+use Rattle.zeus_txn.specs.Ops.{named}
+use Rattle.zeus_model.specs.declared.state.Current.{Current}
 use Rattle.zeus_model.specs.declared.state.Copy.{Copy}
 use Rattle.zeus_model.specs.Act.{letter}
 use Rattle.zeus_model.specs.Local.{ask, driver, least_from, not_copied, not_owned, requests}
 use Rattle.zeus_model.specs.State.{Node, copy, owns}
 use Rattle.zeus_model.specs.Tables.{first_of, or_else, where_true}
 use Rattle.node_state.specs.declared.effect.Effect.{Effect}
+use Rattle.node_ranges.specs.Ranges.{FitsCurrent}
 use Rattle.node_state.specs.Done.{Adds}
+use Rattle.node_state.specs.Requests.{requests_for_copies, requests_to_own}
 use Rattle.node_state.specs.EffectLaws.{cut-append}
 
 -- ---- the driver
@@ -123,3 +129,26 @@ is_none-not (Some c) false e = refl
 
 pub uncopied_by : (o p : Option Copy) (b v : Bool) → is_some o ≡ not b → o ≡ p → b ≡ v → is_none p ≡ v
 uncopied_by o p b v e same test = rw (← same) (is_none-not o b e) ∙ test
+
+-- ---- what a current transaction needs
+
+pub to_own-none : (n : Node) (c : Option Current) → c ≡ None → requests_to_own n c ≡ []
+unfolding requests_to_own
+to_own-none n c e = rw e refl
+
+pub to_own-some : (n : Node) (c : Option Current) (d : Current) → c ≡ Some d → requests_to_own n c ≡ requests n Own (not_owned n (named d.tx))
+unfolding requests_to_own
+to_own-some n c d e = rw e refl
+
+pub for_copies-none : (n : Node) (c : Option Current) → c ≡ None → requests_for_copies n c ≡ []
+unfolding requests_for_copies
+for_copies-none n c e = rw e refl
+
+pub for_copies-some : (n : Node) (c : Option Current) (d : Current) → c ≡ Some d → requests_for_copies n c ≡ requests n Read (not_copied n (named d.tx))
+unfolding requests_for_copies
+for_copies-some n c d e = rw e refl
+
+-- a current transaction that fits names objects that there are
+pub current_named_of : (limits : Limits) (c : Option Current) (d : Current) → c ≡ Some d → FitsCurrent limits c → All (λ x. x < limits.objects) (named d.tx)
+unfolding FitsCurrent
+current_named_of limits c d e h = (rw e at h).named

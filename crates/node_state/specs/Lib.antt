@@ -4,3 +4,4 @@ pub mod EffectLaws
 pub mod Changes
 pub mod Shown
 pub mod SlotTries
+pub mod Requests

@@ -1,7 +1,7 @@
 use Rattle.std.proofs.Common.{◌≡◌, ◌≤◌, ◌++◌, length, drop, take}
 use Rattle.zeus_packet.specs.declared.place.Want.TheVariants.{Own}
 use Rattle.zeus_model.specs.Local.{not_owned, requests}
-use Rattle.node_state.proofs.state.NodeState.request_owned.Given as goal
+use Rattle.node_state.proofs.state.NodeState.request_unowned.Given as goal
 
 -- the requests for the objects that are left make the same end
 abbrev pub invariant-loop-object : goal.invariant-loop-object

@@ -2,8 +2,8 @@ use Rattle.std.proofs.Common.{◌∙◌}
 use Rattle.zeus_packet.specs.declared.place.Want.TheVariants.{Read}
 use Rattle.node_state.specs.EffectLaws.{adds_passes, adds_room}
 use Rattle.node_state.proofs.Requesting.{copied_none, copied_here, letters_end, letters_step, uncopied_by, uncopied_here}
-use Rattle.node_state.proofs.state.NodeState.request_copies.Goals.{then-is_none, else-is_none}
-use Rattle.node_state.proofs.state.NodeState.request_copies.Goals as goal
+use Rattle.node_state.proofs.state.NodeState.request_uncopied.Goals.{then-is_none, else-is_none}
+use Rattle.node_state.proofs.state.NodeState.request_uncopied.Goals as goal
 
 pub loop-object-preserved : goal.loop-object-preserved
 loop-object-preserved c =

@@ -2,8 +2,8 @@ use Rattle.std.proofs.Common.{sym, ◌∙◌}
 use Rattle.zeus_packet.specs.declared.place.Want.TheVariants.{Own}
 use Rattle.node_state.specs.EffectLaws.{adds_passes, adds_room}
 use Rattle.node_state.proofs.Requesting.{owned_none, owned_here, letters_end, letters_step, unowned_here}
-use Rattle.node_state.proofs.state.NodeState.request_owned.Goals.{then-not-owns, else-not-owns}
-use Rattle.node_state.proofs.state.NodeState.request_owned.Goals as goal
+use Rattle.node_state.proofs.state.NodeState.request_unowned.Goals.{then-not-owns, else-not-owns}
+use Rattle.node_state.proofs.state.NodeState.request_unowned.Goals as goal
 
 pub loop-object-preserved : goal.loop-object-preserved
 loop-object-preserved c =
