@@ -7,8 +7,11 @@ use std::marker::Model;
 use zeus_base::{NoMemory, Passed};
 use zeus_packet::Letter;
 
-/// How many letters, and how many passes, one call leaves at most.
+/// How many letters one call leaves at most.
 const ROOM: usize = 64;
+
+/// How many passes one call leaves at most: one for each of 8 own slots and for each stream of 8 nodes.
+const PASSES: usize = 72;
 
 /// The letters of one call in the order of sending, seen as a list; the first 64 of them.
 #[derive(Debug, Drop)]
@@ -80,14 +83,14 @@ impl Model for PassedList {
 
     ghost view = { λ l. l.items.items };
 
-    ghost invariant = { λ l. 64 ≤ vec_capacity l.items };
+    ghost invariant = { λ l. 72 ≤ vec_capacity l.items };
 }
 
 impl PassedList {
     fn new(alloc: Global) -> Result<PassedList, NoMemory>
         ensures { IfOk result (λ passes. passes ≡ []) }
     {
-        let items = Vec::with_capacity(alloc, ROOM).map_err(|_| NoMemory)?;
+        let items = Vec::with_capacity(alloc, PASSES).map_err(|_| NoMemory)?;
         Ok(PassedList { items })
     }
 
@@ -112,8 +115,8 @@ impl PassedList {
     }
 
     /// Adds a pass, for which there is room.
-    pub(crate) fn push(&mut self, passed: Passed)
-        requires { length self.old < 64 }
+    pub fn push(&mut self, passed: Passed)
+        requires { length self.old < 72 }
         ensures { self.new ≡ self.old ++ passed ∷ [] }
     {
         self.items.push_reserved(passed);
@@ -130,7 +133,7 @@ pub struct Effect {
 }
 
 impl Effect {
-    /// An effect with room for 64 letters and 64 passes, and nothing in it; `NoMemory` where that room is not there.
+    /// An effect with room for 64 letters and 72 passes, and nothing in it; `NoMemory` where that room is not there.
     pub fn new(alloc: Global) -> Result<Effect, NoMemory>
         ensures { IfOk result IsCleared }
     {
