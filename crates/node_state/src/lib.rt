@@ -5,8 +5,10 @@ mod commit;
 mod effect;
 mod local;
 mod ownership;
+mod proposals;
 mod slot;
 mod state;
+mod tick;
 
 pub use arbitration::{Ack, Decision};
 pub use directory::Drive;
