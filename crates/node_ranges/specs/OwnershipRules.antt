@@ -83,7 +83,8 @@ want_fits-asked Own requester place h = refl
 want_fits-asked Read requester place h = refl
 want_fits-asked Leave requester place h = leave_fits (place.owner == requester) (has requester place.replicas) (where_true-none _ _ h)
 
-request-wants : (n : Node) (x requester : ℕ) (want : Want) → request_cause n x requester want ≡ None → want_cause want requester (entry n x).place ≡ None
+-- a request that nothing stands against has a wish that the settled placement allows
+pub request-wants : (n : Node) (x requester : ℕ) (want : Want) → request_cause n x requester want ≡ None → want_cause want requester (entry n x).place ≡ None
 unfolding request_cause drive_cause
 request-wants n x requester want h =
     let one = or_else-none _ _ (or_else-none _ _ h).0 in
@@ -91,7 +92,7 @@ request-wants n x requester want h =
     (or_else-none _ _ two.1).0
 
 -- what a node drives of a request of a node fits
-driven-fits : (limits : Limits) (n : Node) (x requester : ℕ) (want : Want) → x < limits.objects → requester < limits.nodes → want_cause want requester (entry n x).place ≡ None → KeepsRanges limits n → proposal_fits limits (driven n x requester want) ≡ true
+pub driven-fits : (limits : Limits) (n : Node) (x requester : ℕ) (want : Want) → x < limits.objects → requester < limits.nodes → want_cause want requester (entry n x).place ≡ None → KeepsRanges limits n → proposal_fits limits (driven n x requester want) ≡ true
 driven-fits limits n x requester want within less none k =
     let e = k.entries x within in
     proposal_fits-from limits (driven n x requester want) (record {

@@ -1,5 +1,3 @@
-pub mod Adding
-pub mod Cut
 pub mod Keeping
 pub mod Owning
 pub mod Searching

@@ -1,4 +1,5 @@
 pub mod Effect
 pub mod Done
+pub mod EffectLaws
 pub mod Changes
 pub mod Shown

@@ -1,6 +1,7 @@
--- What is added to an effect, one after another.
-use Rattle.std.proofs.Common.{ℕ, ◌≡◌, ◌≤◌, List, [], ◌∷◌, ◌++◌, length, take, sym, ap, ◌∙◌, append-nil, append_assoc, arith}
-use Rattle.std.proofs.lemmas.List.{take_all, length-take}
+-- Laws of effects: what is added one after another, cut at 64 letters.
+use Rattle.std.specs.Prelude.{ℕ, zero, suc, ◌≡◌, ◌<◌, ◌≤◌, List, [], ◌∷◌, ◌++◌, length, take, refl}
+use Rattle.std.proofs.Common.{sym, ap, ◌∙◌, append-nil, append_assoc, arith, length-append}
+use Rattle.std.proofs.lemmas.List.{take_all, take-append-le, length-take}
 use Rattle.zeus_base.specs.declared.step.Passed.{Passed}
 use Rattle.zeus_packet.specs.declared.letter.Letter.{Letter}
 use Rattle.zeus_packet.specs.declared.letter.Body.{Body}
@@ -8,7 +9,23 @@ use Rattle.zeus_model.specs.Act.{Act, Did, did_then, letter, to_each}
 use Rattle.zeus_model.specs.State.{Node}
 use Rattle.node_state.specs.declared.effect.Effect.{Effect}
 use Rattle.node_state.specs.Done.{Adds, IsActed, IsDone, IsQuiet}
-use Rattle.node_state.proofs.Cut.{cut-append}
+
+-- an element more is not cut where there is room
+pub cut_room : {A : Type 0} (xs : List A) (x : A) → length xs < 64 → xs ++ x ∷ [] ≡ take 64 (xs ++ x ∷ [])
+cut_room xs x h = sym (take_all 64 (xs ++ x ∷ []) (omega (arith, length-append xs (x ∷ []))))
+
+-- a full list is cut as it was
+pub cut_full : {A : Type 0} (xs ys : List A) → 64 ≤ length xs → length xs ≤ 64 → xs ≡ take 64 (xs ++ ys)
+cut_full xs ys h k = sym (take-append-le 64 xs ys h ∙ take_all 64 xs k)
+
+take-take_append : {A : Type 0} (n : ℕ) (xs ys : List A) → take n (take n xs ++ ys) ≡ take n (xs ++ ys)
+take-take_append zero xs ys = refl
+take-take_append (suc n) [] ys = refl
+take-take_append (suc n) (x ∷ xs) ys = ap (λ l. x ∷ l) (take-take_append n xs ys)
+
+-- what is added to a cut list, and then more
+pub cut-append : {A : Type 0} (xs ys zs : List A) → take 64 (take 64 (xs ++ ys) ++ zs) ≡ take 64 (xs ++ (ys ++ zs))
+cut-append xs ys zs = take-take_append 64 (xs ++ ys) zs ∙ ap (take 64) (simp append_assoc)
 
 -- nothing is added
 pub adds_nothing : (out : Effect) → length out.sent ≤ 64 → Adds [] [] out out
@@ -27,6 +44,7 @@ adds-append xs ys ps qs a b c f g =
       passes = g.passes ∙ ap (λ l. l ++ qs) f.passes ∙ append_assoc a.passed ps qs;
     }
 
+-- what was added leaves at most 64 letters
 pub adds_room : (xs : List Letter) (ps : List Passed) (a b : Effect) → Adds xs ps a b → length b.sent ≤ 64
 adds_room xs ps a b f = rw f.letters (omega (arith, length-take 64 (a.sent ++ xs)))
 
@@ -47,6 +65,7 @@ done_then d next answer m n a b c f g =
       adds = rw (← same) (adds-append d.sent (next m).sent d.passed (next m).passed a b c f.adds g.adds);
     }
 
+-- letters alone leave the passes
 pub adds_passes : (xs : List Letter) (a b : Effect) → Adds xs [] a b → b.passed ≡ a.passed
 adds_passes xs a b f = f.passes ∙ append-nil a.passed
 
