@@ -1,7 +1,8 @@
 //! What a node reads of its slots and streams to say it again.
-ghost use Rattle.std.specs.Prelude.{◌≡◌, ◌<◌, ◌≤◌, ◌+◌, ◌^◌, length, option_copied, slice_get};
+ghost use Rattle.std.specs.Prelude.{true, ◌≡◌, ◌<◌, ◌≤◌, ◌+◌, ◌^◌, length, option_copied, slice_get};
+ghost use Rattle.zeus_packet.specs.Fits.{stream_fits};
 ghost use Rattle.zeus_model.specs.State.{log, slot as slot_of};
-ghost use Rattle.follower_log.specs.Streams.{IsStreamOf};
+ghost use Rattle.node_ranges.specs.Ranges.{KeepsRanges, limits_of};
 
 use crate::slot::Slot;
 use crate::state::NodeState;
@@ -16,15 +17,6 @@ impl Slot {
         self.pipe.done()
     }
 
-    /// How many entries of the slot are pending.
-    pub fn len(&self) -> u32
-        ensures count { result ≡ length self.now.pending }
-        ensures most { result ≤ 16 }
-        ensures numbered { self.now.done + result < 2 ^ 32 }
-    {
-        self.pipe.len()
-    }
-
     /// The pending entry at this place from 0, the lowest; none exactly past the end.
     pub fn pending(&self, place: u32) -> Option<&Pending>
         ensures { option_copied result ≡ slice_get self.now.pending place }
@@ -34,10 +26,19 @@ impl Slot {
 }
 
 impl NodeState {
-    /// The own slot of this number.
+    /// How many objects there are: at most 256.
+    pub fn object_count(&self) -> u16
+        ensures count { result ≡ length self.now.entries }
+        ensures most { result ≤ 256 }
+    {
+        self.dir.object_count() as u16
+    }
+
+    /// The own slot of this number. What stands in it keeps the ranges of the node.
     pub fn slot(&self, slot: SlotId) -> &Slot
         requires { slot < length self.now.slots }
-        ensures { result.now ≡ slot_of self.now slot }
+        ensures value { result.now ≡ slot_of self.now slot }
+        ensures ranges { KeepsRanges (limits_of self.now) self.now }
     {
         &self.slots[slot.place()]
     }
@@ -45,7 +46,7 @@ impl NodeState {
     /// How many entries of the foreign stream have passed, as far as the node knows; the lowest stored one has this
     /// number.
     pub fn stored_done(&self, s: Stream) -> u32
-        requires { IsStreamOf self.now.logs s }
+        requires { stream_fits (limits_of self.now) s ≡ true }
         ensures passed { result ≡ (log self.now s).done }
         ensures numbered { result + length (log self.now s).kept < 2 ^ 32 }
     {
@@ -54,7 +55,7 @@ impl NodeState {
 
     /// The stored entry of the foreign stream at this place from 0, the lowest; none exactly past the end.
     pub fn stored(&self, s: Stream, place: u32) -> Option<&Kept>
-        requires { IsStreamOf self.now.logs s }
+        requires { stream_fits (limits_of self.now) s ≡ true }
         ensures { option_copied result ≡ slice_get (log self.now s).kept place }
     {
         self.logs.kept(s, place)
