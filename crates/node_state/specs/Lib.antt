@@ -3,3 +3,5 @@ pub mod Done
 pub mod EffectLaws
 pub mod Changes
 pub mod Shown
+pub mod SlotTries
+pub mod Requests
