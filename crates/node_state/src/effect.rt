@@ -1,5 +1,5 @@
 //! What a call of a node sends and passes.
-ghost use Rattle.std.specs.Prelude.{◌≡◌, ◌<◌, ◌≤◌, [], ◌∷◌, ◌++◌, length, take, IfOk};
+ghost use Rattle.std.specs.Prelude.{◌≡◌, ◌<◌, ◌≤◌, [], ◌∷◌, ◌++◌, length, nat_le, take, IfOk};
 ghost use Rattle.node_state.specs.Effect.{IsCleared};
 
 use std::alloc::Global;
@@ -51,6 +51,14 @@ impl Letters {
         ensures most { result ≤ 64 }
     {
         self.items.len()
+    }
+
+    /// Whether no further letter is kept.
+    pub fn is_full(&self) -> bool
+        ensures full { result ≡ nat_le 64 (length self.now) }
+        ensures most { length self.now ≤ 64 }
+    {
+        self.items.len() >= ROOM
     }
 
     fn clear(&mut self)
