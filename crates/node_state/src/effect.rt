@@ -84,14 +84,14 @@ pub struct PassedList {
 }
 
 impl Model for PassedList {
-    ghost use Rattle.std.specs.Prelude.{List, ◌≤◌, vec_capacity};
+    ghost use Rattle.std.specs.Prelude.{List, ◌≤◌, length, vec_capacity};
     ghost use Rattle.zeus_base.specs.declared.step.Passed.{Passed};
 
     ghost Value = { List Passed };
 
     ghost view = { λ l. l.items.items };
 
-    ghost invariant = { λ l. 72 ≤ vec_capacity l.items };
+    ghost invariant = { λ l. (72 ≤ vec_capacity l.items) × (length l.items.items ≤ 72) };
 }
 
 impl PassedList {
@@ -109,9 +109,10 @@ impl PassedList {
         self.items.as_slice()
     }
 
-    /// How many there are.
+    /// How many there are; at most 72.
     pub fn len(&self) -> usize
-        ensures { result ≡ length self.now }
+        ensures count { result ≡ length self.now }
+        ensures most { result ≤ 72 }
     {
         self.items.len()
     }

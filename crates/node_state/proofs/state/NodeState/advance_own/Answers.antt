@@ -1,4 +1,4 @@
-use Rattle.std.proofs.Common.{◌∙◌, refl}
+use Rattle.std.proofs.Common.{◌∙◌, ap, refl}
 use Rattle.zeus_model.specs.Commit.{advance_own}
 use Rattle.reliable_commit.specs.AdvanceLaws.{AreHeld-advanced}
 use Rattle.node_ranges.specs.CommitRules.{advance_own-keeps}
