@@ -1,13 +1,12 @@
-// A library with one function.
+//! The transactions of a node's slots: begun, and tried until they are read, refused or committed.
 #![tactic(auto)]
 
-ghost use Rattle.std.specs.Prelude.{◌≡◌};
-ghost use Rattle.local_rules.specs.Echo.{echo_of};
+mod begins;
+mod reads;
+mod tries;
+mod writes;
 
-// The `ensures` clause is the contract: what `echo` returns is `echo_of` of its argument, a definition
-// in `specs/Echo.antt`, which a caller's clause can cite too.
-pub fn echo(x: usize) -> usize
-    ensures { result ≡ echo_of x }
-{
-    x
-}
+pub use begins::begin;
+pub use node_state::{Effect, NodeState};
+pub use tries::try_slot;
+pub use zeus_model::{Begin, Tried};
