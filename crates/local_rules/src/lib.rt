@@ -3,6 +3,8 @@
 
 mod begins;
 mod reads;
+#[cfg(test)]
+mod tests;
 mod tries;
 mod writes;
 

@@ -20,7 +20,7 @@ use zeus_model::Tried;
 pub fn try_slot(node: &mut NodeState, slot: SlotId, out: &mut Effect) -> Tried
     requires slot { slot < length node.old.slots }
     requires sent { length out.old.sent ≤ 64 }
-    requires passed { length out.old.passed < 64 }
+    requires passed { length out.old.passed < 72 }
     ensures { IsDone (try_slot node.old slot) result node.new out.old out.new }
 {
     if node.is_stopped() {

@@ -21,4 +21,4 @@ pub returns-in-WornOut : goal.returns-in-WornOut
 returns-in-WornOut c = λ n h. write-worn n _ _ _ _ h _ c.in-WornOut.is c.requires.sent
 
 pub returns-in-Committed : goal.returns-in-Committed
-returns-in-Committed c = λ n h. write-committed n _ _ _ _ h _ _ _ _ _ _ c.in-Committed.is c.send_newest.ensures c.pass_own.ensures
+returns-in-Committed c = λ n h. write-committed n _ _ _ _ h _ _ _ _ _ _ c.in-Committed.is c.send_newest.ensures c.pass_own.ensures.acted
