@@ -1,5 +1,5 @@
 //! What a call of a node sends and passes.
-ghost use Rattle.std.specs.Prelude.{◌≡◌, ◌<◌, ◌≤◌, [], ◌∷◌, ◌++◌, length, take, IfOk};
+ghost use Rattle.std.specs.Prelude.{◌≡◌, ◌<◌, ◌≤◌, [], ◌∷◌, ◌++◌, length, nat_le, take, IfOk};
 ghost use Rattle.node_state.specs.Effect.{IsCleared};
 
 use std::alloc::Global;
@@ -53,6 +53,14 @@ impl Letters {
         self.items.len()
     }
 
+    /// Whether no further letter is kept.
+    pub fn is_full(&self) -> bool
+        ensures full { result ≡ nat_le 64 (length self.now) }
+        ensures most { length self.now ≤ 64 }
+    {
+        self.items.len() >= ROOM
+    }
+
     fn clear(&mut self)
         ensures { self.new ≡ [] }
     {
@@ -76,14 +84,14 @@ pub struct PassedList {
 }
 
 impl Model for PassedList {
-    ghost use Rattle.std.specs.Prelude.{List, ◌≤◌, vec_capacity};
+    ghost use Rattle.std.specs.Prelude.{List, ◌≤◌, length, vec_capacity};
     ghost use Rattle.zeus_base.specs.declared.step.Passed.{Passed};
 
     ghost Value = { List Passed };
 
     ghost view = { λ l. l.items.items };
 
-    ghost invariant = { λ l. 72 ≤ vec_capacity l.items };
+    ghost invariant = { λ l. (72 ≤ vec_capacity l.items) × (length l.items.items ≤ 72) };
 }
 
 impl PassedList {
@@ -101,9 +109,10 @@ impl PassedList {
         self.items.as_slice()
     }
 
-    /// How many there are.
+    /// How many there are; at most 72.
     pub fn len(&self) -> usize
-        ensures { result ≡ length self.now }
+        ensures count { result ≡ length self.now }
+        ensures most { result ≤ 72 }
     {
         self.items.len()
     }

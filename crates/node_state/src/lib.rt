@@ -7,9 +7,11 @@ mod effect;
 mod local;
 mod ownership;
 mod passes;
+mod proposals;
 mod requests;
 mod slot;
 mod state;
+mod tick;
 
 pub use arbitration::{Ack, Decision};
 pub use attempt::SlotTry;

@@ -1,7 +1,5 @@
-use Rattle.std.proofs.Common.{◌≡◌, ◌<◌, ◌∙◌, length, refl, ap}
+use Rattle.std.proofs.Common.{◌∙◌, ap, refl}
 use Rattle.zeus_model.specs.Commit.{advance_own}
-use Rattle.zeus_model.specs.State.{Slot}
-use Rattle.object_table.specs.Entries.{AreEntriesWithin}
 use Rattle.reliable_commit.specs.AdvanceLaws.{AreHeld-advanced}
 use Rattle.node_ranges.specs.CommitRules.{advance_own-keeps}
 use Rattle.node_ranges.specs.Derived.{entries-within}
