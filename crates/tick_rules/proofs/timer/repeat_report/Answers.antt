@@ -1,4 +1,4 @@
-use Rattle.std.proofs.Common.{sym, ◌∙◌, arith}
+use Rattle.std.proofs.Common.{sym, arith}
 use Rattle.node_state.specs.EffectLaws.{adds_nothing}
 use Rattle.tick_rules.proofs.Telling.{report-early, report-none, report-told}
 use Rattle.tick_rules.proofs.timer.repeat_report.Goals.{else-epoch-gt1-via-then-epoch-gt1+else-has_reported, else-epoch-gt1-via-else-epoch-gt1}
