@@ -1,6 +1,6 @@
 -- What the parts of a node make of it, as the definitions of commit say it.
 use Rattle.std.specs.Prelude.{if◌then◌else◌, ◌&&◌, ◌==◌, not}
-use Rattle.std.proofs.Common.{ℕ, ◌≡◌, ◌<◌, ◌-◌, Bool, true, false, List, Option, length, refl, sym, ap, ◌∙◌}
+use Rattle.std.proofs.Common.{ℕ, ◌≡◌, ◌<◌, ◌≤◌, ◌-◌, Bool, true, false, List, Option, length, refl, sym, ap, ◌∙◌}
 use Rattle.std.proofs.Math.ListN.{get_or, set}
 use Rattle.std.proofs.lemmas.Bool.{cond_both}
 use Rattle.zeus_base.specs.Nodes.{has}
@@ -18,6 +18,7 @@ use Rattle.zeus_model.specs.Receive.{on_recovered}
 use Rattle.zeus_model.specs.State.{Node, Slot, StreamLog, no_slot, slot, with_slot}
 use Rattle.zeus_model.specs.Tables.{nth, put}
 use Rattle.commit_pipeline.specs.Pipes.{Waiting, acknowledged, counts}
+use Rattle.crash_replay.specs.Replay.{HasStreams, IsNodeWith as IsReplaying}
 use Rattle.follower_log.specs.Streams.{IsStreamOf, outcome_of_ack}
 use Rattle.reliable_commit.specs.Following.{IsFollowed, IsNodeWith}
 use Rattle.reliable_commit.specs.Advancing.{IsMemberWith, IsOwnWith}
@@ -140,3 +141,23 @@ pub on_recovered-keeps : (n : Node) (from : ℕ) → from < length n.logs → Ke
 unfolding on_recovered
 on_recovered-keeps n from less k =
     cond_both (has from n.reported) _ _ (λ (d : Did Outcome). KeepsRanges (limits_of n) d.node) (λ _. k) (λ _. KeepsRanges-heard (limits_of n) n from less k)
+
+-- ---- streams to be replayed
+
+-- the streams that a node has
+pub has_streams : (n : Node) (nodes slots : ℕ) → nodes ≡ length n.logs → slots ≡ length n.slots → KeepsRanges (limits_of n) n → HasStreams nodes slots n.logs
+has_streams n nodes slots a b k =
+    record { by_node = sym a; by_slot = λ i h. k.sizes.streams i (rw a at h) ∙ sym b }
+
+pub few_nodes : (n : Node) (nodes : ℕ) → nodes ≡ length n.logs → KeepsRanges (limits_of n) n → nodes ≤ 8
+few_nodes n nodes a k = rw a k.sizes.most.nodes
+
+pub few_slots : (n : Node) (slots : ℕ) → slots ≡ length n.slots → KeepsRanges (limits_of n) n → slots ≤ 8
+few_slots n slots a k = rw a k.sizes.most.slots
+
+pub replaying : (n : Node) (slots : ℕ) → slots ≡ length n.slots → IsReplaying n n.logs n.members slots
+replaying n slots a = record { logs = refl; members = refl; slots = sym a }
+
+-- a node that keeps the ranges of another's tables has tables of the same sizes
+pub limits_of-kept : (n m : Node) → KeepsRanges (limits_of n) m → limits_of m ≡ limits_of n
+limits_of-kept n m k = rw (k.sizes.nodes, k.sizes.slots, k.sizes.entries) refl

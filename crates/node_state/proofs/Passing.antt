@@ -1,10 +1,8 @@
 -- A stream that advances, with what is told and noted of it.
-use Rattle.std.proofs.Common.{ℕ, ◌≡◌, ◌<◌, List, [], ◌∷◌, length, refl, sym, ap, ◌∙◌}
+use Rattle.std.proofs.Common.{ℕ, ◌≡◌, ◌<◌, length, ap}
 use Rattle.zeus_base.specs.declared.order.Stream.{Stream}
-use Rattle.zeus_packet.specs.declared.letter.Body.{Body}
 use Rattle.zeus_packet.specs.declared.letter.Body.TheVariants.{RVal}
-use Rattle.zeus_packet.specs.declared.letter.Letter.{Letter}
-use Rattle.zeus_model.specs.Act.{Act, letter, to_each}
+use Rattle.zeus_model.specs.Act.{Act, to_each}
 use Rattle.zeus_model.specs.Commit.{advance_kept, advance_own}
 use Rattle.zeus_model.specs.State.{Node}
 use Rattle.reliable_commit.specs.Advancing.{passed_by}
@@ -12,14 +10,7 @@ use Rattle.reliable_commit.specs.Frames.{advance_kept-frame, advance_own-frame}
 use Rattle.reliable_commit.specs.declared.advance.Advance.{Advance}
 use Rattle.node_state.specs.declared.effect.Effect.{Effect}
 use Rattle.node_state.specs.Done.{Adds, IsActed}
-
--- a letter depends on its sender's number and epoch alone
-pub to_each-same : (n m : Node) (tos : List ℕ) (body : Body) → n.me ≡ m.me → n.epoch ≡ m.epoch → to_each n tos body ≡ to_each m tos body
-unfolding to_each
-to_each-same n m [] body me epoch = refl
-to_each-same n m (to ∷ tos) body me epoch =
-    let first : letter n to body ≡ letter m to body = λ i. record { from = me i; to = to; epoch = epoch i; body = body } in
-    ap (λ (l : Letter). l ∷ to_each n tos body) first ∙ ap (λ ls. letter m to body ∷ ls) (to_each-same n m tos body me epoch)
+use Rattle.node_state.specs.LetterLaws.{to_each-same}
 
 advance_own-me : (n : Node) (s : ℕ) → s < length n.slots → n.me ≡ (advance_own n s).node.me
 advance_own-me n s h = ap (λ (m : Node). m.me) (advance_own-frame n s h)

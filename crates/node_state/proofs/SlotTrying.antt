@@ -1,5 +1,5 @@
 -- A try of a slot's current transaction, from the tables that it is made on to the whole node.
-use Rattle.std.proofs.Common.{All, ℕ, ◌≡◌, ◌<◌, Bool, true, false, List, [], ◌∷◌, ◌++◌, Option, Some, None, length, refl, sym, ap, ◌∙◌}
+use Rattle.std.proofs.Common.{All, ℕ, ◌≡◌, ◌<◌, true, false, List, Option, Some, None, length, refl, sym, ap, ◌∙◌}
 use Rattle.zeus_base.specs.TableLaws.{nth-put_same, put-nth}
 use Rattle.zeus_txn.specs.Ops.{is_write, named}
 use Rattle.zeus_txn.specs.declared.ops.Op.{Op}
@@ -8,9 +8,8 @@ use Rattle.zeus_model.specs.declared.answer.Tried.TheVariants as rules
 use Rattle.zeus_model.specs.declared.state.Copy.{Copy}
 use Rattle.zeus_model.specs.declared.state.Current.{Current}
 use Rattle.zeus_model.specs.declared.state.Entry.{Entry}
-use Rattle.zeus_model.specs.Local.{hindrance, run_here, commit, commit_entry, full_cause, held_elsewhere, holder_cause, owner_cause, worn_cause, write_cause, write_row}
-use Rattle.zeus_model.specs.State.{Node, Slot, holder, no_slot, owns, slot}
-use Rattle.zeus_model.specs.Tables.{first_of, or_else, where_true}
+use Rattle.zeus_model.specs.Local.{hindrance, run_here, commit, commit_entry, write_cause, write_row}
+use Rattle.zeus_model.specs.State.{Node, Slot, no_slot, slot}
 use Rattle.object_table.specs.declared.hold.Hold.{Hold}
 use Rattle.object_table.specs.Holding.{AreHeld}
 use Rattle.object_table.specs.Table.{Table}
@@ -28,42 +27,8 @@ use Rattle.node_ranges.specs.LocalRules.{KeepsRanges-commit}
 use Rattle.node_state.proofs.Slots.{slot_read, slot_written}
 use Rattle.node_state.specs.declared.attempt.SlotTry.{SlotTry}
 use Rattle.node_state.specs.declared.attempt.SlotTry.TheVariants.{Nothing, Read, Write}
+use Rattle.node_state.specs.SlotTryLaws.{IsUncommitted, uncommitted-cause}
 use Rattle.node_state.specs.SlotTries.{IsCurrentWithin, IsNodeAt, IsTried, current_after, with_tables}
-
--- ---- what stands against a transaction is no commit
-
-unfoldable IsUncommitted : Option Tried → Type 0
-IsUncommitted None = Unit {0}
-IsUncommitted (Some (rules.Committed id number reply)) = ⊥
-IsUncommitted (Some t) = Unit {0}
-
-uncommitted-where : (b : Bool) (t : Tried) → IsUncommitted (Some t) → IsUncommitted (where_true b t)
-unfolding where_true IsUncommitted
-uncommitted-where true t h = h
-uncommitted-where false t h = tt
-
-uncommitted-or : (a b : Option Tried) → IsUncommitted a → IsUncommitted b → IsUncommitted (or_else a b)
-unfolding or_else
-uncommitted-or None b h k = k
-uncommitted-or (Some t) b h k = h
-
-uncommitted-first : (f : ℕ → Option Tried) (xs : List ℕ) → ((x : ℕ) → IsUncommitted (f x)) → IsUncommitted (first_of f xs)
-unfolding first_of IsUncommitted
-uncommitted-first f [] h = tt
-uncommitted-first f (x ∷ xs) h = uncommitted-or (f x) (first_of f xs) (h x) (uncommitted-first f xs h)
-
-uncommitted-held : (s x : ℕ) (o : Option ℕ) → IsUncommitted (held_elsewhere s x o)
-unfolding held_elsewhere IsUncommitted
-uncommitted-held s x None = tt
-uncommitted-held s x (Some t) = uncommitted-where _ (rules.Held x t) tt
-
-uncommitted-cause : (n : Node) (s : ℕ) (tx : List Op) → IsUncommitted (write_cause n s tx)
-unfolding write_cause full_cause owner_cause holder_cause worn_cause IsUncommitted
-uncommitted-cause n s tx =
-    uncommitted-or _ _ (uncommitted-where _ rules.PipeFull tt)
-    (uncommitted-or _ _ (uncommitted-first _ _ (λ x. uncommitted-where _ (rules.NotOwner x) tt))
-    (uncommitted-or _ _ (uncommitted-first _ _ (λ x. uncommitted-held s x (holder n x)))
-    (uncommitted-or _ _ (uncommitted-where _ rules.WornOut tt) (uncommitted-first _ _ (λ x. uncommitted-where _ rules.WornOut tt)))))
 
 -- ---- the tables after a try, as the node after it
 

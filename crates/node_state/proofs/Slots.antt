@@ -1,12 +1,10 @@
 -- The own slots of a node, read and set by index.
-use Rattle.std.proofs.Common.{ℕ, ◌≡◌, ◌<◌, List, Option, length, refl, sym, ap, ◌∙◌}
+use Rattle.std.proofs.Common.{ℕ, ◌≡◌, ◌<◌, Option, length, refl, sym}
 use Rattle.std.proofs.Math.ListN.{get_or, set}
-use Rattle.zeus_base.specs.TableLaws.{nth_read, put-nth, put-set}
-use Rattle.zeus_model.specs.declared.state.Copy.{Copy}
+use Rattle.zeus_base.specs.TableLaws.{nth_read, put-set}
 use Rattle.zeus_model.specs.declared.state.Current.{Current}
 use Rattle.zeus_model.specs.State.{Node, Slot, no_slot, slot, with_slot}
 use Rattle.zeus_model.specs.Local.{with_current}
-use Rattle.zeus_model.specs.Tables.{put}
 
 pub slot_read : (n : Node) (s : ℕ) (l : Slot) → s < length n.slots → l ≡ get_or n.slots s l → slot n s ≡ l
 slot_read n s l h e = nth_read no_slot n.slots s l h e

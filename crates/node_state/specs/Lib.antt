@@ -5,3 +5,5 @@ pub mod Changes
 pub mod Shown
 pub mod SlotTries
 pub mod Requests
+pub mod SlotTryLaws
+pub mod LetterLaws

@@ -1,5 +1,8 @@
 -- The try of a slot's current transaction at a node, before a letter is sent.
-use Rattle.std.specs.Prelude.{All, ℕ, ◌≡◌, ◌<◌, length, true, false, List, Option, Some, None}
+use Rattle.std.specs.Prelude.{All, ℕ, ◌+◌, ◌-◌, slice_get, ◌≡◌, ◌<◌, length, true, false, List, Option, Some, None}
+use Rattle.zeus_base.specs.declared.order.Stream.{Stream}
+use Rattle.zeus_packet.specs.declared.letter.RInv.{RInv as Invalidation}
+use Rattle.zeus_model.specs.declared.state.Pending.{Pending}
 use Rattle.zeus_txn.specs.Ops.{is_write, named}
 use Rattle.zeus_txn.specs.declared.ops.Op.{Op}
 use Rattle.zeus_model.specs.declared.state.Copy.{Copy}
@@ -70,3 +73,15 @@ unfoldable pub IsTried : Node → ℕ → SlotTry → Node → Type 0
 IsTried n s Nothing m = IsNothingTried n s m
 IsTried n s (Read id t) m = IsReadTried n s id t m
 IsTried n s (Write id t) m = IsWriteTried n s id t m
+
+-- ---- the entry that a commit made
+
+-- the pending entry at this place, as the stream of the slot sends it
+unfoldable pub entry_letter : Stream → Slot → ℕ → Option Pending → Option Invalidation
+entry_letter stream l place None = None
+entry_letter stream l place (Some p) =
+    Some (record { stream = stream; number = l.done + place; done = l.done; followers = p.followers; writes = p.writes })
+
+-- the last pending entry
+abbrev pub newest_of : Stream → Slot → Option Invalidation
+newest_of stream l = entry_letter stream l (length l.pending - 1) (slice_get l.pending (length l.pending - 1))

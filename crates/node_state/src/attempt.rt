@@ -3,15 +3,16 @@ ghost use Rattle.std.specs.Prelude.{◌≡◌, ℕ, length};
 ghost use Rattle.zeus_model.specs.State.{Node};
 ghost use Rattle.object_table.specs.Entries.{AreNamed};
 ghost use Rattle.object_table.specs.Holding.{AreHeld};
-ghost use Rattle.node_state.specs.SlotTries.{IsCurrentWithin, IsNodeAt, IsTried, current_after, with_tables};
+ghost use Rattle.node_state.specs.SlotTries.{IsCurrentWithin, IsNodeAt, IsTried, current_after, newest_of, with_tables};
 
 use crate::slot::Slot;
 use local_txn::{WriteTry, try_write};
 use object_table::Copies;
 use owner_entry::Dir;
 use replica_reads::{ReadTry, try_read};
-use zeus_base::{NodeId, SlotId, TxId};
+use zeus_base::{NodeId, SlotId, Stream, TxId};
 use zeus_model::Current;
+use zeus_packet::RInv;
 
 /// What becomes of a try of a slot's current transaction.
 #[derive(Debug, Drop)]
@@ -57,6 +58,21 @@ impl Slot {
         let tried = try_write(copies, dir, &mut self.pipe, me, slot, id, &current.tx);
         self.leave(&tried);
         SlotTry::Write(id, tried)
+    }
+
+    /// The last pending entry, as the slot's stream sends it; none where nothing is pending.
+    pub(crate) fn newest(&self, stream: &Stream) -> Option<RInv>
+        ensures { result ≡ newest_of stream.now self.now }
+    {
+        let place = self.pipe.len().saturating_sub(1);
+        let entry = self.pipe.pending(place)?;
+        Some(RInv {
+            stream: *stream,
+            number: self.pipe.done() + place,
+            done: self.pipe.done(),
+            followers: entry.followers,
+            writes: entry.writes.duplicate(),
+        })
     }
 
     /// A transaction that is committed is the slot's current one no more.

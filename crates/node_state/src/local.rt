@@ -4,13 +4,15 @@ ghost use Rattle.zeus_model.specs.Local.{with_current};
 ghost use Rattle.std.specs.List.{list_any};
 ghost use Rattle.zeus_model.specs.Membership.{is_wanted, names_it};
 ghost use Rattle.node_ranges.specs.Ranges.{FitsCurrent, limits_of};
-ghost use Rattle.node_state.specs.SlotTries.{IsTried};
+ghost use Rattle.zeus_model.specs.State.{own_stream, slot as slot_of};
+ghost use Rattle.node_state.specs.SlotTries.{IsTried, newest_of};
 
 use crate::attempt::SlotTry;
 use crate::slot::Slot;
 use crate::state::NodeState;
-use zeus_base::{ObjId, SlotId};
+use zeus_base::{ObjId, SlotId, Stream};
 use zeus_model::Current;
+use zeus_packet::RInv;
 
 impl NodeState {
     /// The slot has this current transaction, or none.
@@ -32,6 +34,19 @@ impl NodeState {
     {
         let own = &mut self.slots[slot.place()];
         own.try_current(&mut self.copies, &self.dir, self.me, slot)
+    }
+
+    /// The last pending entry of the slot, as its stream sends it; none where nothing is pending.
+    pub fn newest(&self, slot: SlotId) -> Option<RInv>
+        requires { slot < length self.now.slots }
+        ensures { result ≡ newest_of (own_stream self.now slot) (slot_of self.now slot) }
+    {
+        let stream = Stream {
+            node: self.me,
+            slot,
+        };
+        let own = &self.slots[slot.place()];
+        own.newest(&stream)
     }
 
     /// Whether a current transaction of the node names the object.

@@ -129,6 +129,7 @@ impl NodeState {
         requires proposal { proposal_fits (limits_of self.old) p.now ≡ true }
         ensures answer { result ≡ ack_at (gather self.old obj) from p.now content }
         ensures after { self.new ≡ with_gather self.old obj (gathered (gather self.old obj) from p.now content) }
+        ensures ranges { KeepsRanges (limits_of self.old) self.old }
     {
         self.gathers.take_ack(obj, from, p, content)
     }

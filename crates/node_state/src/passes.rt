@@ -19,8 +19,9 @@ impl NodeState {
     pub fn pass_own(&mut self, slot: SlotId, out: &mut Effect)
         requires slot { slot < length self.old.slots }
         requires sent { length out.old.sent ≤ 64 }
-        requires passed { length out.old.passed < 64 }
-        ensures { IsActed (advance_own self.old slot) self.new out.old out.new }
+        requires passed { length out.old.passed < 72 }
+        ensures acted { IsActed (advance_own self.old slot) self.new out.old out.new }
+        ensures limits { limits_of self.new ≡ limits_of self.old }
     {
         let stream = Stream {
             node: self.me,
@@ -35,8 +36,9 @@ impl NodeState {
     pub fn pass_kept(&mut self, stream: &Stream, out: &mut Effect)
         requires fits { stream_fits (limits_of self.old) stream.now ≡ true }
         requires sent { length out.old.sent ≤ 64 }
-        requires passed { length out.old.passed < 64 }
-        ensures { IsActed (advance_kept self.old stream.now) self.new out.old out.new }
+        requires passed { length out.old.passed < 72 }
+        ensures acted { IsActed (advance_kept self.old stream.now) self.new out.old out.new }
+        ensures limits { limits_of self.new ≡ limits_of self.old }
     {
         let advance = self.advance_kept(*stream);
         self.tell(stream, &advance, out);
@@ -45,7 +47,7 @@ impl NodeState {
     /// Tells who is to be told how many entries of the stream have passed, and notes the pass, if there is one.
     fn tell(&self, stream: &Stream, advance: &Advance, out: &mut Effect)
         requires sent { length out.old.sent ≤ 64 }
-        requires passed { length out.old.passed < 64 }
+        requires passed { length out.old.passed < 72 }
         ensures { Adds (to_each self.now advance.now.tell (RVal stream.now advance.now.after)) (passed_by stream.now advance.now) out.old out.new }
     {
         let body = Body::RVal(*stream, advance.after);

@@ -1,13 +1,12 @@
-// A library with one function.
+//! The rules of ownership at a node: requests, proposals, their acknowledgements, and decided placements.
 #![tactic(auto)]
 
-ghost use Rattle.std.specs.Prelude.{◌≡◌};
-ghost use Rattle.ownership_rules.specs.Echo.{echo_of};
+mod decide;
+mod gather;
+mod propose;
+mod request;
+mod tell;
 
-// The `ensures` clause is the contract: what `echo` returns is `echo_of` of its argument, a definition
-// in `specs/Echo.antt`, which a caller's clause can cite too.
-pub fn echo(x: usize) -> usize
-    ensures { result ≡ echo_of x }
-{
-    x
-}
+pub use gather::on_oack;
+pub use propose::{on_oinv, on_oval};
+pub use request::on_oreq;

@@ -1,9 +1,9 @@
-use Rattle.std.proofs.Common.{refl}
+use Rattle.std.proofs.Common.{refl, ap, ◌∙◌}
 use Rattle.zeus_model.specs.Commit.{advance_kept}
 use Rattle.node_ranges.specs.CommitRules.{advance_kept-keeps}
 use Rattle.node_ranges.specs.Ranges.{limits_of}
 use Rattle.node_state.specs.Shown.{shown}
-use Rattle.node_state.proofs.Committing.{advance_kept-node, followed, itself-member, slots-of}
+use Rattle.node_state.proofs.Committing.{advance_kept-node, limits_of-kept, followed, itself-member, slots-of}
 use Rattle.node_state.proofs.Keeping.{IsKept-beside}
 use Rattle.node_state.proofs.state.NodeState.advance_kept.Goals as goal
 
@@ -22,3 +22,9 @@ pub returns-clause-after : goal.returns-clause-after
 returns-clause-after c =
     let n = shown c.self.inside in
     rw (← c.self.view_is) (advance_kept-node n c.args.s _ _ (c.advance_kept.ensures.copies n (itself-member n)) (c.advance_kept.ensures.logs n (itself-member n)))
+
+pub returns-clause-limits : goal.returns-clause-limits
+returns-clause-limits c =
+    let n = shown c.self.inside in
+    let becomes = advance_kept-node n c.args.s _ _ (c.advance_kept.ensures.copies n (itself-member n)) (c.advance_kept.ensures.logs n (itself-member n)) in
+    rw (← c.self.view_is) (ap limits_of becomes ∙ limits_of-kept n (advance_kept n c.args.s).node (advance_kept-keeps (limits_of n) c.args.s (rw (← c.self.view_is) at c.requires) n c.self.invariant.ranges).node)
