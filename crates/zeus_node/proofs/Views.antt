@@ -14,7 +14,6 @@ use Rattle.node_state.specs.declared.effect.Effect.{Effect}
 use Rattle.node_state.specs.Done.{IsActed, IsDone}
 use Rattle.node_state.specs.EffectLaws.{adds_nothing, done_then}
 
-
 second : {A : Type 0} (a b : Bool) (x y z : A) → a ≡ false → b ≡ true → (if a then x else (if b then y else z)) ≡ y
 second a b x y z e f = rw (e, f) refl
 
