@@ -1,8 +1,7 @@
 -- What a node says again of a proposal that it holds.
 use Rattle.std.proofs.Common.{ℕ, ◌≡◌, Bool, true, false, List, [], ◌∷◌, ◌++◌, Option, Some, None, refl, sym, ap, ◌∙◌}
-use Rattle.std.specs.Prelude.{◌&&◌, is_none, is_some, if◌then◌else◌}
+use Rattle.std.specs.Prelude.{is_none, is_some, if◌then◌else◌}
 use Rattle.zeus_packet.specs.Place.{source}
-use Rattle.zeus_packet.specs.declared.letter.Letter.{Letter}
 use Rattle.zeus_packet.specs.declared.place.Proposal.{Proposal}
 use Rattle.zeus_model.specs.Membership.{letters_of, own_acknowledgement, repeat_proposal, repeat_proposals}
 use Rattle.zeus_model.specs.Ownership.{acknowledgement, collector, invalidations, is_source, unready_cause}

@@ -1,5 +1,5 @@
 -- What a node asks when it leaves the replicas of an object.
-use Rattle.std.proofs.Common.{ℕ, ◌≡◌, Bool, true, false, List, [], ◌∷◌, Option, Some, None, refl, sym, ap, ◌∙◌}
+use Rattle.std.proofs.Common.{ℕ, ◌≡◌, true, false, List, [], ◌∷◌, Option, Some, None, refl}
 use Rattle.zeus_packet.specs.declared.place.Want.TheVariants.{Leave}
 use Rattle.zeus_model.specs.Local.{requests}
 use Rattle.zeus_model.specs.Membership.{greatest, leaves, repeat_leave}

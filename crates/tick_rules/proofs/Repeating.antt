@@ -1,5 +1,5 @@
 -- Entries that are sent again, one after another.
-use Rattle.std.proofs.Common.{ℕ, zero, suc, ◌≡◌, ◌<◌, ◌≤◌, ◌+◌, Bool, true, false, List, [], ◌∷◌, ◌++◌, Option, Some, None, length, drop, map, refl, sym, ap, ◌∙◌, add-one, arith}
+use Rattle.std.proofs.Common.{ℕ, zero, suc, ◌≡◌, ◌<◌, ◌+◌, true, false, List, [], ◌∷◌, ◌++◌, Some, None, length, drop, map, refl, sym, ap, ◌∙◌, arith}
 use Rattle.std.specs.Prelude.{slice_get}
 use Rattle.std.proofs.lemmas.List.{drop-map}
 use Rattle.zeus_base.specs.Nodes.{has, meet, without}
@@ -12,7 +12,7 @@ use Rattle.zeus_model.specs.declared.state.Pending.{Pending}
 use Rattle.zeus_model.specs.Act.{letter, to_each}
 use Rattle.zeus_model.specs.Commit.{as_kept}
 use Rattle.zeus_model.specs.Membership.{apart, repeat_entries, repeat_kept, repeat_own}
-use Rattle.zeus_model.specs.State.{Node, Slot, StreamLog, log, own_stream, slot}
+use Rattle.zeus_model.specs.State.{Node, Slot, log, own_stream, slot}
 
 -- ---- receivers
 

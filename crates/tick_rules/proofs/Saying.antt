@@ -1,18 +1,17 @@
 -- What is still to be sent, while letters are added to an effect one after another.
-use Rattle.std.proofs.Common.{ℕ, zero, suc, ◌≡◌, ◌<◌, ◌≤◌, ◌+◌, ◌-◌, Bool, true, false, List, [], ◌∷◌, ◌++◌, length, take, drop, refl, sym, ap, ◌∙◌, add-one, append-nil, append_assoc, arith}
-use Rattle.std.specs.Prelude.{nat_le, not, if◌then◌else◌}
-use Rattle.std.proofs.lemmas.Bool.{leb-true, cond_both}
+use Rattle.std.proofs.Common.{ℕ, suc, ◌≡◌, ◌<◌, ◌≤◌, ◌+◌, ◌-◌, true, false, List, [], ◌∷◌, ◌++◌, length, take, refl, sym, ap, ◌∙◌, add-one, append-nil, append_assoc, arith}
+use Rattle.std.specs.Prelude.{nat_le, if◌then◌else◌}
+use Rattle.std.proofs.lemmas.Bool.{leb-true}
 use Rattle.std.proofs.lemmas.List.{take_all}
 use Rattle.zeus_base.specs.Nodes.{has}
 use Rattle.zeus_base.specs.declared.order.Stream.{Stream}
 use Rattle.zeus_packet.specs.declared.letter.Letter.{Letter}
-use Rattle.zeus_model.specs.Commit.{outside, streams_of, streams_outside}
+use Rattle.zeus_model.specs.Commit.{streams_of, streams_outside}
 use Rattle.zeus_model.specs.Membership.{letters_of}
-use Rattle.zeus_model.specs.State.{Node}
 use Rattle.zeus_model.specs.Tables.{below, numbers_from}
 use Rattle.node_state.specs.declared.effect.Effect.{Effect}
 use Rattle.node_state.specs.Done.{Adds}
-use Rattle.node_state.specs.EffectLaws.{adds_nothing, adds_passes, adds_room, cut_full, cut-append}
+use Rattle.node_state.specs.EffectLaws.{adds_passes, adds_room, cut_full, cut-append}
 
 -- with what is left the effect ends as with all at the start
 pub record StillSends (all rest : List Letter) (before now : Effect) : Type 0 where
@@ -117,3 +116,9 @@ letters-outside f members slots (m ∷ ms) =
       | true ↦ letters-outside f members slots ms
       | false ↦ letters_of-append f (streams_of m slots) rest ∙ ap (λ l. letters_of f (streams_of m slots) ++ l) (letters-outside f members slots ms)
     ]
+
+pub of_stranger-member : (f : Stream → List Letter) (members slots : List ℕ) (m : ℕ) → has m members ≡ true → of_stranger f members slots m ≡ []
+of_stranger-member f members slots m member = rw member refl
+
+pub of_stranger-other : (f : Stream → List Letter) (members slots : List ℕ) (m : ℕ) → has m members ≡ false → of_stranger f members slots m ≡ letters_of f (streams_of m slots)
+of_stranger-other f members slots m other = rw other refl

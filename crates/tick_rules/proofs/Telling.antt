@@ -1,15 +1,19 @@
 -- What a node tells again of its reports, its requests and the passes of its slots.
-use Rattle.std.proofs.Common.{ℕ, ◌≡◌, ◌<◌, ◌≤◌, ◌≢◌, Bool, true, false, List, [], Option, Some, None, length, refl, sym, ap, ◌∙◌, arith}
+use Rattle.std.proofs.Common.{ℕ, ◌≡◌, ◌<◌, ◌≤◌, Bool, true, false, [], Option, Some, None, length, refl, sym, ap, ◌∙◌}
 use Rattle.std.specs.Prelude.{◌&&◌, nat_lt, is_some, if◌then◌else◌}
-use Rattle.std.proofs.lemmas.Bool.{lt-ltb, le-ltb}
+use Rattle.std.proofs.lemmas.Bool.{cond_both, lt-ltb, le-ltb}
 use Rattle.zeus_base.specs.Nodes.{has}
 use Rattle.zeus_packet.specs.declared.letter.Body.TheVariants.{RVal, Recovered}
-use Rattle.zeus_packet.specs.declared.place.Want.TheVariants.{Own, Read}
-use Rattle.zeus_txn.specs.Ops.{is_write, named}
+use Rattle.zeus_txn.specs.Ops.{is_write}
 use Rattle.zeus_model.specs.declared.state.Current.{Current}
-use Rattle.zeus_model.specs.Act.{to_each}
-use Rattle.zeus_model.specs.Membership.{others, repeat_done, repeat_report, repeat_requests}
+use Rattle.zeus_model.specs.Act.{Did, just, sends, to_each}
+use Rattle.zeus_model.specs.declared.answer.Ticked.{Ticked as TickAnswer}
+use Rattle.zeus_model.specs.declared.answer.Ticked.TheVariants.{Stopped, Ticked}
+use Rattle.zeus_model.specs.Membership.{others, repeat_done, repeat_report, repeat_requests, repeats, tick}
 use Rattle.zeus_model.specs.State.{Node, Slot, own_stream, slot}
+use Rattle.node_state.specs.declared.effect.Effect.{Effect}
+use Rattle.node_state.specs.Done.{Adds, IsDone}
+use Rattle.node_state.specs.EffectLaws.{adds_nothing}
 use Rattle.node_state.specs.Requests.{requests_for_copies, requests_to_own}
 
 -- ---- reports
@@ -61,3 +65,19 @@ requests-read n o c is read degree = rw (is, read, degree) refl
 pub requests-none : (n : Node) (o : Option Current) (c : Current) → o ≡ Some c → is_write c.tx ≡ false → is_some n.degree ≡ false → repeat_requests n o ≡ []
 unfolding repeat_requests
 requests-none n o c is read none = rw (is, read, none) refl
+
+-- ---- the whole tick
+
+-- a stopped node does nothing
+pub tick-stopped : (n : Node) (out : Effect) → n.stopped ≡ true → length out.sent ≤ 64 → IsDone (tick n) Stopped n out out
+unfolding tick
+tick-stopped n out stopped room =
+    cond_both n.stopped (just n Stopped) (sends n Ticked (repeats n)) (λ (d : Did TickAnswer). IsDone d Stopped n out out)
+    (λ _. record { says = refl; becomes = refl; adds = adds_nothing out room }) (λ running. absurd cc)
+
+-- a running one says all of it again
+pub tick-running : (n : Node) (before after : Effect) → n.stopped ≡ false → Adds (repeats n) [] before after → IsDone (tick n) Ticked n before after
+unfolding tick
+tick-running n before after running add =
+    cond_both n.stopped (just n Stopped) (sends n Ticked (repeats n)) (λ (d : Did TickAnswer). IsDone d Ticked n before after)
+    (λ stopped. absurd cc) (λ _. record { says = refl; becomes = refl; adds = add })

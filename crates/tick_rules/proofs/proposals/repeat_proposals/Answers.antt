@@ -1,5 +1,5 @@
 use Rattle.std.proofs.Common.{length, sym, arith}
-use Rattle.zeus_model.specs.Membership.{repeat_proposal, repeat_proposals}
+use Rattle.zeus_model.specs.Membership.{repeat_proposal}
 use Rattle.zeus_model.specs.State.{entry}
 use Rattle.node_state.specs.EffectLaws.{adds_nothing}
 use Rattle.tick_rules.proofs.Driving.{proposals-closed, proposals-open}

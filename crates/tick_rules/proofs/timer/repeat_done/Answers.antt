@@ -1,4 +1,4 @@
-use Rattle.std.proofs.Common.{length, refl, arith}
+use Rattle.std.proofs.Common.{length, arith}
 use Rattle.zeus_model.specs.Membership.{repeat_done}
 use Rattle.tick_rules.proofs.Saying.{each-end, each-step}
 use Rattle.tick_rules.proofs.timer.repeat_done.Goals as goal

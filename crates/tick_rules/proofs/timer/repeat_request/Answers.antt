@@ -1,4 +1,4 @@
-use Rattle.std.proofs.Common.{sym, ◌∙◌, arith}
+use Rattle.std.proofs.Common.{sym}
 use Rattle.node_state.specs.EffectLaws.{adds_nothing}
 use Rattle.zeus_model.specs.State.{slot}
 use Rattle.tick_rules.proofs.Saying.{adds_full}
