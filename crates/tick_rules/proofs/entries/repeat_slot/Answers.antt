@@ -11,6 +11,6 @@ loop-entry-preserved c =
 
 pub returns : goal.returns
 returns c =
-    let stream : ◌≡◌ {A = Stream} (record { node = c.me.result; slot = c.args.slot }) (record { node = c.args.node.now.me; slot = c.args.slot }) = ap (λ m. record { node = m; slot = c.args.slot }) c.me.ensures in
+    let stream : ◌≡◌ {A = Stream} (record { node = c.me.result; slot = c.args.slot }) (record { node = c.args.node.now.me; slot = c.args.slot }) = ap (λ m. record { node = m; slot = c.args.slot }) c.me.ensures.number in
     rw (pending-all c.args.node.now c.args.slot c.done-done.result c.slot-own.result.now _ c.slot-own.ensures.value c.done-done.ensures stream)
     (StillSends-end _ _ _ _ (pending-end c.args.node.now _ c.done-done.result c.slot-own.result.now.pending c.loop-entry.place c.in_default.ensures) c.loop-entry.invariant)

@@ -10,7 +10,7 @@ returns-then-is_some c =
 
 pub returns : goal.returns
 returns c =
-    let told = rw (c.collector.ensures, c.me.ensures) at c.acknowledge.ensures in
+    let told = rw (c.collector.ensures, c.me.ensures.number) at c.acknowledge.ensures in
     elim c.else-is_source.branch [
       | else-is_source-via-then-is_source+else-is_some w ↦
           rw (own-ready c.args.node.now c.args.obj c.args.p.now (sym w.if-is_source.ensures) (rw w.unready_cause.ensures at (sym w.if-is_some.ensures))) told

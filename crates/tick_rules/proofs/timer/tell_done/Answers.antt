@@ -10,7 +10,7 @@ returns-then-is_full c = adds_full _ _ c.if-is_full.ensures.full c.is_full.ensur
 pub returns-then-done-gt0 : goal.returns-then-done-gt0
 returns-then-done-gt0 c =
     rw (done-told c.args.node.now c.args.slot c.slot.result.now c.done-done.result c.slot.ensures.value c.done-done.ensures (omega arith))
-    (rw (c.others.ensures, c.me.ensures) at c.send_each.ensures)
+    (rw (c.others.ensures, c.me.ensures.number) at c.send_each.ensures)
 
 pub returns-else-done-gt0 : goal.returns-else-done-gt0
 returns-else-done-gt0 c =
