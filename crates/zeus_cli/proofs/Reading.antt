@@ -1,11 +1,10 @@
 -- What reading says of scripts of the first range.
-use Rattle.std.proofs.Common.{ℕ, ◌≡◌, ◌<◌, false, true, is_none, nat_lt, List, length, Option, Some, None, Ok, Err, ap, refl, arith}
+use Rattle.std.proofs.Common.{ℕ, ◌≡◌, ◌<◌, false, true, nat_lt, List, length, Ok, Err, ap, refl, arith}
 use Rattle.std.proofs.lemmas.Bool.Decides.{nat_tests}
 use Rattle.script_lang.specs.Live.{FitsLive}
 use Rattle.script_lang.specs.Reading.{ReadsScript, fault_at, script_read}
 use Rattle.zeus_cli.specs.Top.{IsNoFirstScript, longest}
 use Rattle.zeus_model.specs.declared.fault.Kind.TheVariants.{Size}
-use Rattle.zeus_model.specs.FirstRange.{IsFirstRange}
 use Rattle.zeus_model.specs.declared.script.Script.{Script}
 
 -- outside a live run there is no further bound
