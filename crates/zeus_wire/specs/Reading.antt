@@ -145,14 +145,17 @@ num_at = do
   n ← u64_at
   gives (Num n)
 
-unfoldable pub text_at : ℕ → Reader Value
-text_at len = do
-  bytes ← checked (list_all is_printable) (bytes_at len)
-  gives (Text bytes)
+unfoldable pub text_at : ℕ → Reader (List ℕ)
+text_at len = checked (list_all is_printable) (bytes_at len)
+
+unfoldable pub text_value_at : ℕ → Reader Value
+text_value_at len = do
+  text ← text_at len
+  gives (Text text)
 
 -- behind the byte 0 a number, and behind another length up to 32 a text
 unfoldable pub num_or_text_at : ℕ → Reader Value
-num_or_text_at len = if len == 0 then num_at else text_at len
+num_or_text_at len = if len == 0 then num_at else text_value_at len
 
 unfoldable pub tagged_value_at : Reader Value
 tagged_value_at = do
@@ -371,3 +374,8 @@ whole count (Err fault) = Err (placed count fault)
 -- the packet that the bytes spell, or the first fault and its place
 unfoldable pub decoded : Limits → List ℕ → Result Packet WireFault
 decoded limits bytes = whole (length bytes) (packet_at limits bytes)
+
+-- what a reader of the program gave, with the bytes that it left, is what reading gives
+abbrev pub IsRead : {A : Type 0} → Result A Fault → List ℕ → Result (A × List ℕ) Fault → Type 0
+IsRead (Ok x) rest read = read ≡ Ok (x, rest)
+IsRead (Err fault) rest read = read ≡ Err fault

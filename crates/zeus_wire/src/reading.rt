@@ -1,0 +1,5 @@
+//! Packets from bytes.
+mod body;
+mod fields;
+mod input;
+mod values;
