@@ -371,6 +371,15 @@ unfoldable pub whole : ℕ → Result (Packet × List ℕ) Fault → Result Pack
 whole count (Ok x) = if length x.1 == 0 then Ok x.0 else Err (wire.Extra (count - length x.1))
 whole count (Err fault) = Err (placed count fault)
 
+-- the packet at the front of the bytes and how many bytes it has
+unfoldable pub counted : ℕ → Result (Packet × List ℕ) Fault → Result (Packet × ℕ) WireFault
+counted count (Ok x) = Ok (x.0, count - length x.1)
+counted count (Err fault) = Err (placed count fault)
+
+-- the packet at the front of the bytes, or the first fault and its place
+unfoldable pub decoded_front : Limits → List ℕ → Result (Packet × ℕ) WireFault
+decoded_front limits bytes = counted (length bytes) (packet_at limits bytes)
+
 -- the packet that the bytes spell, or the first fault and its place
 unfoldable pub decoded : Limits → List ℕ → Result Packet WireFault
 decoded limits bytes = whole (length bytes) (packet_at limits bytes)

@@ -5,3 +5,4 @@ mod fault;
 mod reading;
 
 pub use fault::WireFault;
+pub use reading::{decode, decode_front};
