@@ -1,3 +1,4 @@
 pub mod Sets
 pub mod Texts
 pub mod Writes
+pub mod Room

@@ -4,7 +4,8 @@ use Rattle.std.specs.List.{list_all}
 use Rattle.std.proofs.lemmas.Bool.{lt-ltb}
 use Rattle.std.proofs.lemmas.Bool.Decides.{nat_tests}
 use Rattle.std.proofs.lemmas.Nat.{pow_pos}
-use Rattle.zeus_base.specs.Bits.{nodes_from, nodes_of}
+use Rattle.zeus_base.specs.Bits.{nodes_from, nodes_of, bits_of, bits_of-view}
+use Rattle.zeus_wire.specs.Ranges.{IsSet}
 
 list_all-cond : (p : ℕ → Bool) (t : Bool) (n : ℕ) (ns : List ℕ) → list_all p (if t then n ∷ ns else ns) ≡ ((not t || p n) && list_all p ns)
 list_all-cond p true n ns = refl
@@ -38,3 +39,9 @@ some_below (suc w) (suc j) n bits fits =
 pub all_below : (k bits : ℕ) → bits < 2 ^ 8 → list_all (λ m. nat_lt m k) (nodes_of bits) ≡ nat_lt bits (2 ^ k)
 unfolding nodes_of
 all_below k bits fits = rw zero-add at (some_below 8 k 0 bits fits)
+
+-- the set of a byte is that of its byte
+pub set_of_byte : (bits : ℕ) (ns : List ℕ) → nodes_of bits ≡ ns → bits < 2 ^ 8 → IsSet ns × (bits_of ns ≡ bits)
+set_of_byte bits ns is fits =
+    let byte : bits_of ns ≡ bits = bits_of-view bits ns is fits in
+    (record { byte = omega arith; back = ap nodes_of byte ∙ is }, byte)

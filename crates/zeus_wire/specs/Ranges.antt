@@ -1,6 +1,6 @@
 -- The limits that a packet can be read against, and the widths of a packet's numbers.
-use Rattle.std.specs.Prelude.{ℕ, Bool, true, ◌&&◌, ◌≡◌, ◌<◌, ◌≤◌, ◌^◌, nat_le, ◌==◌, List, [], ◌∷◌, ◌++◌, All, Option, Some, None, IfSome, slice_index, if◌then◌else◌}
-use Rattle.std.specs.List.{AllByRecursion}
+use Rattle.std.specs.Prelude.{ℕ, ◌+◌, ◌-◌, vec_capacity, vec_len, Bool, true, ◌&&◌, ◌≡◌, ◌<◌, ◌≤◌, ◌^◌, nat_le, ◌==◌, List, [], ◌∷◌, ◌++◌, All, Option, Some, None, IfSome, slice_index, if◌then◌else◌}
+use Rattle.std.specs.Global.{Vec}
 use Rattle.zeus_base.specs.Bits.{bits_of, nodes_of}
 use Rattle.zeus_base.specs.Texts.{IsText}
 use Rattle.zeus_base.specs.declared.config.Limits.{Limits}
@@ -33,6 +33,19 @@ largest version = record { version = version; nodes = 8; slots = 8; objects = 25
 -- how many bytes the longest packet of a version has
 unfoldable pub longest : ℕ → ℕ
 longest version = if version == 2 then 368 else 168
+
+-- how many bytes the longest value of a version has
+unfoldable pub longest_value : ℕ → ℕ
+longest_value version = if version == 2 then 33 else 8
+
+-- how many bytes more a vector takes before it wants memory
+abbrev pub room : Vec ℕ → ℕ
+room out = vec_capacity out - vec_len out
+
+-- the longest values of so many writes, with their objects and versions
+unfoldable pub longest_writes : ℕ → List Write → ℕ
+longest_writes version [] = 0
+longest_writes version (w ∷ ws) = 10 + longest_value version + longest_writes version ws
 
 -- each item is a byte
 abbrev pub AreBytes : List ℕ → Type 0

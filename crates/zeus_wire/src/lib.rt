@@ -3,6 +3,8 @@
 
 mod fault;
 mod reading;
+mod writing;
 
 pub use fault::WireFault;
 pub use reading::{decode, decode_front};
+pub use writing::{encode, encode_into, longest};
