@@ -2,3 +2,8 @@ pub mod Sets
 pub mod Texts
 pub mod Writes
 pub mod Room
+pub mod Numbers
+pub mod Fields
+pub mod Values
+pub mod Bodies
+pub mod Again

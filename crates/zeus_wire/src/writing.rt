@@ -28,6 +28,7 @@ pub fn encode_into(p: &Packet, version: u8, out: &mut Vec<u8>)
     requires fits { fits p.now.letter (largest version) ≡ true }
     requires room { longest version ≤ room out.old }
     ensures bytes { out.new.items ≡ out.old.items ++ packet_bytes version p.now }
+    ensures room { room out.old ≤ room out.new + longest version }
     ensures packet { IsPacket p.now }
 {
     write_u8(out, version);

@@ -13,6 +13,7 @@ fn write_inv(out: &mut Vec<u8>, version: u8, r: &RInv)
     requires fits { inv_fits (largest version) r.now ≡ true }
     requires room { longest version ≤ room out.old + 12 }
     ensures bytes { out.new.items ≡ out.old.items ++ inv_bytes version r.now }
+    ensures room { room out.old + 12 ≤ room out.new + longest version }
     ensures inv { IsInv r.now }
 {
     write_stream(out, &r.stream);
@@ -62,6 +63,7 @@ fn state_byte(state: State) -> u8
 fn write_cause(out: &mut Vec<u8>, cause: &Cause)
     requires { 10 ≤ room out.old }
     ensures bytes { out.new.items ≡ out.old.items ++ cause_bytes cause.now }
+    ensures room { room out.old ≤ room out.new + 10 }
     ensures cause { IsCause cause.now }
 {
     match cause {
@@ -102,6 +104,7 @@ fn write_cause(out: &mut Vec<u8>, cause: &Cause)
 fn write_oreq(out: &mut Vec<u8>, version: u8, obj: ObjId, want: Want)
     requires { 4 ≤ room out.old }
     ensures bytes { out.new.items ≡ out.old.items ++ body_bytes version (Body.OReq obj want) }
+    ensures room { room out.old ≤ room out.new + 4 }
 {
     write_u8(out, wish_tag(4, want));
     write_u16(out, obj.0);
@@ -112,6 +115,7 @@ fn write_oreq(out: &mut Vec<u8>, version: u8, obj: ObjId, want: Want)
 fn write_oinv(out: &mut Vec<u8>, version: u8, obj: ObjId, p: &Proposal)
     requires { 25 ≤ room out.old }
     ensures bytes { out.new.items ≡ out.old.items ++ body_bytes version (Body.OInv obj p.now) }
+    ensures room { room out.old ≤ room out.new + 25 }
     ensures body { IsBody (Body.OInv obj p.now) }
 {
     write_u8(out, wish_tag(5, p.want));
@@ -125,6 +129,7 @@ fn write_oack(out: &mut Vec<u8>, version: u8, obj: ObjId, p: &Proposal, content:
     requires fits { content_fits (largest version) content.now ≡ true }
     requires room { 34 + longest_value version ≤ room out.old }
     ensures bytes { out.new.items ≡ out.old.items ++ body_bytes version (Body.OAck obj p.now content.now) }
+    ensures room { room out.old ≤ room out.new + (34 + longest_value version) }
     ensures body { IsBody (Body.OAck obj p.now content.now) }
 {
     write_u8(out, wish_tag(6, p.want));
@@ -138,6 +143,7 @@ fn write_oack(out: &mut Vec<u8>, version: u8, obj: ObjId, p: &Proposal, content:
 fn write_onack(out: &mut Vec<u8>, version: u8, obj: ObjId, stamp: &Stamp, cause: &Cause)
     requires { 22 ≤ room out.old }
     ensures bytes { out.new.items ≡ out.old.items ++ body_bytes version (Body.ONack obj stamp.now cause.now) }
+    ensures room { room out.old ≤ room out.new + 22 }
     ensures body { IsBody (Body.ONack obj stamp.now cause.now) }
 {
     write_u8(out, 7);
@@ -150,6 +156,7 @@ fn write_onack(out: &mut Vec<u8>, version: u8, obj: ObjId, stamp: &Stamp, cause:
 fn write_oval(out: &mut Vec<u8>, version: u8, obj: ObjId, stamp: &Stamp, place: &Place)
     requires { 14 ≤ room out.old }
     ensures bytes { out.new.items ≡ out.old.items ++ body_bytes version (Body.OVal obj stamp.now place.now) }
+    ensures room { room out.old ≤ room out.new + 14 }
     ensures body { IsBody (Body.OVal obj stamp.now place.now) }
 {
     write_u8(out, 8);
@@ -162,6 +169,7 @@ fn write_oval(out: &mut Vec<u8>, version: u8, obj: ObjId, stamp: &Stamp, place: 
 fn write_ack(out: &mut Vec<u8>, tag: u8, stream: &Stream, number: u32)
     requires { 7 ≤ room out.old }
     ensures bytes { out.new.items ≡ out.old.items ++ tag ∷ stream_bytes stream.now ++ u32_bytes number }
+    ensures room { room out.old ≤ room out.new + 7 }
 {
     write_u8(out, tag);
     write_stream(out, stream);
@@ -173,6 +181,7 @@ pub fn write_body(out: &mut Vec<u8>, version: u8, body: &Body)
     requires fits { body_fits (largest version) body.now ≡ true }
     requires room { longest version ≤ room out.old + 11 }
     ensures bytes { out.new.items ≡ out.old.items ++ body_bytes version body.now }
+    ensures room { room out.old + 11 ≤ room out.new + longest version }
     ensures body { IsBody body.now }
 {
     match body {
