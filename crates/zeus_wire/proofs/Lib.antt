@@ -1,3 +1,4 @@
+pub mod Tests
 pub mod Sets
 pub mod Texts
 pub mod Writes

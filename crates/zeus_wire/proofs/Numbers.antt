@@ -16,7 +16,7 @@ pub u8_again : (b : ℕ) (rest : List ℕ) → u8_at (b ∷ rest) ≡ Ok (b, res
 unfolding u8_at
 u8_again b rest = refl
 
-bytes_again : (n : ℕ) (bytes rest : List ℕ) → length bytes ≡ n → bytes_at n (bytes ++ rest) ≡ Ok (bytes, rest)
+pub bytes_again : (n : ℕ) (bytes rest : List ℕ) → length bytes ≡ n → bytes_at n (bytes ++ rest) ≡ Ok (bytes, rest)
 unfolding bytes_at
 bytes_again n bytes rest len =
     let long : ltb (length (bytes ++ rest)) n ≡ false = le-ltb (length (bytes ++ rest)) n (omega (arith, length-append bytes rest)) in
@@ -39,5 +39,5 @@ pub checked_again : {A : Type 0} (test : A → Bool) (r : Reader A) (bytes : Lis
 unfolding and_then
 checked_again test r bytes x rest read passes = rw (read, passes) refl
 
-pub text_again : (n : ℕ) (bytes rest : List ℕ) → length bytes ≡ n → bytes_at n (bytes ++ rest) ≡ Ok (bytes, rest)
-text_again n bytes rest len = bytes_again n bytes rest len
+
+

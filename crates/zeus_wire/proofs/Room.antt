@@ -2,7 +2,7 @@
 use Rattle.std.proofs.Common.{◌≡◌, ℕ, ◌+◌, ◌*◌, ◌≤◌, ◌<◌, Bool, true, false, ◌&&◌, ◌==◌, cond, List, [], ◌∷◌, ◌++◌, length, get_or, drop, append_assoc, refl, sym, ap, subst, ◌∙◌, arith}
 use Rattle.std.specs.Global.{Vec}
 use Rattle.std.specs.List.{list_all}
-use Rattle.std.proofs.lemmas.Bool.{false≢true}
+use Rattle.zeus_wire.proofs.Tests.{both_true}
 use Rattle.std.proofs.lemmas.List.{drop_more, at_drop_all, append-nil}
 use Rattle.std.proofs.lemmas.Bool.Decides.{nat_tests}
 use Rattle.zeus_packet.specs.Fits.{write_fits}
@@ -27,10 +27,6 @@ pub record Remains (version : ℕ) (all rest : List Write) (before now : Vec ℕ
   pub enough : longest_writes version rest ≤ room now
   pub spent : room before + longest_writes version rest ≤ room now + longest_writes version all
   pub writes : AreWrites rest → AreWrites all
-
-both_true : (a b : Bool) → (a && b) ≡ true → (a ≡ true) × (b ≡ true)
-both_true true b h = (refl, h)
-both_true false b h = absurd (false≢true h)
 
 -- at a place within the writes, what is left begins with the write there
 pub at_write : (version : ℕ) (all : List Write) (i : ℕ) (w : Write) (before now : Vec ℕ) → i < length all → w ≡ get_or all i w → Remains version all (drop i all) before now → Remains version all (w ∷ drop (i + 1) all) before now
