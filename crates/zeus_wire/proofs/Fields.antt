@@ -79,7 +79,7 @@ proposal_again limits p rest is fits =
     rw (regrouped, stamp_again limits p.stamp (p.requester ∷ (stamp_bytes p.base ++ behind)) is.stamp stamp, node_again limits p.requester (stamp_bytes p.base ++ behind) requester, stamp_again limits p.base behind is.base base, place_again limits (leaver_of p.want p.requester) p.base_place rest is.replicas place (may_own_wish p.want p.requester p.base_place wish) (has_wish_leaver p.want p.requester p.base_place wish)) refl
 
 -- a wish other than Own has a byte
-pub has_wish : Want → Bool
+unfoldable pub has_wish : Want → Bool
 has_wish Own = false
 has_wish Read = true
 has_wish Leave = true
