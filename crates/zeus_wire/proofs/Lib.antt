@@ -8,3 +8,4 @@ pub mod Fields
 pub mod Values
 pub mod Bodies
 pub mod Again
+pub mod Found
