@@ -4,15 +4,11 @@ use Rattle.std.specs.Int.{Width, w16, w32, w64, byte_len, from_be_bytes, to_be_b
 use Rattle.std.proofs.lemmas.Bool.{cases_lt, ltb-false, le-ltb, false≢true}
 use Rattle.std.proofs.lemmas.List.{take_at, drop_at, take-append-drop, length-append, length-take, get_or-drop, get_or-take, get_or_past}
 use Rattle.std.proofs.lemmas.Nat.{be_bytes_2, be_bytes_4, be_bytes_8}
-use Rattle.zeus_base.specs.declared.config.Limits.{Limits}
-use Rattle.zeus_base.specs.declared.order.Stamp.{Stamp}
-use Rattle.zeus_base.specs.declared.order.Stream.{Stream}
-use Rattle.zeus_packet.specs.Fits.{nodes_fit, object_fits, place_fits, proposal_fits, stamp_fits, stream_fits, want_fits}
 use Rattle.zeus_wire.specs.declared.fault.Fault.{Fault}
 use Rattle.zeus_wire.specs.declared.fault.Fault.TheVariants.{Short, Field}
 use Rattle.zeus_wire.specs.Ranges.{AreBytes}
-use Rattle.zeus_wire.specs.Spelling.{stamp_bytes, stream_bytes, u16_bytes, u32_bytes, u64_bytes}
-use Rattle.zeus_wire.specs.Reading.{Reader, and_then, checked, bytes_at, gives, node_at, slot_at, stamp_at, stream_at, u8_at, u16_at, u32_at, u64_at}
+use Rattle.zeus_wire.specs.Spelling.{u16_bytes, u32_bytes, u64_bytes}
+use Rattle.zeus_wire.specs.Reading.{Reader, and_then, checked, bytes_at, gives, u8_at, u16_at, u32_at, u64_at}
 
 -- ---- the steps of a reader that gave a value
 
@@ -85,8 +81,20 @@ u32_found bytes y are e =
     let text : to_be_bytes w32 (from_be_bytes w32 s.0.0) ≡ s.0.0 = be_bytes_4 s.0.0 _ front.1 front.2 refl in
     rw is (rw text front.0, omega (arith, front.2 0, front.2 1, front.2 2, front.2 3))
 
-pub stream_found : (limits : Limits) (bytes : List ℕ) (y : Stream × List ℕ) → AreBytes bytes → stream_at limits bytes ≡ Ok y → Took bytes (stream_bytes y.0) y.1 × (stream_fits limits y.0 ≡ true)
-unfolding stream_at stream_bytes stream_fits
-stream_found limits bytes y are e =
-    let a = and_then_ok _ _ _ e in
-    ?
+pub u16_found : (bytes : List ℕ) (y : ℕ × List ℕ) → AreBytes bytes → u16_at bytes ≡ Ok y → Took bytes (u16_bytes y.0) y.1 × (y.0 < 2 ^ 16)
+unfolding u16_at u16_bytes
+u16_found bytes y are e =
+    let s = and_then_ok (bytes_at 2 bytes) (λ front. gives (from_be_bytes w16 front)) y e in
+    let front = bytes_found 2 bytes s.0 are s.1 in
+    let is : y ≡ (from_be_bytes w16 s.0.0, s.0.1) = gives_ok (from_be_bytes w16 s.0.0) s.0.1 y s.2 in
+    let text : to_be_bytes w16 (from_be_bytes w16 s.0.0) ≡ s.0.0 = be_bytes_2 s.0.0 _ front.1 front.2 refl in
+    rw is (rw text front.0, omega (arith, front.2 0, front.2 1))
+
+pub u64_found : (bytes : List ℕ) (y : ℕ × List ℕ) → AreBytes bytes → u64_at bytes ≡ Ok y → Took bytes (u64_bytes y.0) y.1 × (y.0 < 2 ^ 64)
+unfolding u64_at u64_bytes
+u64_found bytes y are e =
+    let s = and_then_ok (bytes_at 8 bytes) (λ front. gives (from_be_bytes w64 front)) y e in
+    let front = bytes_found 8 bytes s.0 are s.1 in
+    let is : y ≡ (from_be_bytes w64 s.0.0, s.0.1) = gives_ok (from_be_bytes w64 s.0.0) s.0.1 y s.2 in
+    let text : to_be_bytes w64 (from_be_bytes w64 s.0.0) ≡ s.0.0 = be_bytes_8 s.0.0 _ front.1 front.2 refl in
+    rw is (rw text front.0, omega (arith, front.2 0, front.2 1, front.2 2, front.2 3, front.2 4, front.2 5, front.2 6, front.2 7))

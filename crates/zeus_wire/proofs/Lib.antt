@@ -9,3 +9,7 @@ pub mod Values
 pub mod Bodies
 pub mod Again
 pub mod Found
+pub mod FoundFields
+pub mod FoundValues
+pub mod FoundBodies
+pub mod FoundPackets
