@@ -1,5 +1,5 @@
 -- What was read was written so: numbers, and the steps of a reader.
-use Rattle.std.proofs.Common.{◌≡◌, ℕ, zero, suc, ◌+◌, ◌^◌, ◌<◌, ◌≤◌, Bool, true, false, cond, ltb, nat_lt, List, [], ◌∷◌, ◌++◌, length, get_or, slice_index, take, drop, Result, Ok, Err, refl, sym, ap, subst, ◌∙◌, append_assoc, arith, inl, inr}
+use Rattle.std.proofs.Common.{◌≡◌, ℕ, zero, suc, ◌+◌, ◌^◌, ◌<◌, ◌≤◌, Bool, true, false, cond, ltb, nat_lt, ◌⊎◌, List, [], ◌∷◌, ◌++◌, length, get_or, slice_index, take, drop, Result, Ok, Err, refl, sym, ap, subst, ◌∙◌, append_assoc, arith, inl, inr}
 use Rattle.std.specs.Int.{Width, w16, w32, w64, byte_len, from_be_bytes, to_be_bytes}
 use Rattle.std.proofs.lemmas.Bool.{cases_lt, ltb-false, le-ltb, false≢true}
 use Rattle.std.proofs.lemmas.List.{take_at, drop_at, take-append-drop, length-append, length-take, get_or-drop, get_or-take, get_or_past}
@@ -33,6 +33,11 @@ ok_is x y f e = cc
 
 pub gives_ok : {A : Type 0} (x : A) (bytes : List ℕ) (y : A × List ℕ) → gives x bytes ≡ Ok y → y ≡ (x, bytes)
 gives_ok x bytes y e = sym (ok_is (x, bytes) y Short e)
+
+-- which of two readers gave the value
+pub either_ok : {A : Type 0} (b : Bool) (r s : Reader A) (bytes : List ℕ) (y : A × List ℕ) → cond b r s bytes ≡ Ok y → ((b ≡ true) × (r bytes ≡ Ok y)) ⊎ ((b ≡ false) × (s bytes ≡ Ok y))
+either_ok true r s bytes y e = inl (refl, e)
+either_ok false r s bytes y e = inr (refl, e)
 
 -- what a reader took from the front, and that bytes are left
 pub record Took (bytes text behind : List ℕ) : Type 0 where

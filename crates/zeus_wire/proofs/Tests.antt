@@ -14,3 +14,9 @@ not_true false h = refl
 -- a test of two numbers, one way and the other, beside others that fail
 pub apart : (m n : ℕ) (a b c : Bool) → c ≡ false → (a || ((n == m) || b)) ≡ false → ((m == n) || c) ≡ false
 apart m n a b c last h = grind (arith, nat_tests)
+
+pub later_new : (m n : ℕ) (c : Bool) → ((m == n) || c) ≡ false → c ≡ false
+later_new m n c h = grind arith
+
+pub both_new : (m n : ℕ) (a c : Bool) → a ≡ false → ((m == n) || c) ≡ false → (not (a || ((n == m) || false)) && true) ≡ true
+both_new m n a c first h = grind (arith, nat_tests)

@@ -67,7 +67,7 @@ write_again limits before w rest are is fits new =
     rw (regrouped, object_again limits w.obj (u64_bytes w.ver ++ (value_bytes limits.version w.value ++ rest)) few obj, new, u64_again w.ver (value_bytes limits.version w.value ++ rest) is.ver, value_again limits w.value rest is.value value) refl
 
 -- of writes of different objects none before another is of its object
-names-append : (x : ℕ) (a b : List Write) → names x (a ++ b) ≡ (names x a || names x b)
+pub names-append : (x : ℕ) (a b : List Write) → names x (a ++ b) ≡ (names x a || names x b)
 names-append x [] b = refl
 names-append x (w ∷ a) b = rw (names-append x a b) (grind arith)
 
