@@ -13,3 +13,4 @@ pub mod FoundFields
 pub mod FoundValues
 pub mod FoundBodies
 pub mod FoundPackets
+pub mod Decoded

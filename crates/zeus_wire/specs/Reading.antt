@@ -366,11 +366,6 @@ placed count Short = wire.Short count
 placed count (Tag left byte) = wire.BadTag (count - left) byte
 placed count (Field left) = wire.BadField (count - left)
 
--- no byte stands behind the packet
-unfoldable pub whole : ℕ → Result (Packet × List ℕ) Fault → Result Packet WireFault
-whole count (Ok x) = if length x.1 == 0 then Ok x.0 else Err (wire.Extra (count - length x.1))
-whole count (Err fault) = Err (placed count fault)
-
 -- the packet at the front of the bytes and how many bytes it has
 unfoldable pub counted : ℕ → Result (Packet × List ℕ) Fault → Result (Packet × ℕ) WireFault
 counted count (Ok x) = Ok (x.0, count - length x.1)
@@ -380,9 +375,14 @@ counted count (Err fault) = Err (placed count fault)
 unfoldable pub decoded_front : Limits → List ℕ → Result (Packet × ℕ) WireFault
 decoded_front limits bytes = counted (length bytes) (packet_at limits bytes)
 
+-- a packet of fewer bytes than there are has bytes behind it
+unfoldable pub without_rest : ℕ → Result (Packet × ℕ) WireFault → Result Packet WireFault
+without_rest count (Ok x) = if nat_lt x.1 count then Err (wire.Extra x.1) else Ok x.0
+without_rest count (Err fault) = Err fault
+
 -- the packet that the bytes spell, or the first fault and its place
 unfoldable pub decoded : Limits → List ℕ → Result Packet WireFault
-decoded limits bytes = whole (length bytes) (packet_at limits bytes)
+decoded limits bytes = without_rest (length bytes) (decoded_front limits bytes)
 
 -- what a reader of the program gave, with the bytes that it left, is what reading gives
 abbrev pub IsRead : {A : Type 0} → Result A Fault → List ℕ → Result (A × List ℕ) Fault → Type 0

@@ -2,9 +2,11 @@
 #![tactic(auto)]
 
 mod fault;
+mod laws;
 mod reading;
 mod writing;
 
 pub use fault::WireFault;
+pub use laws::{what_is_read_is_spelled_so, what_was_written_is_read_again};
 pub use reading::{decode, decode_front};
 pub use writing::{encode, encode_into, longest};

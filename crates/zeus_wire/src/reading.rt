@@ -1,7 +1,10 @@
 //! Packets from bytes.
-ghost use Rattle.std.specs.Prelude.{◌≡◌, ◌≤◌, ℕ};
-ghost use Rattle.zeus_wire.specs.Ranges.{AreLimits};
-ghost use Rattle.zeus_wire.specs.Reading.{IsRead, decoded, decoded_front, packet_at, placed};
+ghost use Rattle.std.specs.Prelude.{◌≡◌, ◌≤◌, ℕ, IfOk, Ok, true};
+ghost use Rattle.zeus_packet.specs.Fits.{fits};
+ghost use Rattle.zeus_packet.specs.declared.letter.Packet.{Packet};
+ghost use Rattle.zeus_wire.specs.Ranges.{AreLimits, IsPacket};
+ghost use Rattle.zeus_wire.specs.Reading.{IsRead, decoded, decoded_front, packet_at, placed, without_rest};
+ghost use Rattle.zeus_wire.specs.Spelling.{packet_bytes};
 
 mod body;
 mod fields;
@@ -76,22 +79,32 @@ pub fn decode_front(alloc: Global, bytes: &[u8], limits: &Limits) -> Result<(Pac
     }
 }
 
+/// The packet, where it has as many bytes as there are.
+#[tactic(auto, unfolding(crate::specs::Reading::without_rest))]
+fn without_rest(count: usize, front: Result<(Packet, usize), WireFault>) -> Result<Packet, WireFault>
+    ensures { result ≡ without_rest count front }
+{
+    let (packet, len) = front?;
+    if len < count {
+        return Err(WireFault::Extra { at: len as u64 });
+    }
+    Ok(packet)
+}
+
 /// The packet that the bytes spell.
 ///
 /// # Errors
 /// The first fault from left to right, with its place: a field that is not whole (`Short`), a byte that is no tag
 /// (`BadTag`), a field out of the range of the limits (`BadField`), or a byte behind the packet (`Extra`).
-#[tactic(auto, unfolding(crate::specs::Reading::decoded, crate::specs::Reading::whole))]
+#[tactic(auto, unfolding(crate::specs::Reading::decoded))]
 pub fn decode(alloc: Global, bytes: &[u8], limits: &Limits) -> Result<Packet, WireFault>
     requires { AreLimits limits.now }
+    // What is read is spelled so, and fits.
+    ensures found { IfOk result (λ p. (bytes.now ≡ packet_bytes limits.now.version p) × (fits p.letter limits.now ≡ true)) }
+    // What is spelled so, and fits, is read.
+    ensures only { (p : Packet) → IsPacket p → fits p.letter limits.now ≡ true → bytes.now ≡ packet_bytes limits.now.version p → result ≡ Ok p }
+    // Which fault it is.
     ensures exact { result ≡ decoded limits.now bytes.now }
 {
-    let mut input = Input::new(bytes);
-    match read_packet(alloc, *limits, &mut input) {
-        Err(fault) => Err(placed(bytes.len(), fault)),
-        Ok(packet) if input.len() == 0 => Ok(packet),
-        Ok(_) => Err(WireFault::Extra {
-            at: bytes.len().saturating_sub(input.len()) as u64,
-        }),
-    }
+    without_rest(bytes.len(), decode_front(alloc, bytes, limits))
 }
