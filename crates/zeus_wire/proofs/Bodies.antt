@@ -21,7 +21,7 @@ use Rattle.zeus_packet.specs.declared.write.Content.{Content}
 use Rattle.zeus_wire.specs.Ranges.{AreLimits, IsBody, IsCause, IsContent, IsInv, IsProposal, IsSet, IsStamp}
 use Rattle.zeus_wire.specs.Spelling.{body_bytes, cause_bytes, content_bytes, inv_bytes, place_bytes, proposal_bytes, set_bytes, stamp_bytes, state_byte, stream_bytes, u16_bytes, u32_bytes, wish_bytes, wish_tag, writes_bytes}
 use Rattle.zeus_wire.specs.Reading.{and_then, body_at, body_behind, cause_at, cause_behind, has_leaver, held_at, inv_at, kept_at, may_own, not_valid_at, oack_at, oinv_at, onack_at, oreq_at, oval_at, plain_cause, proposed_at, rack_at, rinv_at, rval_at, state_at, state_of, u32_at, u8_at}
-use Rattle.zeus_wire.proofs.Tests.{both_true}
+use Rattle.zeus_wire.proofs.Booleans.{both_true}
 use Rattle.zeus_wire.proofs.Numbers.{checked_again, u32_again, u8_again}
 use Rattle.zeus_wire.proofs.Fields.{has_wish, object_again, place_again, proposal_again, set_again, slot_again, stamp_again, stream_again, want_again}
 use Rattle.zeus_wire.proofs.Values.{content_again, writes_again}

@@ -13,7 +13,7 @@ use Rattle.zeus_packet.specs.declared.write.Write.{Write}
 use Rattle.zeus_wire.specs.Ranges.{AreBytes, AreWrites, IsContent, IsValue, IsWrite}
 use Rattle.zeus_wire.specs.Spelling.{content_bytes, u16_bytes, u64_bytes, value_bytes, write_bytes, writes_bytes}
 use Rattle.zeus_wire.specs.Reading.{and_then, bytes_at, content_at, content_if, gives, is_printable, names, num_at, num_or_text_at, object_at, some_content_at, tagged_value_at, text_at, text_value_at, u64_at, u8_at, value_at, write_at, writes_at}
-use Rattle.zeus_wire.proofs.Tests.{both_new, both_true, later_new, not_true}
+use Rattle.zeus_wire.proofs.Booleans.{both_new, both_true, later_new, not_true}
 use Rattle.zeus_wire.proofs.Texts.{Decides-printable}
 use Rattle.zeus_wire.proofs.Values.{names-append}
 use Rattle.zeus_wire.proofs.Found.{Took, took_both, and_then_ok, checked_ok, either_ok, gives_ok, u8_found, u64_found, bytes_found}

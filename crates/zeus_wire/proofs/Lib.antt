@@ -1,4 +1,4 @@
-pub mod Tests
+pub mod Booleans
 pub mod Sets
 pub mod Texts
 pub mod Writes
