@@ -1,5 +1,5 @@
 -- The links between nodes as letters and the room that they have, and a link as one run of bytes with the place where each packet begins.
-use Rattle.std.specs.Prelude.{ℕ, true, ◌≡◌, ◌+◌, ◌-◌, ◌/◌, ◌<◌, ◌≤◌, min, suc, List, [], ◌∷◌, ◌++◌, length, map, drop, Result, Ok, Err, vec_capacity, vec_len}
+use Rattle.std.specs.Prelude.{ℕ, true, ◌≡◌, ◌+◌, ◌-◌, ◌/◌, ◌<◌, ◌≤◌, min, suc, List, [], ◌∷◌, ◌++◌, length, map, drop, Option, Some, None, Result, Ok, Err, vec_capacity, vec_len}
 use Rattle.std.specs.Global.{Vec}
 use Rattle.zeus_packet.specs.Fits.{fits}
 use Rattle.zeus_packet.specs.declared.letter.Body.TheVariants.{Recovered}
@@ -53,6 +53,11 @@ unfoldable pub letter_read : Result (Packet × ℕ) WireFault → Letter
 letter_read (Ok x) = x.0.letter
 letter_read (Err fault) = record { from = 0; to = 0; epoch = 0; body = Recovered }
 
+-- the packet that was read, if one was
+unfoldable pub packet_read : Result (Packet × ℕ) WireFault → Option Packet
+packet_read (Ok x) = Some x.0
+packet_read (Err fault) = None
+
 -- the letter of the packet that begins at this place
 unfoldable pub letter_at : List ℕ → ℕ → Letter
 letter_at bytes start = letter_read (decoded_front (largest 2) (drop start bytes))
@@ -62,19 +67,18 @@ unfoldable pub letters_at : List ℕ → List ℕ → List Letter
 letters_at bytes [] = []
 letters_at bytes (start ∷ starts) = letter_at bytes start ∷ letters_at bytes starts
 
--- at this place begins the spelling of a packet of this number, which fits
-pub record BeginsAt (bytes : List ℕ) (start number : ℕ) : Type 0 where
-  pub letter : Letter
+-- at this place begins the spelling of the packet, which fits
+pub record BeginsAt (bytes : List ℕ) (start : ℕ) (p : Packet) : Type 0 where
   pub behind : List ℕ
   pub within : start ≤ length bytes
-  pub text : drop start bytes ≡ packet_bytes 2 (numbered number letter) ++ behind
-  pub is : IsPacket (numbered number letter)
-  pub fit : fits letter (largest 2) ≡ true
+  pub text : drop start bytes ≡ packet_bytes 2 p ++ behind
+  pub is : IsPacket p
+  pub fit : fits p.letter (largest 2) ≡ true
 
 -- at each of these places begins a packet, numbered one after the other
 unfoldable pub AreAt : List ℕ → ℕ → List ℕ → Type 0
 AreAt bytes number [] = Unit {0}
-AreAt bytes number (start ∷ starts) = BeginsAt bytes start number × AreAt bytes (suc number) starts
+AreAt bytes number (start ∷ starts) = ((l : Letter) × BeginsAt bytes start (numbered number l)) × AreAt bytes (suc number) starts
 
 -- how many letters more a link takes before it wants memory, or has no number of 32 bits left
 unfoldable pub link_room : Vec ℕ → Vec ℕ → ℕ

@@ -1,15 +1,16 @@
 //! One link, as one run of bytes and the place where each packet begins.
-ghost use Rattle.std.specs.Prelude.{◌≡◌, ◌<◌, ◌≤◌, ◌+◌, ◌++◌, ◌∷◌, [], OnOk, length, slice_get, true};
+ghost use Rattle.std.specs.Prelude.{◌≡◌, ◌<◌, ◌≤◌, ◌+◌, ◌++◌, ◌∷◌, [], OnOk, drop, length, slice_get, true};
 ghost use Rattle.std.specs.Option.{option_map};
 ghost use Rattle.zeus_packet.specs.Fits.{fits};
 ghost use Rattle.zeus_wire.specs.Ranges.{largest};
-ghost use Rattle.lossy_fabric.specs.Links.{no_link, numbered};
+ghost use Rattle.lossy_fabric.specs.Links.{no_link, numbered, packet_read};
+ghost use Rattle.zeus_wire.specs.Reading.{decoded_front};
 
 use std::alloc::Global;
 use std::marker::Model;
 use zeus_base::NoMemory;
-use zeus_packet::{Letter, Limits, Packet};
-use zeus_wire::{decode_front, encode_letter_into};
+use zeus_packet::{Letter, Packet};
+use zeus_wire::{decode_front, encode_letter_into, largest};
 
 /// How many letters a link has at most, so that each has its number.
 const MOST: usize = 0xffff_ffff;
@@ -22,14 +23,6 @@ const STEP_BYTES: usize = 64 * 368;
 
 /// The version in which the packets are spelled.
 const VERSION: u8 = 2;
-
-/// The ranges of all letters: each configuration's lie within them.
-const LARGEST: Limits = Limits {
-    version: VERSION,
-    nodes: 8,
-    slots: 8,
-    objects: 256,
-};
 
 /// One link, seen as its letters and the room for more.
 #[derive(Debug, Drop)]
@@ -93,16 +86,32 @@ impl Link {
     pub fn get(&self, number: u32) -> Option<Packet>
         ensures { result ≡ option_map (numbered number) (slice_get self.now.letters number) }
     {
-        let start = *self.starts.get(number as usize)?;
-        match decode_front(*self.bytes.allocator(), &self.bytes[start..], &LARGEST) {
-            Ok((packet, _)) => Some(packet),
-            Err(_) => None,
-        }
+        let start = start_of(&self.starts, number)?;
+        packet_at(*self.bytes.allocator(), &self.bytes, start)
     }
 
     pub fn count(&self) -> u32
         ensures { result ≡ length self.now.letters }
     {
         self.starts.len() as u32
+    }
+}
+
+/// Where the packet of this number begins, where there is one.
+fn start_of(starts: &[usize], number: u32) -> Option<usize>
+    ensures { result ≡ slice_get starts.now number }
+{
+    starts.get(number as usize).copied()
+}
+
+/// The packet that begins at this place, if one does.
+#[tactic(auto, unfolding(crate::specs::Links::packet_read))]
+fn packet_at(alloc: Global, bytes: &[u8], start: usize) -> Option<Packet>
+    requires { start ≤ length bytes.now }
+    ensures { result ≡ packet_read (decoded_front (largest 2) (drop start bytes.now)) }
+{
+    match decode_front(alloc, &bytes[start..], &largest(VERSION)) {
+        Ok((packet, _)) => Some(packet),
+        Err(_) => None,
     }
 }

@@ -293,7 +293,7 @@ fn texts_are_printable_and_at_most_32_bytes(rt: HostRuntime) {
 #[test]
 fn packets_are_appended_one_behind_the_other(rt: HostRuntime) -> Result<(), Fail> {
     let packet = entry(rt.alloc(), Value::Num(8));
-    let mut out = Vec::with_capacity(rt.alloc(), 2 * longest(1))?;
+    let mut out = Vec::with_capacity(rt.alloc(), 400)?;
     assert!(rt; fits(&packet.letter, &largest(1)));
     encode_into(&packet, 1, &mut out);
     encode_letter_into(7, &packet.letter, 1, &mut out);
