@@ -1,3 +1,4 @@
+pub mod Largest
 mod Rooms
 mod Runs
 mod Sending

@@ -3,6 +3,8 @@
 
 mod link;
 mod links;
+#[cfg(test)]
+mod tests;
 
 pub use links::Links;
 pub use zeus_base::{NoMemory, NodeId};

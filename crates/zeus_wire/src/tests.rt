@@ -291,6 +291,7 @@ fn texts_are_printable_and_at_most_32_bytes(rt: HostRuntime) {
 }
 
 #[test]
+#[tactic(auto, unfolding(crate::specs::Ranges::longest))]
 fn packets_are_appended_one_behind_the_other(rt: HostRuntime) -> Result<(), Fail> {
     let packet = entry(rt.alloc(), Value::Num(8));
     let mut out = Vec::with_capacity(rt.alloc(), 400)?;
