@@ -2,3 +2,4 @@ pub mod Largest
 mod Rooms
 mod Runs
 mod Sending
+mod Staying

@@ -138,6 +138,7 @@ impl Links {
         requires { from < length self.old }
         ensures letters { letters self.new ≡ letters self.old }
         ensures room { OnOk result (HasRoom 64 (nth [] self.new from)) }
+        ensures links { (a b : ℕ) → IsLink self.old a b → IsLink self.new a b }
     {
         let row = &mut self.rows[from.place()];
         row.reserve()
@@ -151,6 +152,7 @@ impl Links {
         ensures letters { letters self.new ≡ posted (letters self.old) letter.now }
         ensures room { (from to : ℕ) → room self.old from to ≤ room self.new from to + 1 }
         ensures number { result ≡ length (link (letters self.old) letter.now.from letter.now.to) }
+        ensures links { (a b : ℕ) → IsLink self.old a b → IsLink self.new a b }
     {
         let row = &mut self.rows[letter.from.place()];
         row.push(letter)

@@ -8,20 +8,19 @@ fn keeps_each_packet_of_a_link(rt: HostRuntime) -> Result<(), Fail> {
     let mut links = Links::new(rt.alloc(), 2)?;
     let (from, to) = (NodeId(0), NodeId(1));
     links.reserve(from)?;
-    for epoch in 1..4 {
-        let letter = Letter {
-            from,
-            to,
-            epoch,
-            body: Body::Recovered,
-        };
-        assert!(rt; fits(&letter, &largest(2)));
-        assert_eq!(rt; links.send(&letter), epoch - 1);
-    }
-    assert_eq!(rt; links.count(from, to), 3);
+    let letter = Letter {
+        from,
+        to,
+        epoch: 2,
+        body: Body::Recovered,
+    };
+    assert!(rt; fits(&letter, &largest(2)));
+    assert_eq!(rt; links.send(&letter), 0);
+    assert_eq!(rt; links.send(&letter), 1);
+    assert_eq!(rt; links.count(from, to), 2);
     assert_eq!(rt; links.count(to, from), 0);
     let packet = links.get(from, to, 1).expect(&rt, "the second packet");
     assert_eq!(rt; (packet.number, packet.letter.epoch), (1, 2));
-    assert!(rt; links.get(from, to, 3).is_none());
+    assert!(rt; links.get(from, to, 2).is_none());
     Ok(())
 }

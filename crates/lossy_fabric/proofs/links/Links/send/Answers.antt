@@ -2,6 +2,7 @@ use Rattle.std.proofs.Common.{List, subst, ◌<◌, []}
 use Rattle.zeus_base.specs.TableLaws.{nth_read}
 use Rattle.zeus_model.specs.Tables.{nth}
 use Rattle.lossy_fabric.specs.Links.{LinkState, no_link}
+use Rattle.lossy_fabric.proofs.Staying.{sent_stays}
 use Rattle.lossy_fabric.proofs.Sending.{letters-nth, letters-set, rows_room}
 use Rattle.lossy_fabric.proofs.links.Links.send.Goals as goal
 
@@ -37,3 +38,6 @@ returns-clause-number c =
     let row = rw c.place.ensures at c.index_mut-row.ensures.value in
     let from = rw (← c.self.view_is) at c.requires.there.from in
     rw (← c.self.view_is, letters-nth c.self.inside.rows.items c.args.letter.now.from, nth_read [] _ c.args.letter.now.from _ from row) c.push.ensures.number
+
+pub returns-clause-links : goal.returns-clause-links
+returns-clause-links c = sent_stays c.args.self.now _ c.args.letter.now (returns-clause-letters c) c.requires.there
