@@ -8,7 +8,7 @@ use Rattle.zeus_packet.specs.declared.letter.Letter.{Letter}
 use Rattle.zeus_packet.specs.declared.letter.Packet.{Packet}
 use Rattle.zeus_wire.specs.Ranges.{AreLimits, IsPacket, largest}
 use Rattle.zeus_wire.specs.Reading.{decoded_front}
-use Rattle.zeus_wire.specs.Spelling.{packet_bytes}
+use Rattle.zeus_model.specs.PacketSpelling.{packet_bytes}
 use Rattle.zeus_wire.proofs.Decoded.{front_again}
 use Rattle.lossy_fabric.specs.Links.{AreAt, BeginsAt, letter_at, letter_read, letters_at, numbered, packet_read}
 

@@ -9,7 +9,7 @@ use Rattle.zeus_model.specs.Tables.{nth}
 use Rattle.zeus_wire.specs.declared.fault.WireFault.{WireFault}
 use Rattle.zeus_wire.specs.Ranges.{IsPacket, largest}
 use Rattle.zeus_wire.specs.Reading.{decoded_front}
-use Rattle.zeus_wire.specs.Spelling.{packet_bytes}
+use Rattle.zeus_model.specs.PacketSpelling.{packet_bytes}
 
 -- the letters that were ever sent on a link, and how many more it has room for
 pub record LinkState : Type 0 where

@@ -6,7 +6,7 @@ use Rattle.zeus_packet.specs.Fits.{body_fits, fits}
 use Rattle.zeus_packet.specs.declared.letter.Packet.{Packet}
 use Rattle.zeus_wire.specs.declared.fault.Fault.{Fault}
 use Rattle.zeus_wire.specs.Ranges.{AreLimits, IsPacket}
-use Rattle.zeus_wire.specs.Spelling.{body_bytes, packet_bytes, u32_bytes}
+use Rattle.zeus_model.specs.PacketSpelling.{body_bytes, packet_bytes, u32_bytes}
 use Rattle.zeus_wire.specs.Reading.{and_then, packet_at}
 use Rattle.zeus_wire.proofs.Numbers.{u32_again, u8_again}
 use Rattle.zeus_wire.proofs.Fields.{node_again}

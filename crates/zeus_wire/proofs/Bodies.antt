@@ -19,7 +19,7 @@ use Rattle.zeus_packet.specs.declared.place.Want.{Want}
 use Rattle.zeus_packet.specs.declared.place.Want.TheVariants.{Own, Read, Leave}
 use Rattle.zeus_packet.specs.declared.write.Content.{Content}
 use Rattle.zeus_wire.specs.Ranges.{AreLimits, IsBody, IsCause, IsContent, IsInv, IsProposal, IsSet, IsStamp}
-use Rattle.zeus_wire.specs.Spelling.{body_bytes, cause_bytes, content_bytes, inv_bytes, place_bytes, proposal_bytes, set_bytes, stamp_bytes, state_byte, stream_bytes, u16_bytes, u32_bytes, wish_bytes, wish_tag, writes_bytes}
+use Rattle.zeus_model.specs.PacketSpelling.{body_bytes, cause_bytes, content_bytes, inv_bytes, place_bytes, proposal_bytes, set_bytes, stamp_bytes, state_byte, stream_bytes, u16_bytes, u32_bytes, wish_bytes, wish_tag, writes_bytes}
 use Rattle.zeus_wire.specs.Reading.{and_then, body_at, body_behind, cause_at, cause_behind, has_leaver, held_at, inv_at, kept_at, may_own, not_valid_at, oack_at, oinv_at, onack_at, oreq_at, oval_at, plain_cause, proposed_at, rack_at, rinv_at, rval_at, state_at, state_of, u32_at, u8_at}
 use Rattle.zeus_wire.proofs.Booleans.{both_true}
 use Rattle.zeus_wire.proofs.Numbers.{checked_again, u32_again, u8_again}

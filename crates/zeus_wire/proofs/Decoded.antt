@@ -10,7 +10,7 @@ use Rattle.zeus_wire.specs.declared.fault.Fault.{Fault}
 use Rattle.zeus_wire.specs.declared.fault.WireFault.{WireFault}
 use Rattle.zeus_wire.specs.declared.fault.WireFault.TheVariants as wire
 use Rattle.zeus_wire.specs.Ranges.{AreBytes, AreLimits, IsPacket}
-use Rattle.zeus_wire.specs.Spelling.{packet_bytes}
+use Rattle.zeus_model.specs.PacketSpelling.{packet_bytes}
 use Rattle.zeus_wire.specs.Reading.{counted, decoded, decoded_front, packet_at, placed, without_rest}
 use Rattle.zeus_wire.proofs.Again.{packet_again}
 use Rattle.zeus_wire.proofs.FoundPackets.{one_spelling}

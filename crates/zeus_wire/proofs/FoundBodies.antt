@@ -16,7 +16,7 @@ use Rattle.zeus_packet.specs.declared.letter.State.{State}
 use Rattle.zeus_packet.specs.declared.place.Want.{Want}
 use Rattle.zeus_packet.specs.declared.place.Want.TheVariants.{Own, Read, Leave}
 use Rattle.zeus_wire.specs.Ranges.{AreBytes, IsBody, IsCause, IsInv}
-use Rattle.zeus_wire.specs.Spelling.{body_bytes, cause_bytes, content_bytes, inv_bytes, proposal_bytes, state_byte, u16_bytes, wish_bytes, wish_tag}
+use Rattle.zeus_model.specs.PacketSpelling.{body_bytes, cause_bytes, content_bytes, inv_bytes, proposal_bytes, state_byte, u16_bytes, wish_bytes, wish_tag}
 use Rattle.zeus_wire.specs.Reading.{Reader, and_then, body_at, body_behind, cause_at, cause_behind, gives, has_leaver, held_at, inv_at, kept_at, may_own, not_valid_at, oack_at, oinv_at, onack_at, oreq_at, oval_at, plain_cause, proposed_at, rack_at, rinv_at, rval_at, state_at, state_of, u32_at, u8_at}
 use Rattle.zeus_wire.proofs.Booleans.{both_true}
 use Rattle.zeus_wire.proofs.Fields.{has_wish}

@@ -5,7 +5,7 @@ use Rattle.zeus_base.specs.declared.config.Limits.{Limits}
 use Rattle.zeus_packet.specs.Fits.{fits}
 use Rattle.zeus_packet.specs.declared.letter.Packet.{Packet}
 use Rattle.zeus_wire.specs.Ranges.{AreBytes, IsPacket}
-use Rattle.zeus_wire.specs.Spelling.{packet_bytes}
+use Rattle.zeus_model.specs.PacketSpelling.{packet_bytes}
 use Rattle.zeus_wire.specs.Reading.{packet_at, u8_at, u32_at}
 use Rattle.zeus_wire.proofs.Found.{Took, took_both, and_then_ok, checked_ok, gives_ok, u8_found, u32_found}
 use Rattle.zeus_wire.proofs.FoundFields.{node_found}

@@ -11,7 +11,7 @@ use Rattle.zeus_packet.specs.Fits.{are_once, content_fits, object_fits, value_fi
 use Rattle.zeus_packet.specs.declared.write.Content.{Content}
 use Rattle.zeus_packet.specs.declared.write.Write.{Write}
 use Rattle.zeus_wire.specs.Ranges.{AreBytes, AreWrites, IsContent, IsValue, IsWrite}
-use Rattle.zeus_wire.specs.Spelling.{content_bytes, u16_bytes, u64_bytes, value_bytes, write_bytes, writes_bytes}
+use Rattle.zeus_model.specs.PacketSpelling.{content_bytes, u16_bytes, u64_bytes, value_bytes, write_bytes, writes_bytes}
 use Rattle.zeus_wire.specs.Reading.{and_then, bytes_at, content_at, content_if, gives, is_printable, names, num_at, num_or_text_at, object_at, some_content_at, tagged_value_at, text_at, text_value_at, u64_at, u8_at, value_at, write_at, writes_at}
 use Rattle.zeus_wire.proofs.Booleans.{both_new, both_true, later_new, not_true}
 use Rattle.zeus_wire.proofs.Texts.{Decides-printable}

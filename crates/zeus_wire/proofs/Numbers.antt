@@ -7,7 +7,7 @@ use Rattle.std.proofs.lemmas.Nat.{be_bytes_2, be_bytes_4, be_bytes_8, from_be_by
 use Rattle.zeus_wire.specs.declared.fault.Fault.{Fault}
 use Rattle.zeus_wire.specs.declared.fault.Fault.TheVariants.{Short, Field}
 use Rattle.zeus_wire.specs.Ranges.{AreBytes}
-use Rattle.zeus_wire.specs.Spelling.{u16_bytes, u32_bytes, u64_bytes}
+use Rattle.zeus_model.specs.PacketSpelling.{u16_bytes, u32_bytes, u64_bytes}
 use Rattle.zeus_wire.specs.Reading.{Reader, and_then, checked, bytes_at, u8_at, u16_at, u32_at, u64_at}
 
 -- ---- what was written is read again

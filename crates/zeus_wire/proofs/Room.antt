@@ -8,7 +8,7 @@ use Rattle.std.proofs.lemmas.Bool.Decides.{nat_tests}
 use Rattle.zeus_packet.specs.Fits.{write_fits}
 use Rattle.zeus_packet.specs.declared.write.Write.{Write}
 use Rattle.zeus_wire.specs.Ranges.{AreWrites, IsWrite, largest, longest, longest_value, longest_writes, room}
-use Rattle.zeus_wire.specs.Spelling.{write_bytes, writes_bytes}
+use Rattle.zeus_model.specs.PacketSpelling.{write_bytes, writes_bytes}
 
 -- the longest packet has 8 of the longest writes
 pub longest_is : (version : ℕ) → (longest version ≡ 104 + 8 * longest_value version) × (8 ≤ longest_value version)

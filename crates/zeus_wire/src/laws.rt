@@ -5,7 +5,7 @@ ghost use Rattle.zeus_packet.specs.Fits.{fits};
 ghost use Rattle.zeus_packet.specs.declared.letter.Packet.{Packet};
 ghost use Rattle.zeus_wire.specs.Ranges.{AreBytes, AreLimits, IsPacket};
 ghost use Rattle.zeus_wire.specs.Reading.{decoded, packet_at};
-ghost use Rattle.zeus_wire.specs.Spelling.{packet_bytes};
+ghost use Rattle.zeus_model.specs.PacketSpelling.{packet_bytes};
 
 /// What was written is read again, whatever bytes follow it, so no spelling begins another.
 #[tactic(auto, using(crate::proofs::Again::packet_again, crate::proofs::Again::no_prefix))]

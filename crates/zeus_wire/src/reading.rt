@@ -4,7 +4,7 @@ ghost use Rattle.zeus_packet.specs.Fits.{fits};
 ghost use Rattle.zeus_packet.specs.declared.letter.Packet.{Packet};
 ghost use Rattle.zeus_wire.specs.Ranges.{AreLimits, IsPacket};
 ghost use Rattle.zeus_wire.specs.Reading.{IsRead, decoded, decoded_front, packet_at, placed, without_rest};
-ghost use Rattle.zeus_wire.specs.Spelling.{packet_bytes};
+ghost use Rattle.zeus_model.specs.PacketSpelling.{packet_bytes};
 
 mod body;
 mod fields;

@@ -2,7 +2,7 @@
 ghost use Rattle.std.specs.Prelude.{◌≡◌, ◌≤◌, ◌+◌, ◌++◌, IfOk, OnOk, true};
 ghost use Rattle.zeus_packet.specs.Fits.{fits};
 ghost use Rattle.zeus_wire.specs.Ranges.{IsPacket, largest, longest, room};
-ghost use Rattle.zeus_wire.specs.Spelling.{packet_bytes};
+ghost use Rattle.zeus_model.specs.PacketSpelling.{packet_bytes};
 
 mod body;
 mod fields;
@@ -35,7 +35,7 @@ pub fn largest(version: u8) -> Limits
 }
 
 /// Appends the spelling of the packet of this number and letter, for which there is room. Takes no memory.
-#[tactic(auto, using(std::proofs::Common::append_assoc, crate::proofs::Room::longest_is), unfolding(crate::specs::Spelling::packet_bytes, zeus_packet::specs::Fits::fits))]
+#[tactic(auto, using(std::proofs::Common::append_assoc, crate::proofs::Room::longest_is), unfolding(zeus_model::specs::PacketSpelling::packet_bytes, zeus_packet::specs::Fits::fits))]
 pub fn encode_letter_into(number: u32, letter: &Letter, version: u8, out: &mut Vec<u8>)
     requires fits { fits letter.now (largest version) ≡ true }
     requires room { longest version ≤ room out.old }

@@ -2,13 +2,13 @@
 ghost use Rattle.std.specs.Prelude.{◌≡◌, ◌≤◌, ◌+◌, ◌++◌, ◌∷◌, [], true};
 ghost use Rattle.zeus_packet.specs.Fits.{body_fits, content_fits, inv_fits};
 ghost use Rattle.zeus_wire.specs.Ranges.{IsBody, IsCause, IsInv, largest, longest, longest_value, room};
-ghost use Rattle.zeus_wire.specs.Spelling.{body_bytes, cause_bytes, inv_bytes, state_byte, stream_bytes, u32_bytes, wish_bytes, wish_tag};
+ghost use Rattle.zeus_model.specs.PacketSpelling.{body_bytes, cause_bytes, inv_bytes, state_byte, stream_bytes, u32_bytes, wish_bytes, wish_tag};
 
 use crate::writing::fields::{write_place, write_proposal, write_set, write_stamp, write_stream, write_u16, write_u32, write_u8};
 use crate::writing::values::{write_content, write_writes};
 use zeus_packet::{Body, Cause, Content, ObjId, Place, Proposal, RInv, Stamp, State, Stream, Want};
 
-#[tactic(auto, using(std::proofs::Common::append_assoc, crate::proofs::Room::few_writes, crate::proofs::Room::longest_is), unfolding(crate::specs::Spelling::inv_bytes, zeus_packet::specs::Fits::inv_fits, zeus_packet::specs::Fits::writes_fit))]
+#[tactic(auto, using(std::proofs::Common::append_assoc, crate::proofs::Room::few_writes, crate::proofs::Room::longest_is), unfolding(zeus_model::specs::PacketSpelling::inv_bytes, zeus_packet::specs::Fits::inv_fits, zeus_packet::specs::Fits::writes_fit))]
 fn write_inv(out: &mut Vec<u8>, version: u8, r: &RInv)
     requires fits { inv_fits (largest version) r.now ≡ true }
     requires room { longest version ≤ room out.old + 12 }
@@ -24,7 +24,7 @@ fn write_inv(out: &mut Vec<u8>, version: u8, r: &RInv)
     write_writes(out, version, r.writes.as_slice());
 }
 
-#[tactic(auto, unfolding(crate::specs::Spelling::wish_tag))]
+#[tactic(auto, unfolding(zeus_model::specs::PacketSpelling::wish_tag))]
 fn wish_tag(tag: u8, want: Want) -> u8
     requires { tag ≤ 9 }
     ensures { result ≡ wish_tag tag want }
@@ -35,7 +35,7 @@ fn wish_tag(tag: u8, want: Want) -> u8
     }
 }
 
-#[tactic(auto, unfolding(crate::specs::Spelling::wish_bytes))]
+#[tactic(auto, unfolding(zeus_model::specs::PacketSpelling::wish_bytes))]
 fn write_wish(out: &mut Vec<u8>, want: Want)
     requires { 1 ≤ room out.old }
     ensures bytes { out.new.items ≡ out.old.items ++ wish_bytes want }
@@ -48,7 +48,7 @@ fn write_wish(out: &mut Vec<u8>, want: Want)
     }
 }
 
-#[tactic(auto, unfolding(crate::specs::Spelling::state_byte))]
+#[tactic(auto, unfolding(zeus_model::specs::PacketSpelling::state_byte))]
 fn state_byte(state: State) -> u8
     ensures { result ≡ state_byte state }
 {
@@ -59,7 +59,7 @@ fn state_byte(state: State) -> u8
     }
 }
 
-#[tactic(auto, using(std::proofs::Common::append_assoc), unfolding(crate::specs::Spelling::cause_bytes, crate::specs::Ranges::IsCause))]
+#[tactic(auto, using(std::proofs::Common::append_assoc), unfolding(zeus_model::specs::PacketSpelling::cause_bytes, crate::specs::Ranges::IsCause))]
 fn write_cause(out: &mut Vec<u8>, cause: &Cause)
     requires { 10 ≤ room out.old }
     ensures bytes { out.new.items ≡ out.old.items ++ cause_bytes cause.now }
@@ -100,7 +100,7 @@ fn write_cause(out: &mut Vec<u8>, cause: &Cause)
     }
 }
 
-#[tactic(auto, using(std::proofs::Common::append_assoc), unfolding(crate::specs::Spelling::body_bytes, crate::specs::Ranges::IsBody))]
+#[tactic(auto, using(std::proofs::Common::append_assoc), unfolding(zeus_model::specs::PacketSpelling::body_bytes, crate::specs::Ranges::IsBody))]
 fn write_oreq(out: &mut Vec<u8>, version: u8, obj: ObjId, want: Want)
     requires { 4 ≤ room out.old }
     ensures bytes { out.new.items ≡ out.old.items ++ body_bytes version (Body.OReq obj want) }
@@ -111,7 +111,7 @@ fn write_oreq(out: &mut Vec<u8>, version: u8, obj: ObjId, want: Want)
     write_wish(out, want);
 }
 
-#[tactic(auto, using(std::proofs::Common::append_assoc), unfolding(crate::specs::Spelling::body_bytes, crate::specs::Ranges::IsBody))]
+#[tactic(auto, using(std::proofs::Common::append_assoc), unfolding(zeus_model::specs::PacketSpelling::body_bytes, crate::specs::Ranges::IsBody))]
 fn write_oinv(out: &mut Vec<u8>, version: u8, obj: ObjId, p: &Proposal)
     requires { 25 ≤ room out.old }
     ensures bytes { out.new.items ≡ out.old.items ++ body_bytes version (Body.OInv obj p.now) }
@@ -124,7 +124,7 @@ fn write_oinv(out: &mut Vec<u8>, version: u8, obj: ObjId, p: &Proposal)
     write_proposal(out, p);
 }
 
-#[tactic(auto, using(std::proofs::Common::append_assoc), unfolding(crate::specs::Spelling::body_bytes, crate::specs::Ranges::IsBody))]
+#[tactic(auto, using(std::proofs::Common::append_assoc), unfolding(zeus_model::specs::PacketSpelling::body_bytes, crate::specs::Ranges::IsBody))]
 fn write_oack(out: &mut Vec<u8>, version: u8, obj: ObjId, p: &Proposal, content: &Option<Content>)
     requires fits { content_fits (largest version) content.now ≡ true }
     requires room { 34 + longest_value version ≤ room out.old }
@@ -139,7 +139,7 @@ fn write_oack(out: &mut Vec<u8>, version: u8, obj: ObjId, p: &Proposal, content:
     write_content(out, version, content);
 }
 
-#[tactic(auto, using(std::proofs::Common::append_assoc), unfolding(crate::specs::Spelling::body_bytes, crate::specs::Ranges::IsBody))]
+#[tactic(auto, using(std::proofs::Common::append_assoc), unfolding(zeus_model::specs::PacketSpelling::body_bytes, crate::specs::Ranges::IsBody))]
 fn write_onack(out: &mut Vec<u8>, version: u8, obj: ObjId, stamp: &Stamp, cause: &Cause)
     requires { 22 ≤ room out.old }
     ensures bytes { out.new.items ≡ out.old.items ++ body_bytes version (Body.ONack obj stamp.now cause.now) }
@@ -152,7 +152,7 @@ fn write_onack(out: &mut Vec<u8>, version: u8, obj: ObjId, stamp: &Stamp, cause:
     write_cause(out, cause);
 }
 
-#[tactic(auto, using(std::proofs::Common::append_assoc), unfolding(crate::specs::Spelling::body_bytes, crate::specs::Ranges::IsBody))]
+#[tactic(auto, using(std::proofs::Common::append_assoc), unfolding(zeus_model::specs::PacketSpelling::body_bytes, crate::specs::Ranges::IsBody))]
 fn write_oval(out: &mut Vec<u8>, version: u8, obj: ObjId, stamp: &Stamp, place: &Place)
     requires { 14 ≤ room out.old }
     ensures bytes { out.new.items ≡ out.old.items ++ body_bytes version (Body.OVal obj stamp.now place.now) }
@@ -165,7 +165,7 @@ fn write_oval(out: &mut Vec<u8>, version: u8, obj: ObjId, stamp: &Stamp, place: 
     write_place(out, place);
 }
 
-#[tactic(auto, using(std::proofs::Common::append_assoc), unfolding(crate::specs::Spelling::body_bytes))]
+#[tactic(auto, using(std::proofs::Common::append_assoc), unfolding(zeus_model::specs::PacketSpelling::body_bytes))]
 fn write_ack(out: &mut Vec<u8>, tag: u8, stream: &Stream, number: u32)
     requires { 7 ≤ room out.old }
     ensures bytes { out.new.items ≡ out.old.items ++ tag ∷ stream_bytes stream.now ++ u32_bytes number }
@@ -176,7 +176,7 @@ fn write_ack(out: &mut Vec<u8>, tag: u8, stream: &Stream, number: u32)
     write_u32(out, number);
 }
 
-#[tactic(auto, using(std::proofs::Common::append_assoc, crate::proofs::Room::longest_is), unfolding(crate::specs::Spelling::body_bytes, crate::specs::Ranges::IsBody, zeus_packet::specs::Fits::body_fits))]
+#[tactic(auto, using(std::proofs::Common::append_assoc, crate::proofs::Room::longest_is), unfolding(zeus_model::specs::PacketSpelling::body_bytes, crate::specs::Ranges::IsBody, zeus_packet::specs::Fits::body_fits))]
 pub fn write_body(out: &mut Vec<u8>, version: u8, body: &Body)
     requires fits { body_fits (largest version) body.now ≡ true }
     requires room { longest version ≤ room out.old + 11 }

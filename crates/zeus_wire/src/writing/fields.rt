@@ -1,7 +1,7 @@
 //! Numbers, sets, streams, stamps, placements and proposals as bytes, for which there is room.
 ghost use Rattle.std.specs.Prelude.{◌≡◌, ◌≤◌, ◌+◌, ◌++◌, ◌∷◌, [], length};
 ghost use Rattle.zeus_wire.specs.Ranges.{IsProposal, IsSet, IsStamp, room};
-ghost use Rattle.zeus_wire.specs.Spelling.{place_bytes, proposal_bytes, set_bytes, stamp_bytes, stream_bytes, u16_bytes, u32_bytes, u64_bytes};
+ghost use Rattle.zeus_model.specs.PacketSpelling.{place_bytes, proposal_bytes, set_bytes, stamp_bytes, stream_bytes, u16_bytes, u32_bytes, u64_bytes};
 
 use zeus_packet::{NodeSet, Place, Proposal, Stamp, Stream};
 
@@ -21,7 +21,7 @@ pub fn write_u8(out: &mut Vec<u8>, byte: u8)
     out.push_reserved(byte);
 }
 
-#[tactic(auto, unfolding(crate::specs::Spelling::u16_bytes))]
+#[tactic(auto, unfolding(zeus_model::specs::PacketSpelling::u16_bytes))]
 pub fn write_u16(out: &mut Vec<u8>, number: u16)
     requires { 2 ≤ room out.old }
     ensures bytes { out.new.items ≡ out.old.items ++ u16_bytes number }
@@ -30,7 +30,7 @@ pub fn write_u16(out: &mut Vec<u8>, number: u16)
     write_bytes(out, &number.to_be_bytes());
 }
 
-#[tactic(auto, unfolding(crate::specs::Spelling::u32_bytes))]
+#[tactic(auto, unfolding(zeus_model::specs::PacketSpelling::u32_bytes))]
 pub fn write_u32(out: &mut Vec<u8>, number: u32)
     requires { 4 ≤ room out.old }
     ensures bytes { out.new.items ≡ out.old.items ++ u32_bytes number }
@@ -39,7 +39,7 @@ pub fn write_u32(out: &mut Vec<u8>, number: u32)
     write_bytes(out, &number.to_be_bytes());
 }
 
-#[tactic(auto, unfolding(crate::specs::Spelling::u64_bytes))]
+#[tactic(auto, unfolding(zeus_model::specs::PacketSpelling::u64_bytes))]
 pub fn write_u64(out: &mut Vec<u8>, number: u64)
     requires { 8 ≤ room out.old }
     ensures bytes { out.new.items ≡ out.old.items ++ u64_bytes number }
@@ -48,7 +48,7 @@ pub fn write_u64(out: &mut Vec<u8>, number: u64)
     write_bytes(out, &number.to_be_bytes());
 }
 
-#[tactic(auto, using(crate::proofs::Sets::set_of_byte), unfolding(crate::specs::Spelling::set_bytes))]
+#[tactic(auto, using(crate::proofs::Sets::set_of_byte), unfolding(zeus_model::specs::PacketSpelling::set_bytes))]
 pub fn write_set(out: &mut Vec<u8>, nodes: NodeSet)
     requires { 1 ≤ room out.old }
     ensures bytes { out.new.items ≡ out.old.items ++ set_bytes nodes }
@@ -58,7 +58,7 @@ pub fn write_set(out: &mut Vec<u8>, nodes: NodeSet)
     out.push_reserved(nodes.bits);
 }
 
-#[tactic(auto, using(std::proofs::Common::append_assoc), unfolding(crate::specs::Spelling::stream_bytes))]
+#[tactic(auto, using(std::proofs::Common::append_assoc), unfolding(zeus_model::specs::PacketSpelling::stream_bytes))]
 pub fn write_stream(out: &mut Vec<u8>, stream: &Stream)
     requires { 2 ≤ room out.old }
     ensures bytes { out.new.items ≡ out.old.items ++ stream_bytes stream.now }
@@ -68,7 +68,7 @@ pub fn write_stream(out: &mut Vec<u8>, stream: &Stream)
     write_u8(out, stream.slot.0);
 }
 
-#[tactic(auto, using(std::proofs::Common::append_assoc), unfolding(crate::specs::Spelling::stamp_bytes))]
+#[tactic(auto, using(std::proofs::Common::append_assoc), unfolding(zeus_model::specs::PacketSpelling::stamp_bytes))]
 pub fn write_stamp(out: &mut Vec<u8>, stamp: &Stamp)
     requires { 9 ≤ room out.old }
     ensures bytes { out.new.items ≡ out.old.items ++ stamp_bytes stamp.now }
@@ -79,7 +79,7 @@ pub fn write_stamp(out: &mut Vec<u8>, stamp: &Stamp)
     write_u8(out, stamp.driver.0);
 }
 
-#[tactic(auto, using(std::proofs::Common::append_assoc), unfolding(crate::specs::Spelling::place_bytes))]
+#[tactic(auto, using(std::proofs::Common::append_assoc), unfolding(zeus_model::specs::PacketSpelling::place_bytes))]
 pub fn write_place(out: &mut Vec<u8>, place: &Place)
     requires { 2 ≤ room out.old }
     ensures bytes { out.new.items ≡ out.old.items ++ place_bytes place.now }
@@ -90,7 +90,7 @@ pub fn write_place(out: &mut Vec<u8>, place: &Place)
     write_set(out, place.replicas);
 }
 
-#[tactic(auto, using(std::proofs::Common::append_assoc), unfolding(crate::specs::Spelling::proposal_bytes))]
+#[tactic(auto, using(std::proofs::Common::append_assoc), unfolding(zeus_model::specs::PacketSpelling::proposal_bytes))]
 pub fn write_proposal(out: &mut Vec<u8>, p: &Proposal)
     requires { 21 ≤ room out.old }
     ensures bytes { out.new.items ≡ out.old.items ++ proposal_bytes p.now }

@@ -3,13 +3,13 @@ ghost use Rattle.std.specs.Prelude.{◌≡◌, ◌≤◌, ◌+◌, ◌++◌, tru
 ghost use Rattle.std.specs.List.{list_all};
 ghost use Rattle.zeus_packet.specs.Fits.{content_fits, value_fits, write_fits};
 ghost use Rattle.zeus_wire.specs.Ranges.{AreWrites, IsContent, IsValue, IsWrite, largest, longest_value, longest_writes, room};
-ghost use Rattle.zeus_wire.specs.Spelling.{content_bytes, value_bytes, write_bytes as spelled, writes_bytes};
+ghost use Rattle.zeus_model.specs.PacketSpelling.{content_bytes, value_bytes, write_bytes as spelled, writes_bytes};
 
 use crate::writing::fields::{write_bytes, write_u16, write_u64, write_u8};
 use zeus_base::Text;
 use zeus_packet::{Content, Value, Write};
 
-#[tactic(auto, using(std::proofs::Common::append_assoc), unfolding(crate::specs::Spelling::value_bytes, crate::specs::Ranges::longest_value, crate::specs::Ranges::IsValue))]
+#[tactic(auto, using(std::proofs::Common::append_assoc), unfolding(zeus_model::specs::PacketSpelling::value_bytes, crate::specs::Ranges::longest_value, crate::specs::Ranges::IsValue))]
 fn write_num(out: &mut Vec<u8>, version: u8, number: u64)
     requires { longest_value version ≤ room out.old }
     ensures bytes { out.new.items ≡ out.old.items ++ value_bytes version (Value.Num number) }
@@ -21,7 +21,7 @@ fn write_num(out: &mut Vec<u8>, version: u8, number: u64)
     write_u64(out, number);
 }
 
-#[tactic(auto, using(std::proofs::Common::append_assoc), unfolding(crate::specs::Spelling::value_bytes, crate::specs::Ranges::IsValue))]
+#[tactic(auto, using(std::proofs::Common::append_assoc), unfolding(zeus_model::specs::PacketSpelling::value_bytes, crate::specs::Ranges::IsValue))]
 fn write_text(out: &mut Vec<u8>, version: u8, text: &Text)
     requires { 33 ≤ room out.old }
     ensures bytes { out.new.items ≡ out.old.items ++ value_bytes version (Value.Text text.now) }
@@ -47,7 +47,7 @@ fn write_value(out: &mut Vec<u8>, version: u8, value: &Value)
     }
 }
 
-#[tactic(auto, using(std::proofs::Common::append_assoc), unfolding(crate::specs::Spelling::write_bytes, zeus_packet::specs::Fits::write_fits))]
+#[tactic(auto, using(std::proofs::Common::append_assoc), unfolding(zeus_model::specs::PacketSpelling::write_bytes, zeus_packet::specs::Fits::write_fits))]
 fn write_write(out: &mut Vec<u8>, version: u8, write: &Write)
     requires fits { write_fits (largest version) write.now ≡ true }
     requires room { 10 + longest_value version ≤ room out.old }
@@ -72,7 +72,7 @@ pub fn write_writes(out: &mut Vec<u8>, version: u8, writes: &[Write])
     }
 }
 
-#[tactic(auto, using(std::proofs::Common::append_assoc), unfolding(crate::specs::Spelling::content_bytes, crate::specs::Ranges::IsContent, zeus_packet::specs::Fits::content_fits))]
+#[tactic(auto, using(std::proofs::Common::append_assoc), unfolding(zeus_model::specs::PacketSpelling::content_bytes, crate::specs::Ranges::IsContent, zeus_packet::specs::Fits::content_fits))]
 pub fn write_content(out: &mut Vec<u8>, version: u8, content: &Option<Content>)
     requires fits { content_fits (largest version) content.now ≡ true }
     requires room { 9 + longest_value version ≤ room out.old }
