@@ -10,6 +10,7 @@ mod passes;
 mod proposals;
 mod requests;
 mod slot;
+mod sorting;
 mod state;
 mod tick;
 
