@@ -4,7 +4,6 @@ pub mod Committing
 pub mod Searching
 pub mod Starting
 pub mod SlotTrying
-pub mod StreamOrder
 pub mod Slots
 pub mod Requesting
 pub mod Wanting

@@ -1,9 +1,7 @@
 //! What a call of a node sends and passes.
 ghost use Rattle.std.specs.Prelude.{◌≡◌, ◌<◌, ◌≤◌, [], ◌∷◌, ◌++◌, length, nat_le, take, IfOk};
-ghost use Rattle.zeus_model.specs.Book.{in_stream_order};
 ghost use Rattle.node_state.specs.Effect.{IsCleared};
 
-use crate::sorting::sort;
 use std::alloc::Global;
 use std::marker::Model;
 use zeus_base::{NoMemory, Passed};
@@ -123,13 +121,6 @@ impl PassedList {
         ensures { self.new ≡ [] }
     {
         self.items.clear();
-    }
-
-    /// Puts the passes into the order of their streams. Passes of one stream stay in their order.
-    pub fn sort(&mut self)
-        ensures { self.new ≡ in_stream_order self.old }
-    {
-        sort(self.items.as_mut_slice());
     }
 
     /// Adds a pass, for which there is room.

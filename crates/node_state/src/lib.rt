@@ -10,7 +10,6 @@ mod passes;
 mod proposals;
 mod requests;
 mod slot;
-mod sorting;
 mod state;
 mod tick;
 
