@@ -2,8 +2,6 @@
 use Rattle.std.specs.Prelude.{ℕ, suc, ◌≡◌, ◌<◌, ◌≤◌, ◌+◌, ◌-◌, List, [], ◌∷◌, ◌++◌, length, take, refl}
 use Rattle.std.proofs.Common.{sym, ap, ◌∙◌, append-nil, append_assoc, add-one, arith, length-append}
 use Rattle.std.proofs.lemmas.List.{take_all}
-use Rattle.zeus_base.specs.declared.step.Passed.{Passed}
-use Rattle.zeus_packet.specs.declared.letter.Letter.{Letter}
 use Rattle.zeus_model.specs.Act.{Act, and_then, in_turn, still}
 use Rattle.zeus_model.specs.State.{Node}
 use Rattle.zeus_model.specs.Tables.{below, numbers_from}

@@ -1,6 +1,6 @@
 -- The parts of the finish: own streams, streams of nodes that are no members, and the report.
-use Rattle.std.specs.Prelude.{ℕ, zero, suc, ◌≡◌, ◌<◌, ◌≤◌, ◌+◌, ◌-◌, ◌&&◌, Bool, true, false, not, List, [], ◌∷◌, ◌++◌, length, map, refl}
-use Rattle.std.proofs.Common.{sym, ap, ◌∙◌, arith}
+use Rattle.std.specs.Prelude.{ℕ, zero, suc, ◌≡◌, ◌<◌, ◌≤◌, ◌+◌, ◌*◌, ◌-◌, ◌&&◌, Bool, true, false, not, List, [], ◌∷◌, length, map, refl}
+use Rattle.std.proofs.Common.{ap, ◌∙◌, arith}
 use Rattle.zeus_base.specs.Nodes.{has, with_node, without}
 use Rattle.zeus_base.specs.declared.config.Limits.{Limits}
 use Rattle.zeus_base.specs.declared.order.Stream.{Stream}
@@ -13,12 +13,13 @@ use Rattle.zeus_model.specs.Commit.{advance_kept, advance_kept_by, advance_own, 
 use Rattle.zeus_model.specs.Receive.{on_recovered}
 use Rattle.zeus_model.specs.State.{Node, log, slot}
 use Rattle.zeus_model.specs.Tables.{below, numbers_from}
-use Rattle.node_ranges.specs.Places.{stream_fits-from}
+use Rattle.node_ranges.specs.CommitRules.{stream_fits-from}
 use Rattle.node_ranges.specs.Ranges.{limits_of}
 use Rattle.node_state.specs.declared.effect.Effect.{Effect}
 use Rattle.node_state.specs.Done.{Adds, IsActed}
 use Rattle.node_state.specs.EffectLaws.{adds_nothing}
-use Rattle.commit_rules.proofs.Leading.{Leads, acted-few, acted-room, acted_then, in_turn-append, in_turn-next, in_turn-none, leads-end, leads-same, leads-start, leads-step, numbers-all, numbers-next, numbers-none}
+use Rattle.commit_rules.proofs.Answering.{not_false, not_true}
+use Rattle.commit_rules.proofs.Leading.{Leads, acted-few, acted_then, in_turn-append, in_turn-next, in_turn-none, leads-end, leads-same, leads-start, leads-step, numbers-all, numbers-next, numbers-none}
 
 -- ---- at most one pass
 
@@ -104,7 +105,7 @@ streams_from-none : (other i slots : ℕ) (n : Node) → slots ≤ i → streams
 unfolding streams_of
 streams_from-none other i slots n h = rw (numbers-none i slots h) (in_turn-none advance_kept n)
 
-pub streams-init : (n : Node) (other : ℕ) (out : Effect) → length out.sent ≤ 64 → IsUnderWay (in_turn advance_kept n (streams_of other (below (length n.slots)))) (streams_from other 0 (length n.slots) n) n n out out (length out.passed)
+pub streams-init : (n : Node) (other : ℕ) (out : Effect) → length out.sent ≤ 64 → IsUnderWay (in_turn advance_kept n (streams_of other (below (length n.slots)))) (streams_from other 0 (length n.slots) n) n n out out (length out.passed + 0)
 streams-init n other out room =
     record {
       leads = leads-start (in_turn advance_kept n (streams_of other (below (length n.slots)))) (streams_from other 0 (length n.slots) n) out (rw (numbers-all (length n.slots)) refl) room;
@@ -112,8 +113,8 @@ streams-init n other out room =
       limits = refl;
     }
 
-pub streams-step : (all : Act) (start n m : Node) (other i slots most : ℕ) (x y z : Effect) → i < slots → IsActed (advance_kept n record { node = other; slot = i }) m y z → limits_of m ≡ limits_of n → IsUnderWay all (streams_from other i slots n) start n x y most → IsUnderWay all (streams_from other (i + 1) slots m) start m x z (most + 1)
-streams-step all start n m other i slots most x y z h acted limits u =
+pub streams-step : (all : Act) (start n m : Node) (other i slots base : ℕ) (x y z : Effect) → i < slots → IsActed (advance_kept n record { node = other; slot = i }) m y z → limits_of m ≡ limits_of n → IsUnderWay all (streams_from other i slots n) start n x y (base + i) → IsUnderWay all (streams_from other (i + 1) slots m) start m x z (base + (i + 1))
+streams-step all start n m other i slots base x y z h acted limits u =
     let s : Stream = record { node = other; slot = i } in
     record {
       leads = leads-step all (streams_from other i slots n) (advance_kept n s) (streams_from other (i + 1) slots) m x y z (streams_from-next other i slots n h) u.leads acted;
@@ -149,17 +150,17 @@ outside_from-none : (members slots : List ℕ) (i nodes : ℕ) (n : Node) → no
 unfolding streams_outside
 outside_from-none members slots i nodes n h = rw (numbers-none i nodes h) (in_turn-none advance_kept n)
 
-pub outside-init : (n : Node) (out : Effect) → length out.sent ≤ 64 → length out.passed ≤ 8 → IsUnderWay (in_turn advance_kept n (outside n)) (outside_from n.members (below (length n.slots)) 0 (length n.logs) n) n n out out 8
+pub outside-init : (n : Node) (out : Effect) → length out.sent ≤ 64 → length out.passed ≤ 8 → IsUnderWay (in_turn advance_kept n (outside n)) (outside_from n.members (below (length n.slots)) 0 (length n.logs) n) n n out out (8 + 8 * 0)
 outside-init n out room few =
     record {
       leads = leads-start (in_turn advance_kept n (outside n)) (outside_from n.members (below (length n.slots)) 0 (length n.logs) n) out (rw (numbers-all (length n.logs)) refl) room;
-      few = few;
+      few = omega (arith, few);
       limits = refl;
     }
 
 -- the streams of a member are passed over
-pub outside-member : (all : Act) (start n : Node) (members slots : List ℕ) (i nodes most : ℕ) (x y : Effect) → i < nodes → has i members ≡ true → IsUnderWay all (outside_from members slots i nodes n) start n x y most → IsUnderWay all (outside_from members slots (i + 1) nodes n) start n x y (most + 8)
-outside-member all start n members slots i nodes most x y h member u =
+pub outside-member : (all : Act) (start n : Node) (members slots : List ℕ) (i nodes : ℕ) (x y : Effect) → i < nodes → has i members ≡ true → IsUnderWay all (outside_from members slots i nodes n) start n x y (8 + 8 * i) → IsUnderWay all (outside_from members slots (i + 1) nodes n) start n x y (8 + 8 * (i + 1))
+outside-member all start n members slots i nodes x y h member u =
     record {
       leads = leads-same all (outside_from members slots i nodes n) (outside_from members slots (i + 1) nodes n) x y (outside_from-member members slots i nodes n h member) u.leads;
       few = omega (arith, u.few);
@@ -167,8 +168,8 @@ outside-member all start n members slots i nodes most x y h member u =
     }
 
 -- those of another node advance
-pub outside-step : (all : Act) (start n m : Node) (members : List ℕ) (i nodes most : ℕ) (x y z : Effect) → i < nodes → has i members ≡ false → IsActed (in_turn advance_kept n (streams_of i (below (length n.slots)))) m y z → length z.passed ≤ length y.passed + 8 → limits_of m ≡ limits_of n → IsUnderWay all (outside_from members (below (length start.slots)) i nodes n) start n x y most → IsUnderWay all (outside_from members (below (length start.slots)) (i + 1) nodes m) start m x z (most + 8)
-outside-step all start n m members i nodes most x y z h stranger acted few limits u =
+pub outside-step : (all : Act) (start n m : Node) (members : List ℕ) (i nodes : ℕ) (x y z : Effect) → i < nodes → has i members ≡ false → IsActed (in_turn advance_kept n (streams_of i (below (length n.slots)))) m y z → length z.passed ≤ length y.passed + 8 → limits_of m ≡ limits_of n → IsUnderWay all (outside_from members (below (length start.slots)) i nodes n) start n x y (8 + 8 * i) → IsUnderWay all (outside_from members (below (length start.slots)) (i + 1) nodes m) start m x z (8 + 8 * (i + 1))
+outside-step all start n m members i nodes x y z h stranger acted few limits u =
     let there = rw (slots_of n start u.limits) at acted in
     let slots = below (length start.slots) in
     record {
@@ -195,9 +196,9 @@ unfolding report
 report-unrecovered n out e room = rw (← e, and-false (not (has n.me n.reported))) (still_acted n out room)
 
 -- nor does one that has reported
-pub report-again : (n m : Node) (out : Effect) → has n.me n.reported ≡ true → m ≡ (on_recovered n n.me).node → length out.sent ≤ 64 → IsActed (report n) m out out
+pub report-again : (n m : Node) (out : Effect) → false ≡ not (has n.me n.reported) → m ≡ (on_recovered n n.me).node → length out.sent ≤ 64 → IsActed (report n) m out out
 unfolding report on_recovered
-report-again n m out e becomes room = rw (becomes, e) (still_acted n out room)
+report-again n m out e becomes room = rw (becomes, not_false (has n.me n.reported) e) (still_acted n out room)
 
 -- a letter depends on its sender's number and epoch alone
 to_each-reported : (n : Node) (reported tos : List ℕ) (body : Body) → to_each (record n { reported = reported }) tos body ≡ to_each n tos body
@@ -206,9 +207,10 @@ to_each-reported n reported [] body = refl
 to_each-reported n reported (to ∷ tos) body = ap (λ (ls : List Letter). letter n to body ∷ ls) (to_each-reported n reported tos body)
 
 -- any other reports to the members
-pub report-first : (n m : Node) (before after : Effect) → true ≡ none_stored n (outside n) → has n.me n.reported ≡ false → m ≡ (on_recovered n n.me).node → Adds (to_each m (without n.me m.members) Recovered) [] before after → IsActed (report n) m before after
+pub report-first : (n m : Node) (before after : Effect) → true ≡ none_stored n (outside n) → true ≡ not (has n.me n.reported) → m ≡ (on_recovered n n.me).node → Adds (to_each m (without n.me m.members) Recovered) [] before after → IsActed (report n) m before after
 unfolding report on_recovered
-report-first n m before after e none becomes adds =
+report-first n m before after e news becomes adds =
+    let none = not_true (has n.me n.reported) news in
     let is = rw none at becomes in
     rw (← e, none)
     record { becomes = is; adds = rw (← to_each-reported n (with_node n.me n.reported) (without n.me n.members) Recovered) (rw is at adds) }

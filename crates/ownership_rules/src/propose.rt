@@ -6,7 +6,7 @@ ghost use Rattle.zeus_model.specs.Tables.{where_true};
 ghost use Rattle.node_ranges.specs.Ranges.{limits_of};
 ghost use Rattle.node_state.specs.Done.{IsDone, IsQuiet};
 
-use crate::tell::{answer_settled, collector, refuse, send_acknowledgement};
+use crate::tell::{answer_settled, refuse};
 use node_state::{Effect, NodeState};
 use zeus_base::{NodeId, ObjId, Stamp};
 use zeus_model::Outcome;
@@ -125,8 +125,8 @@ fn hold(node: &mut NodeState, from: NodeId, obj: ObjId, p: &Proposal, out: &mut 
     requires proposal { proposal_fits (limits_of node.old) p.now ≡ true }
     ensures { IsDone (hold_or_refuse node.old from obj p.now None) result node.new out.old out.new }
 {
-    let to = collector(node, p, from);
-    send_acknowledgement(node, to, obj, p, out);
+    let to = node.collector(p, from);
+    node.acknowledge(to, obj, p, out);
     if node.hold(obj, p) {
         Outcome::Taken
     } else {

@@ -7,7 +7,6 @@ ghost use Rattle.directory.specs.Driving.{answered};
 ghost use Rattle.node_ranges.specs.Ranges.{KeepsRanges, limits_of};
 ghost use Rattle.node_state.specs.Done.{IsDone};
 
-use crate::tell::{send_acknowledgement, send_invalidations};
 use node_state::{Drive, Effect, NodeState};
 use zeus_base::{NodeId, ObjId};
 use zeus_model::Outcome;
@@ -79,8 +78,8 @@ fn drive(
     requires room { length out.old.sent ≤ 64 }
     ensures { IsDone (drive node.old requester obj p.now) result node.new out.old out.new }
 {
-    send_invalidations(node, obj, p, out);
-    send_acknowledgement(node, requester, obj, p, out);
+    node.send_invalidations(obj, p, out);
+    node.acknowledge(requester, obj, p, out);
     node.hold(obj, p);
     Outcome::Taken
 }

@@ -1,47 +1,12 @@
 //! What a node tells of a proposal and of what is settled.
-ghost use Rattle.std.specs.Prelude.{◌≡◌, ◌<◌, ◌≤◌, [], ◌∷◌, length};
-ghost use Rattle.zeus_model.specs.Ownership.{acknowledgement, advice, answer_settled, collector, invalidations, refusal, refuse_proposal};
+ghost use Rattle.std.specs.Prelude.{◌≡◌, ◌<◌, ◌≤◌, [], length};
+ghost use Rattle.zeus_model.specs.Ownership.{advice, answer_settled, refusal, refuse_proposal};
 ghost use Rattle.node_state.specs.Done.{Adds, IsDone};
 
 use node_state::{Effect, NodeState};
 use zeus_base::{NodeId, ObjId};
 use zeus_model::Outcome;
-use zeus_packet::{Body, Cause, Proposal, arbiters};
-
-/// Sends the invalidations of the proposal to the other arbiters of its base.
-pub(crate) fn send_invalidations(node: &NodeState, obj: ObjId, p: &Proposal, out: &mut Effect)
-    requires { length out.old.sent ≤ 64 }
-    ensures { Adds (invalidations node.now obj p.now) [] out.old out.new }
-{
-    let others = arbiters(&p.base_place, node.members(), node.directory()).without(node.me());
-    node.send_each(others, &Body::OInv(obj, *p), out);
-}
-
-/// Sends the node's own acknowledgement of the proposal. The source of its base adds the content of its copy.
-pub(crate) fn send_acknowledgement(
-    node: &NodeState,
-    to: NodeId,
-    obj: ObjId,
-    p: &Proposal,
-    out: &mut Effect,
-)
-    ensures { Adds (acknowledgement node.now to obj p.now ∷ []) [] out.old out.new }
-{
-    let content = node.own_content(obj, &p.base_place);
-    node.send(to, Body::OAck(obj, *p, content), out);
-}
-
-/// Where the acknowledgements of the proposal go: to the requester where it is a member, else to the other node.
-#[tactic(auto, unfolding(zeus_model::specs::Ownership::collector))]
-pub(crate) fn collector(node: &NodeState, p: &Proposal, other: NodeId) -> NodeId
-    ensures { result ≡ collector node.now p.now other }
-{
-    if node.members().has(p.requester) {
-        p.requester
-    } else {
-        other
-    }
-}
+use zeus_packet::{Body, Cause, Proposal};
 
 /// Refuses the proposal, and tells the requester why where it is a member.
 pub(crate) fn refuse(

@@ -1,8 +1,9 @@
-//! What a node says again when its timer fires: whatever may have been lost on its way.
+//! What a node says again when its timer fires, since every letter may have been lost on its way.
 #![tactic(auto)]
 
 mod entries;
+mod leaves;
 mod proposals;
-mod tick;
+mod timer;
 
-
+pub use timer::tick;

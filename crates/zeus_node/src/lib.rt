@@ -1,11 +1,9 @@
-//! A node of the cluster: what it keeps, and what it does with a transaction, a try and a letter.
+//! A node of the cluster: what it does with a transaction, a try, a letter, a timer, a view and a stop.
 #![tactic(auto)]
 
-mod copies;
-mod effect;
 mod node;
-mod pipeline;
-mod stored;
+mod receiving;
 
-pub use effect::{Effect, Letters, PassedList};
 pub use node::Node;
+pub use node_state::{Effect, Letters, PassedList};
+pub use zeus_model::{Begin, Copy, Entry, Install, Outcome, Stop, Ticked, Tried};

@@ -19,7 +19,7 @@ returns-then-hold c =
     record {
       says = new_taken (is_held c.args.p.now (entry c.args.node.now c.args.obj).proposal) (sym c.if-hold.true ∙ c.hold.ensures.new);
       becomes = c.hold.ensures.after;
-      adds = rw c.collector-to.ensures at c.send_acknowledgement.ensures;
+      adds = rw c.collector-to.ensures at c.acknowledge.ensures;
     }
 
 pub returns-else-hold : goal.returns-else-hold
@@ -28,5 +28,5 @@ returns-else-hold c =
     record {
       says = old_again (is_held c.args.p.now (entry c.args.node.now c.args.obj).proposal) (sym c.if-hold.false ∙ c.hold.ensures.new);
       becomes = c.hold.ensures.after;
-      adds = rw c.collector-to.ensures at c.send_acknowledgement.ensures;
+      adds = rw c.collector-to.ensures at c.acknowledge.ensures;
     }

@@ -18,8 +18,8 @@ returns-in-Some c =
 pub returns-then-has : goal.returns-then-has
 returns-then-has c =
     rw c.entry.ensures at c.greater_cause-greater.ensures
-    ∙ sym (hold_cause-directory c.args.node.now c.args.obj c.args.p.now (sym c.is_source.ensures ∙ c.if-is_source.false) (sym (rw (c.directory.ensures, c.me.ensures) at c.has.ensures) ∙ c.if-has.true))
+    ∙ sym (hold_cause-directory c.args.node.now c.args.obj c.args.p.now (sym c.is_source.ensures ∙ c.if-is_source.false) (sym (rw (c.directory.ensures, c.me.ensures.number) at c.has.ensures) ∙ c.if-has.true))
 
 pub returns-else-has : goal.returns-else-has
 returns-else-has c =
-    sym (hold_cause-stranger c.args.node.now c.args.obj c.args.p.now (sym c.is_source.ensures ∙ c.if-is_source.false) (sym (rw (c.directory.ensures, c.me.ensures) at c.has.ensures) ∙ c.if-has.false))
+    sym (hold_cause-stranger c.args.node.now c.args.obj c.args.p.now (sym c.is_source.ensures ∙ c.if-is_source.false) (sym (rw (c.directory.ensures, c.me.ensures.number) at c.has.ensures) ∙ c.if-has.false))

@@ -10,5 +10,5 @@ returns c =
       becomes = c.hold.ensures.after;
       adds =
           adds-append (invalidations c.args.node.now c.args.obj c.args.p.now) (acknowledgement c.args.node.now c.args.requester c.args.obj c.args.p.now ∷ []) [] [] c.args.out.now
-          c.send_invalidations.new.out c.send_acknowledgement.new.out c.send_invalidations.ensures c.send_acknowledgement.ensures;
+          c.send_invalidations.new.out c.acknowledge.new.out c.send_invalidations.ensures c.acknowledge.ensures;
     }

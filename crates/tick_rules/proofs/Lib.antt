@@ -1,0 +1,5 @@
+pub mod Saying
+pub mod Telling
+pub mod Leaving
+pub mod Driving
+pub mod Repeating
