@@ -86,6 +86,7 @@ stream-followed limits n s k node within =
 abbrev pub with_texts : Limits → Limits
 with_texts limits = record { version = 2; nodes = limits.nodes; slots = limits.slots; objects = limits.objects }
 
+-- a value that fits does so where there are texts too
 pub value_fits-texts : (limits : Limits) (v : Value) → value_fits limits v ≡ true → value_fits (with_texts limits) v ≡ true
 unfolding value_fits
 value_fits-texts limits (Num n) h = refl

@@ -136,6 +136,7 @@ advice-fits limits n x p cause within fit c k =
     cond_both (has p.requester n.members) (letter n p.requester (ONack x p.stamp cause) ∷ []) [] (λ ls. AllFit limits ls)
     (λ _. nack-fits limits n p.requester x p.stamp cause parts.requester within parts.stamp c k) (λ _. AllFit-none limits)
 
+-- the collector is a node
 pub collector-within : (limits : Limits) (n : Node) (p : Proposal) (other : ℕ) → proposal_fits limits p ≡ true → other < limits.nodes → collector n p other < limits.nodes
 unfolding collector
 collector-within limits n p other fit less =
@@ -192,6 +193,7 @@ decide_gathered-keeps limits n x (Some g) within is k =
     cond_both (is_decidable n g) (decide_on n x g.proposal g.content) (still n) (λ (a : Act). KeepsAndFits limits a.node a.sent)
     (λ _. decide_on-keeps limits n x g.proposal g.content within fit.proposal fit.content k) (λ _. KeepsAndFits-still limits n k)
 
+-- a node decides what it has gathered
 pub decide-keeps : (limits : Limits) (x : ℕ) → x < limits.objects → Keeping limits (decide x)
 decide-keeps limits x within n k = decide_gathered-keeps limits n x (gather n x) within refl k
 

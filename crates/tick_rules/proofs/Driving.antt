@@ -16,6 +16,7 @@ none_is None false h = refl
 none_is (Some a) true h = refl
 none_is (Some a) false h = absurd cc
 
+-- no proposal is held
 pub proposal-none : (n : Node) (x : ℕ) (o : Option Proposal) → o ≡ None → repeat_proposal n x o ≡ []
 unfolding repeat_proposal
 proposal-none n x o is = rw is refl
@@ -25,30 +26,36 @@ pub proposal-lost : (n : Node) (x : ℕ) (o : Option Proposal) (p : Proposal) �
 unfolding repeat_proposal
 proposal-lost n x o p is lost = rw (is, none_is (source p.base_place n.members) false lost) refl
 
+-- the base has a source
 pub proposal-driven : (n : Node) (x : ℕ) (o : Option Proposal) (p : Proposal) → o ≡ Some p → is_some (source p.base_place n.members) ≡ true → repeat_proposal n x o ≡ invalidations n x p ++ own_acknowledgement n x p
 unfolding repeat_proposal
 proposal-driven n x o p is there = rw (is, none_is (source p.base_place n.members) true there) refl
 
 -- ---- the own acknowledgement
 
+-- the node is a source that is not ready
 pub own-silent : (n : Node) (x : ℕ) (p : Proposal) → is_source n p.base_place ≡ true → is_some (unready_cause n x) ≡ true → own_acknowledgement n x p ≡ []
 unfolding own_acknowledgement
 own-silent n x p source unready = rw (source, unready) refl
 
+-- it is not the source
 pub own-beside : (n : Node) (x : ℕ) (p : Proposal) → is_source n p.base_place ≡ false → own_acknowledgement n x p ≡ acknowledgement n (collector n p n.me) x p ∷ []
 unfolding own_acknowledgement
 own-beside n x p other = rw other refl
 
+-- it is a source that is ready
 pub own-ready : (n : Node) (x : ℕ) (p : Proposal) → is_source n p.base_place ≡ true → is_some (unready_cause n x) ≡ false → own_acknowledgement n x p ≡ acknowledgement n (collector n p n.me) x p ∷ []
 unfolding own_acknowledgement
 own-ready n x p source ready = rw (source, ready) refl
 
 -- ---- all proposals
 
+-- the node is not open
 pub proposals-closed : (n : Node) → is_open n ≡ false → repeat_proposals n ≡ []
 unfolding repeat_proposals
 proposals-closed n closed = rw closed refl
 
+-- it is open
 pub proposals-open : (n : Node) → is_open n ≡ true → repeat_proposals n ≡ letters_of (λ x. repeat_proposal n x (entry n x).proposal) (below (Rattle.std.proofs.Common.length n.entries))
 unfolding repeat_proposals
 proposals-open n open_node = rw open_node refl

@@ -19,9 +19,11 @@ pub record StillSends (all rest : List Letter) (before now : Effect) : Type 0 wh
   pub passes : now.passed ≡ before.passed
   pub room : length now.sent ≤ 64
 
+-- nothing is sent yet
 pub StillSends-start : (all : List Letter) (out : Effect) → length out.sent ≤ 64 → StillSends all all out out
 StillSends-start all out room = record { letters = refl; passes = refl; room = room }
 
+-- some more is sent
 pub StillSends-step : (all left xs rest : List Letter) (a b c : Effect) → left ≡ xs ++ rest → StillSends all left a b → Adds xs [] b c → StillSends all rest a c
 StillSends-step all left xs rest a b c e f g =
     record {
@@ -30,9 +32,11 @@ StillSends-step all left xs rest a b c e f g =
       room = adds_room xs [] b c g;
     }
 
+-- what is left is the same letters
 pub StillSends-same : (all left rest : List Letter) (a b : Effect) → left ≡ rest → StillSends all left a b → StillSends all rest a b
 StillSends-same all left rest a b e f = record { letters = rw (← e) f.letters; passes = f.passes; room = f.room }
 
+-- nothing is left
 pub StillSends-end : (all left : List Letter) (a b : Effect) → left ≡ [] → StillSends all left a b → Adds all [] a b
 StillSends-end all left a b e f =
     let cut : take 64 (b.sent ++ []) ≡ b.sent = take_all 64 (b.sent ++ []) (rw append-nil f.room) ∙ append-nil b.sent in
@@ -44,6 +48,7 @@ pub StillSends-full : (all left : List Letter) (a b : Effect) → true ≡ nat_l
 StillSends-full all left a b full f =
     record { letters = cut_full b.sent left (leb-true 64 (length b.sent) (sym full)) f.room ∙ f.letters; passes = f.passes ∙ sym (append-nil a.passed) }
 
+-- a full effect stays as it is, whatever is to be sent
 pub adds_full : (xs : List Letter) (out : Effect) → true ≡ nat_le 64 (length out.sent) → length out.sent ≤ 64 → Adds xs [] out out
 adds_full xs out full room = StillSends-full xs xs out out full (StillSends-start xs out room)
 
@@ -77,9 +82,11 @@ letters-all : (f : ℕ → List Letter) (n : ℕ) → letters_from f 0 n ≡ let
 letters-all f n = let all : n - 0 ≡ n = omega arith in rw all refl
 
 module _ (f : ℕ → List Letter) (n : ℕ) (all : List Letter) where
+  -- no number has had its turn
   pub each-start : (out : Effect) → all ≡ letters_of f (below n) → length out.sent ≤ 64 → StillSends all (letters_from f 0 n) out out
   each-start out e room = StillSends-same all all (letters_from f 0 n) out out (e ∙ sym (letters-all f n)) (StillSends-start all out room)
 
+  -- the next number has had its turn
   pub each-step : (i : ℕ) (a b c : Effect) → i < n → StillSends all (letters_from f i n) a b → Adds (f i) [] b c → StillSends all (letters_from f (i + 1) n) a c
   each-step i a b c h s add = StillSends-step all (letters_from f i n) (f i) (letters_from f (i + 1) n) a b c (letters-next f i n h) s add
 
@@ -87,11 +94,13 @@ module _ (f : ℕ → List Letter) (n : ℕ) (all : List Letter) where
   pub each-skip : (i : ℕ) (a b : Effect) → i < n → f i ≡ [] → StillSends all (letters_from f i n) a b → StillSends all (letters_from f (i + 1) n) a b
   each-skip i a b h none s = StillSends-same all (letters_from f i n) (letters_from f (i + 1) n) a b (letters-next f i n h ∙ ap (λ l. l ++ letters_from f (i + 1) n) none) s
 
+  -- all numbers have had their turn
   pub each-end : (i : ℕ) (a b : Effect) → n ≤ i → StillSends all (letters_from f i n) a b → Adds all [] a b
   each-end i a b h s = StillSends-end all (letters_from f i n) a b (letters-none f i n h) s
 
 -- ---- letters of streams
 
+-- the letters of the items of two lists
 pub letters_of-append : {A : Type 0} (f : A → List Letter) (xs ys : List A) → letters_of f (xs ++ ys) ≡ letters_of f xs ++ letters_of f ys
 unfolding letters_of
 letters_of-append f [] ys = refl
@@ -107,6 +116,7 @@ letters-streams_of f m (s ∷ ss) = ap (λ l. f record { node = m; slot = s } ++
 abbrev pub of_stranger : (Stream → List Letter) → List ℕ → List ℕ → ℕ → List Letter
 of_stranger f members slots m = if has m members then [] else letters_of f (streams_of m slots)
 
+-- the letters of the streams outside are those of the strangers
 pub letters-outside : (f : Stream → List Letter) (members slots ms : List ℕ) → letters_of f (streams_outside members slots ms) ≡ letters_of (of_stranger f members slots) ms
 unfolding letters_of streams_outside
 letters-outside f members slots [] = refl
@@ -117,8 +127,10 @@ letters-outside f members slots (m ∷ ms) =
       | false ↦ letters_of-append f (streams_of m slots) rest ∙ ap (λ l. letters_of f (streams_of m slots) ++ l) (letters-outside f members slots ms)
     ]
 
+-- a member is no stranger
 pub of_stranger-member : (f : Stream → List Letter) (members slots : List ℕ) (m : ℕ) → has m members ≡ true → of_stranger f members slots m ≡ []
 of_stranger-member f members slots m member = rw member refl
 
+-- another node is one
 pub of_stranger-other : (f : Stream → List Letter) (members slots : List ℕ) (m : ℕ) → has m members ≡ false → of_stranger f members slots m ≡ letters_of f (streams_of m slots)
 of_stranger-other f members slots m other = rw other refl

@@ -18,14 +18,17 @@ use Rattle.node_state.specs.Requests.{requests_for_copies, requests_to_own}
 
 -- ---- reports
 
+-- in a later epoch a node that has reported says so
 pub report-told : (n : Node) → 1 < n.epoch → has n.me n.reported ≡ true → repeat_report n ≡ to_each n (others n) Recovered
 unfolding repeat_report
 report-told n later has_reported = rw (lt-ltb 1 n.epoch later, has_reported) refl
 
+-- in the first epoch it says nothing
 pub report-early : (n : Node) → n.epoch ≤ 1 → repeat_report n ≡ []
 unfolding repeat_report
 report-early n early = rw (le-ltb 1 n.epoch early) refl
 
+-- nor where it has not reported
 pub report-none : (n : Node) → has n.me n.reported ≡ false → repeat_report n ≡ []
 unfolding repeat_report
 report-none n not_yet = none (nat_lt 1 n.epoch) (has n.me n.reported) not_yet
@@ -36,12 +39,14 @@ report-none n not_yet = none (nat_lt 1 n.epoch) (has n.me n.reported) not_yet
 
 -- ---- passes
 
+-- some entries of the slot have passed
 pub done-told : (n : Node) (s : ℕ) (l : Slot) (d : ℕ) → l ≡ slot n s → d ≡ l.done → 0 < d → repeat_done n s ≡ to_each n (others n) (RVal (own_stream n s) d)
 unfolding repeat_done
 done-told n s l d here is some =
     let at : (slot n s).done ≡ d = ap (λ (k : Slot). k.done) (sym here) ∙ sym is in
     rw (at, lt-ltb 0 d some) refl
 
+-- none has
 pub done-none : (n : Node) (s : ℕ) (l : Slot) (d : ℕ) → l ≡ slot n s → d ≡ l.done → d ≤ 0 → repeat_done n s ≡ []
 unfolding repeat_done
 done-none n s l d here is none =
@@ -50,18 +55,22 @@ done-none n s l d here is none =
 
 -- ---- requests
 
+-- the slot has no current transaction
 pub requests-idle : (n : Node) (c : Option Current) → c ≡ None → repeat_requests n c ≡ []
 unfolding repeat_requests
 requests-idle n c none = rw none refl
 
+-- it has a write transaction
 pub requests-write : (n : Node) (o : Option Current) (c : Current) → o ≡ Some c → is_write c.tx ≡ true → repeat_requests n o ≡ requests_to_own n o
 unfolding repeat_requests requests_to_own
 requests-write n o c is write = rw (is, write) refl
 
+-- it has a read, and there is a degree
 pub requests-read : (n : Node) (o : Option Current) (c : Current) → o ≡ Some c → is_write c.tx ≡ false → is_some n.degree ≡ true → repeat_requests n o ≡ requests_for_copies n o
 unfolding repeat_requests requests_for_copies
 requests-read n o c is read degree = rw (is, read, degree) refl
 
+-- it has a read, and there is none
 pub requests-none : (n : Node) (o : Option Current) (c : Current) → o ≡ Some c → is_write c.tx ≡ false → is_some n.degree ≡ false → repeat_requests n o ≡ []
 unfolding repeat_requests
 requests-none n o c is read none = rw (is, read, none) refl
