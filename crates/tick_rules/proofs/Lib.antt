@@ -3,3 +3,4 @@ pub mod Telling
 pub mod Leaving
 pub mod Driving
 pub mod Repeating
+pub mod TestConfig

@@ -4,6 +4,8 @@
 mod entries;
 mod leaves;
 mod proposals;
+#[cfg(test)]
+mod tests;
 mod timer;
 
 pub use timer::tick;
