@@ -1,7 +1,6 @@
 -- A transaction begins.
-use Rattle.std.proofs.Common.{ℕ, ◌≡◌, ◌<◌, true, false, List, [], ◌∷◌, All, Option, Some, None, length, refl}
+use Rattle.std.proofs.Common.{ℕ, ◌≡◌, ◌<◌, true, false, List, [], ◌∷◌, All, Some, None, length, refl}
 use Rattle.std.proofs.lemmas.List.Elements.{All-cons, All-nil}
-use Rattle.zeus_base.specs.declared.config.Limits.{Limits}
 use Rattle.zeus_base.specs.declared.value.Value.{Value}
 use Rattle.zeus_base.specs.declared.value.Value.TheVariants.{Num, Text}
 use Rattle.zeus_packet.specs.Fits.{value_fits}
@@ -10,9 +9,8 @@ use Rattle.zeus_txn.specs.Tx.{IsTx}
 use Rattle.zeus_txn.specs.declared.ops.Op.{Op}
 use Rattle.zeus_txn.specs.declared.ops.Op.TheVariants.{Get, Put, Add, Need, Same}
 use Rattle.zeus_model.specs.declared.state.Current.{Current}
-use Rattle.zeus_model.specs.declared.answer.Begin.{Begin}
 use Rattle.zeus_model.specs.declared.answer.Begin.TheVariants.{Begun, Stopped, Busy}
-use Rattle.zeus_model.specs.Act.{Did, just}
+use Rattle.zeus_model.specs.Act.{just}
 use Rattle.zeus_model.specs.Local.{begin, begin_free, with_current}
 use Rattle.zeus_model.specs.State.{Node, slot}
 use Rattle.node_ranges.specs.Ranges.{FitsCurrent, OpFits, limits_of}

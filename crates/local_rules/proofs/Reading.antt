@@ -1,5 +1,5 @@
 -- What follows from a try to read, at the whole node.
-use Rattle.std.proofs.Common.{ℕ, ◌≡◌, ◌≤◌, List, [], ◌∷◌, Option, Some, None, length, refl, sym, ap, ◌∙◌}
+use Rattle.std.proofs.Common.{ℕ, ◌≡◌, ◌≤◌, List, [], Option, Some, None, length, refl, sym, ap, ◌∙◌}
 use Rattle.zeus_packet.specs.declared.letter.State.{State}
 use Rattle.zeus_txn.specs.declared.ops.Op.{Op}
 use Rattle.zeus_txn.specs.declared.reply.Reply.{Reply}

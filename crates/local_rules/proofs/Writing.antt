@@ -1,8 +1,8 @@
 -- What follows from a try to write, at the whole node.
-use Rattle.std.proofs.Common.{ℕ, ◌≡◌, ◌≤◌, ◌<◌, ◌+◌, ◌-◌, List, [], ◌∷◌, ◌++◌, Option, Some, None, length, refl, sym, ap, ◌∙◌, arith, length-append}
+use Rattle.std.proofs.Common.{ℕ, ◌≡◌, ◌≤◌, ◌-◌, List, [], ◌∷◌, ◌++◌, Option, Some, None, length, refl, sym, ap, ◌∙◌, arith, length-append}
 use Rattle.std.specs.Prelude.{slice_get}
 use Rattle.zeus_base.specs.Nodes.{meet}
-use Rattle.zeus_base.specs.TableLaws.{length-put, nth-put_same}
+use Rattle.zeus_base.specs.TableLaws.{nth-put_same}
 use Rattle.zeus_packet.specs.declared.letter.Body.TheVariants.{RInv}
 use Rattle.zeus_packet.specs.declared.letter.RInv.{RInv as Invalidation}
 use Rattle.zeus_txn.specs.declared.reply.Reply.{Reply}
@@ -12,7 +12,7 @@ use Rattle.zeus_model.specs.declared.state.Current.{Current}
 use Rattle.zeus_model.specs.declared.state.Pending.{Pending}
 use Rattle.zeus_model.specs.Act.{sends, to_each}
 use Rattle.zeus_model.specs.Commit.{advance_own}
-use Rattle.zeus_model.specs.Local.{committed, invalidation, run_here, write_cause, write_row}
+use Rattle.zeus_model.specs.Local.{invalidation, run_here, write_cause, write_row}
 use Rattle.zeus_model.specs.State.{Node, Slot, next_number, no_slot, own_stream, slot}
 use Rattle.local_txn.specs.Tries.{after_try, entry_here, followers_here, tried_as, writes_here}
 use Rattle.local_txn.specs.TriesLaws.{write_row-committed}

@@ -117,6 +117,7 @@ fn a_node_asks_for_what_it_does_not_own(rt: HostRuntime) -> Result<(), Fail> {
     assert!(rt; node.slot_count() == 1);
     assert!(rt; matches!(try_slot(&mut node, SLOT, &mut out), Tried::NotOwner(X)));
     assert!(rt; asks(out.sent.as_slice(), X, Want::Own));
+    assert!(rt; node.slot_count() == 1);
     assert!(rt; node.current(SLOT).is_some());
     Ok(())
 }

@@ -1,2 +1,3 @@
+pub mod Bodies
 pub mod Cleared
-pub mod Letters
+pub mod Views

@@ -34,7 +34,10 @@ pub(crate) fn rejection(state: &NodeState, letter: &Letter) -> Option<Outcome>
 fn closed(state: &NodeState, body: &Body) -> Option<Outcome>
     ensures { result ≡ where_true (needs_open body.now && not (is_open state.now)) NotOpen }
 {
-    if needs_open(body) && !state.is_open() {
+    if state.is_open() {
+        return None;
+    }
+    if needs_open(body) {
         Some(Outcome::NotOpen)
     } else {
         None

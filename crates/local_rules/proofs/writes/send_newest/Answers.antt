@@ -1,4 +1,3 @@
-use Rattle.std.proofs.Common.{sym, ap}
 use Rattle.node_state.specs.EffectLaws.{adds_nothing}
 use Rattle.local_rules.specs.Entries.{entry_letters}
 use Rattle.local_rules.proofs.writes.send_newest.Goals as goal

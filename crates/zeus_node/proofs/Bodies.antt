@@ -1,7 +1,7 @@
 -- The rules of letters, body by body.
-use Rattle.std.specs.Prelude.{◌&&◌, not, nat_lt, if◌then◌else◌}
+use Rattle.std.specs.Prelude.{◌&&◌, ◌==◌, not}
 use Rattle.std.proofs.Common.{ℕ, ◌≡◌, ◌<◌, Bool, true, false, List, [], ◌∷◌, ◌++◌, Option, Some, None, length, refl, sym, ap, ◌∙◌, arith}
-use Rattle.std.proofs.lemmas.Bool.{and_parts, cond_both}
+use Rattle.std.proofs.lemmas.Bool.{and_parts, cond_both, eq-eqb, ne_eqb}
 use Rattle.zeus_base.specs.Order.{is_below}
 use Rattle.zeus_base.specs.declared.config.Limits.{Limits}
 use Rattle.zeus_base.specs.declared.order.Stamp.{Stamp}
@@ -17,12 +17,14 @@ use Rattle.zeus_packet.specs.declared.place.Proposal.{Proposal}
 use Rattle.zeus_packet.specs.declared.place.Want.{Want}
 use Rattle.zeus_packet.specs.declared.write.Content.{Content}
 use Rattle.zeus_model.specs.declared.answer.Outcome.{Outcome}
+use Rattle.zeus_model.specs.declared.answer.Outcome.TheVariants.{Stopped, NotMine, OtherEpoch, NotOpen}
 use Rattle.zeus_model.specs.declared.state.Gather.{Gather}
 use Rattle.zeus_model.specs.Act.{Act, Did, did_then, just}
 use Rattle.zeus_model.specs.Commit.{finish, on_kept_rack, on_own_rack, on_rack, on_rinv, on_rval, stored_rinv}
 use Rattle.zeus_model.specs.Ownership.{answer_request, collect_cause, collect_or_refuse, decide, decide_gathered, decide_on, gather_for, gather_or_older, greater_gather, hold_cause, hold_or_refuse, is_decidable, oack_on_base, oinv_on_base, on_oack, on_oinv, on_oreq, on_oval, rebased, request_cause, take_ack, takes_over}
-use Rattle.zeus_model.specs.Receive.{on_recovered, receive, receive_or_not, row, untaken}
-use Rattle.zeus_model.specs.State.{Node, entry, gather}
+use Rattle.zeus_model.specs.Receive.{needs_open, on_recovered, receive, receive_or_not, row, untaken}
+use Rattle.zeus_model.specs.State.{Node, entry, gather, is_open}
+use Rattle.zeus_model.specs.Tables.{or_else, where_true}
 use Rattle.node_state.specs.declared.effect.Effect.{Effect}
 use Rattle.node_state.specs.Done.{IsActed, IsDone}
 use Rattle.node_state.specs.EffectLaws.{done_then}
@@ -170,6 +172,25 @@ row-unpassed n from (OAck x p content) = oack-unpassed n from x p content
 row-unpassed n from (ONack x stamp cause) = refl
 row-unpassed n from (OVal x stamp place) = oval-unpassed n x stamp place
 row-unpassed n from Recovered = recovered-unpassed n from
+
+-- ---- the tests before every letter
+
+module _ (n : Node) (l : Letter) where
+  pub untaken-stopped : n.stopped ≡ true → Some Stopped ≡ untaken n l
+  unfolding untaken or_else where_true
+  untaken-stopped s = rw s refl
+
+  pub untaken-not_mine : n.stopped ≡ false → not (l.to == n.me) ≡ true → Some (NotMine l.to) ≡ untaken n l
+  unfolding untaken or_else where_true
+  untaken-not_mine s m = rw (s, m) refl
+
+  pub untaken-other_epoch : n.stopped ≡ false → not (l.to == n.me) ≡ false → (l.epoch ≡ n.epoch → ⊥) → Some (OtherEpoch l.epoch n.epoch) ≡ untaken n l
+  unfolding untaken or_else where_true
+  untaken-other_epoch s m e = rw (s, m, ne_eqb l.epoch n.epoch e) refl
+
+  pub untaken-closed : n.stopped ≡ false → not (l.to == n.me) ≡ false → l.epoch ≡ n.epoch → where_true (needs_open l.body && not (is_open n)) NotOpen ≡ untaken n l
+  unfolding untaken or_else where_true
+  untaken-closed s m e = rw (s, m, eq-eqb l.epoch n.epoch e) refl
 
 -- ---- the whole of a letter
 
