@@ -5,10 +5,8 @@ use std::alloc::Global;
 use std::process::Abort;
 use std::test::Fail;
 use worked::WORKED;
-use zeus_base::{
-    Config, NodeId, NodeSet, ObjId, ObjectDecl, ObjectList, SlotId, Step, Steps, Text, TxId, Value,
-};
-use zeus_txn::{Op, Tx, TxDecl, TxList};
+use zeus_base::{NodeId, NodeSet, ObjId, ObjectDecl, SlotId, Step, Text, TxId, Value};
+use zeus_txn::Op;
 
 // The first lines, with one object.
 const HEAD: &str = "zeus 1\nnodes 2\nslots 1\ndirectory 0\nobject x 5 0 1\n";
@@ -123,12 +121,12 @@ fn each_operation_and_each_step(rt: HostRuntime) {
 }
 
 // Faulty texts from the first line on, each with the faulty line and what is wrong there.
-static HEAD_FAULTS: [(&str, u32, Kind); 29] = [
+static HEAD_FAULTS: [(&str, u32, Kind); 28] = [
     ("", 1, Kind::Missing),
     ("\n", 1, Kind::Word),
     ("zeus 1", 1, Kind::LineEnd),
     ("zeus 01\n", 1, Kind::Word),
-    ("zeus 2\n", 1, Kind::Word),
+    ("zeus 3\n", 1, Kind::Word),
     ("zeus\n", 1, Kind::Word),
     ("zeus 1 \n", 1, Kind::Word),
     ("zeus 1\nnodes 2", 2, Kind::LineEnd),
@@ -150,11 +148,6 @@ static HEAD_FAULTS: [(&str, u32, Kind); 29] = [
     ("zeus 1\nnodes 2\nslots 1\ndirectory 0 0\n", 4, Kind::Twice),
     ("zeus 1\nnodes 2\nslots 1\ndirectory 0 1 x\n", 4, Kind::Word),
     ("zeus 1\nnodes 2\nslots 1\ndirectory 0 \n", 4, Kind::Number),
-    (
-        "zeus 1\nnodes 2\nslots 1\ndirectory 0\ndegree 1\n",
-        5,
-        Kind::Word,
-    ),
     (
         "zeus 1\nnodes 2\nslots 1\ndirectory 0\nrun\n",
         5,
@@ -224,6 +217,74 @@ static BODY_FAULTS: [(&str, u32, Kind); 45] = [
 #[test]
 fn faults_of_the_body(rt: HostRuntime) -> Result<(), Fail> {
     check(&rt, rt.alloc(), HEAD, false, &BODY_FAULTS)
+}
+
+// The same behind the line of the directory, where a degree may stand.
+static DEGREE_FAULTS: [(&str, u32, Kind); 12] = [
+    ("degree 8\n", 6, Kind::Missing),
+    ("degree 0\n", 5, Kind::Range),
+    ("degree 9\n", 5, Kind::Range),
+    ("degree 02\n", 5, Kind::Number),
+    ("degree \n", 5, Kind::Number),
+    ("degree\n", 5, Kind::Word),
+    ("degree 2 2\n", 5, Kind::Word),
+    ("degree 2", 5, Kind::LineEnd),
+    ("degree 2\ndegree 2\n", 6, Kind::Word),
+    ("degree 2\nrun\n", 6, Kind::Word),
+    ("degree 2\nobject x 5 0\ndegree 2\n", 7, Kind::Word),
+    ("degree 2\nobject x 'a 0\n", 6, Kind::Number),
+];
+
+#[test]
+fn faults_of_a_degree(rt: HostRuntime) -> Result<(), Fail> {
+    let head = "zeus 1\nnodes 2\nslots 1\ndirectory 0\n";
+    check(&rt, rt.alloc(), head, false, &DEGREE_FAULTS)
+}
+
+// The same in version 2, behind an object whose value is a text.
+static TEXT_FAULTS: [(&str, u32, Kind); 26] = [
+    ("", 6, Kind::Missing),
+    (
+        "object y 'abcdefghijklmnopqrstuvwxyz012345 0\n",
+        7,
+        Kind::Missing,
+    ),
+    (
+        "object y 'abcdefghijklmnopqrstuvwxyz0123456 0\n",
+        6,
+        Kind::Text,
+    ),
+    ("object y ' 0\n", 6, Kind::Text),
+    ("object y 'a\tb 0\n", 6, Kind::Text),
+    ("object y 'a\x7f 0\n", 6, Kind::Text),
+    ("object y 'a b 0\n", 6, Kind::Number),
+    ("object y a' 0\n", 6, Kind::Number),
+    ("object y 05 0\n", 6, Kind::Number),
+    ("object y  0\n", 6, Kind::Number),
+    ("object 'y 5 0\n", 6, Kind::Name),
+    ("object y 'a 'b\n", 6, Kind::Number),
+    ("tx 0 0 put x '\n", 6, Kind::Text),
+    ("tx 0 0 put x ''\n", 7, Kind::Missing),
+    ("tx 0 0 same x 5\n", 7, Kind::Missing),
+    ("tx 0 0 same x '\n", 6, Kind::Text),
+    ("tx 0 0 same x x\n", 6, Kind::Number),
+    ("tx 0 0 same x\n", 6, Kind::Word),
+    ("tx 0 0 same x 'a 'b\n", 6, Kind::Word),
+    ("tx 0 0 same y '\n", 6, Kind::Unknown),
+    ("tx 0 0 same 4 '\n", 6, Kind::Name),
+    ("tx 0 0 add x 'a\n", 6, Kind::Number),
+    ("tx 0 0 need x 'a\n", 6, Kind::Number),
+    ("tx 0 'a get x\n", 6, Kind::Number),
+    ("degree 2\n", 6, Kind::Word),
+    ("run\nbegin 'a\n", 7, Kind::Number),
+];
+
+#[test]
+fn faults_of_version_2(rt: HostRuntime) -> Result<(), Fail> {
+    let alloc = rt.alloc();
+    check(&rt, alloc, "zeus 2", false, &[("\n", 2, Kind::Missing)])?;
+    let head = "zeus 2\nnodes 2\nslots 1\ndirectory 0\nobject x 'idle 0 1\n";
+    check(&rt, alloc, head, false, &TEXT_FAULTS)
 }
 
 // The first lines, and then this line so many times.
@@ -339,16 +400,6 @@ fn text(rt: &impl Abort, bytes: &[u8]) -> Value {
     Value::Text(Text::new(bytes).expect(rt, "a text"))
 }
 
-// A name.
-fn name(rt: &impl Abort, bytes: &[u8]) -> Name {
-    Name::new(bytes).expect(rt, "a name")
-}
-
-// A transaction of these operations.
-fn tx(rt: &impl Abort, alloc: Global, ops: &[Op]) -> Tx {
-    Tx::new(alloc, ops).expect(rt, "a transaction")
-}
-
 #[test]
 fn what_was_read_prints_back(rt: HostRuntime) -> Result<(), Fail> {
     let alloc = rt.alloc();
@@ -361,65 +412,14 @@ fn what_was_read_prints_back(rt: HostRuntime) -> Result<(), Fail> {
 }
 
 #[test]
-fn texts_are_printed(rt: HostRuntime) -> Result<(), Fail> {
+fn texts_and_a_degree(rt: HostRuntime) -> Result<(), Fail> {
     let alloc = rt.alloc();
-    let x = ObjectDecl {
-        value: text(&rt, b"idle"),
-        owner: NodeId(0),
-        replicas: set(0b11),
-    };
-    let first = [
-        Op::Get(ObjId(0)),
-        Op::Same(ObjId(0), text(&rt, b"idle")),
-        Op::Put(ObjId(0), text(&rt, b"busy")),
-    ];
-    let second = [Op::Add(ObjId(0), 1)];
-    let txs = vec![in alloc;
-        TxDecl {
-            node: NodeId(0),
-            slot: SlotId(0),
-            after: None,
-            tx: tx(&rt, alloc, &first)
-        },
-        TxDecl {
-            node: NodeId(0),
-            slot: SlotId(0),
-            after: None,
-            tx: tx(&rt, alloc, &second)
-        },
-    ]?;
-    let steps = vec![in alloc;
-        Step::Begin(TxId(0)),
-        Step::Try(NodeId(0), SlotId(0)),
-        Step::Begin(TxId(1)),
-        Step::Try(NodeId(0), SlotId(0)),
-        Step::Deliver(NodeId(0), NodeId(1), 0),
-        Step::Deliver(NodeId(1), NodeId(0), 0),
-    ]?;
-    let script = Script {
-        config: Config {
-            version: 2,
-            nodes: 2,
-            slots: 1,
-            directory: set(0b1),
-            degree: None,
-            objects: ObjectList::from_vec(vec![in alloc; x]?),
-        },
-        names: Names::from_vec(vec![in alloc; name(&rt, b"x")]?),
-        txs: TxList::from_vec(txs),
-        steps: Steps::from_vec(steps),
-    };
-    let wanted = "zeus 2\nnodes 2\nslots 1\ndirectory 0\nobject x 'idle 0 1\n\
-        tx 0 0 get x ; same x 'idle ; put x 'busy\ntx 0 0 add x 1\nrun\nbegin 0\ntry 0 0\n\
-        begin 1\ntry 0 0\ndeliver 0 1 0\ndeliver 1 0 0\nend\n";
-    let printed = print_script(alloc, &script)?;
-    assert_eq!(rt; printed.as_slice(), wanted.as_bytes());
-    Ok(())
-}
-
-#[test]
-fn a_degree_each_operation_and_each_step_are_printed(rt: HostRuntime) -> Result<(), Fail> {
-    let alloc = rt.alloc();
+    let bytes = "zeus 2\nnodes 8\nslots 2\ndirectory 0 3 7\ndegree 2\nobject x 'it's 3 0 7\n\
+        object y_2 18446744073709551615 0\ntx 0 0 get x\n\
+        tx 7 1 after 0 put y_2 'a ; add x 10 ; need x 0 ; same y_2 '007 ; same x 7\nrun\nend\n";
+    let script = script(&rt, alloc, bytes.as_bytes());
+    assert_eq!(rt; script.config.version, 2);
+    assert_eq!(rt; script.config.degree, Some(2));
     let x = ObjectDecl {
         value: text(&rt, b"it's"),
         owner: NodeId(3),
@@ -430,57 +430,17 @@ fn a_degree_each_operation_and_each_step_are_printed(rt: HostRuntime) -> Result<
         owner: NodeId(0),
         replicas: set(0b1),
     };
-    let first = [Op::Get(ObjId(0))];
-    let second = [
-        Op::Put(ObjId(1), Value::Num(0)),
+    assert_eq!(rt; script.config.objects.as_slice(), [x, y].as_slice());
+    let ops = [
+        Op::Put(ObjId(1), text(&rt, b"a")),
         Op::Add(ObjId(0), 10),
         Op::Need(ObjId(0), 0),
         Op::Same(ObjId(1), text(&rt, b"007")),
-        Op::Get(ObjId(1)),
+        Op::Same(ObjId(0), Value::Num(7)),
     ];
-    let txs = vec![in alloc;
-        TxDecl {
-            node: NodeId(0),
-            slot: SlotId(0),
-            after: None,
-            tx: tx(&rt, alloc, &first)
-        },
-        TxDecl {
-            node: NodeId(7),
-            slot: SlotId(1),
-            after: Some(TxId(0)),
-            tx: tx(&rt, alloc, &second),
-        },
-    ]?;
-    let steps = vec![in alloc;
-        Step::Begin(TxId(1)),
-        Step::Try(NodeId(7), SlotId(1)),
-        Step::Deliver(NodeId(7), NodeId(0), 4_294_967_295),
-        Step::Tick(NodeId(2)),
-        Step::Stop(NodeId(0)),
-        Step::View(set(0b1000_0010)),
-        Step::View(set(0)),
-        Step::Install(NodeId(7), 1),
-    ]?;
-    let script = Script {
-        config: Config {
-            version: 2,
-            nodes: 8,
-            slots: 2,
-            directory: set(0b1000_1001),
-            degree: Some(2),
-            objects: ObjectList::from_vec(vec![in alloc; x, y]?),
-        },
-        names: Names::from_vec(vec![in alloc; name(&rt, b"x"), name(&rt, b"y_2")]?),
-        txs: TxList::from_vec(txs),
-        steps: Steps::from_vec(steps),
-    };
-    let wanted = "zeus 2\nnodes 8\nslots 2\ndirectory 0 3 7\ndegree 2\nobject x 'it's 3 0 7\n\
-        object y_2 18446744073709551615 0\ntx 0 0 get x\n\
-        tx 7 1 after 0 put y_2 0 ; add x 10 ; need x 0 ; same y_2 '007 ; get y_2\nrun\n\
-        begin 1\ntry 7 1\ndeliver 7 0 4294967295\ntick 2\nstop 0\nview 1 7\nview\n\
-        install 7 1\nend\n";
+    let second = script.txs.get(1).expect(&rt, "a transaction");
+    assert_eq!(rt; second.tx.ops(), ops.as_slice());
     let printed = print_script(alloc, &script)?;
-    assert_eq!(rt; printed.as_slice(), wanted.as_bytes());
+    assert_eq!(rt; printed.as_slice(), bytes.as_bytes());
     Ok(())
 }

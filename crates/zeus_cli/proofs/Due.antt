@@ -10,12 +10,12 @@ use Rattle.zeus_model.specs.Scripts.{IsScript}
 use Rattle.zeus_model.specs.Spelling.{spelling}
 use Rattle.zeus_cli.specs.declared.output.Output.{Output}
 use Rattle.zeus_cli.specs.declared.output.Output.TheVariants.{Usage, Refusal, Report}
-use Rattle.zeus_cli.specs.Top.{AreNoScript, TakesNoScript, IsDue}
+use Rattle.zeus_cli.specs.Top.{AreNoScript, TakesNoScript, IsDue, IsDueIf}
 use Rattle.zeus_cli.specs.Output.{Fits, text_of, status_of}
 
 -- an output that fits is due
 pub output_is_due : {A : Type 0} (words : List (String A)) (before after : Option (List ℕ)) (o : Output) → Fits words before after o → IsDue words before after (text_of o)
-unfolding IsDue
+unfolding IsDueIf
 output_is_due words before after Usage h = inl (h, refl)
 output_is_due words before after (Refusal line) h = inr (inl h)
 output_is_due words before after (Report text) h = inr (inr (h.0, h.1))

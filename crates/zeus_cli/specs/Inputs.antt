@@ -1,6 +1,5 @@
 -- What bytes are for the program.
 use Rattle.std.specs.Prelude.{ℕ, ◌≡◌, List, Option}
-use Rattle.zeus_io.specs.Bytes.{Takes}
 use Rattle.zeus_cli.specs.declared.top.Input.{Input}
 use Rattle.zeus_cli.specs.declared.top.Input.TheVariants.{Script, Refusal}
 use Rattle.zeus_cli.specs.Refusal.{refusal_line}

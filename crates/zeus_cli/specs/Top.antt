@@ -56,12 +56,14 @@ pub record IsReport (before after : Option (List ℕ)) (text : List ℕ) : Type 
   pub taken : TakesScript before after script
   pub text_is : text ≡ report script
 
+-- what is to be written, by whether the words ask to run a script
+unfoldable pub IsDueIf : Type 0 → Option (List ℕ) → Option (List ℕ) → List ℕ → Type 0
+IsDueIf asks before after text =
+    ((¬ asks) × (text ≡ usage_line)) ⊎ (asks × IsRefusal before after text) ⊎ (asks × IsReport before after text)
+
 -- what is to be written
-unfoldable pub IsDue : {A : Type 0} → List (String A) → Option (List ℕ) → Option (List ℕ) → List ℕ → Type 0
-IsDue words before after text =
-    ((¬ AsksRun words) × (text ≡ usage_line))
-    ⊎ (AsksRun words × IsRefusal before after text)
-    ⊎ (AsksRun words × IsReport before after text)
+abbrev pub IsDue : {A : Type 0} → List (String A) → Option (List ℕ) → Option (List ℕ) → List ℕ → Type 0
+IsDue words before after text = IsDueIf (AsksRun words) before after text
 
 -- a text was written whole, behind what the sink held
 pub record Writes (before after : Option (List ℕ)) (P : List ℕ → Type 0) : Type 0 where

@@ -142,7 +142,7 @@ fn other_bytes_get_the_line_script(rt: HostRuntime) -> Result<(), Fail> {
         ("zeus 1\nnodes 2", "script 2 line end\n"),
         ("zeus 1\nnodes 9\n", "script 2 range\n"),
         ("zeus 1\nnodes 02\n", "script 2 number\n"),
-        ("zeus 2\n", "script 1 word\n"),
+        ("zeus 3\n", "script 1 word\n"),
     ] {
         let bytes = Vec::from_slice(alloc, text.as_bytes())?;
         let mut source = MemSource::new(bytes, 7, Vec::new(alloc));

@@ -97,6 +97,7 @@ fn too_long(alloc: Global) -> Result<Input, NoMemory>
 fn read<S: Source>(alloc: Global, source: &mut S) -> Result<Input, Halt>
     ensures input { IfOk result (TakesInput (S.left source.old) (S.left source.new)) }
     ensures fault { IsErrOf result Halt.ReadFault → Rose (S.faults source.old) (S.faults source.new) }
+    ensures told { S.faults source.old < S.faults source.new → IsErrOf result Halt.ReadFault }
     ensures later { S.faults source.old ≤ S.faults source.new }
 {
     match read_all(alloc, source, LONGEST) {
@@ -123,6 +124,7 @@ fn answer<S: Source>(alloc: Global, words: &[String], source: &mut S) -> Result<
     ensures other_words { ¬ AsksRun words.now → (source.new ≡ source.old) × (result ≡ Ok Output.Usage) }
     ensures asked { IsErr result → AsksRun words.now }
     ensures fault { IsErrOf result Halt.ReadFault → Rose (S.faults source.old) (S.faults source.new) }
+    ensures told { S.faults source.old < S.faults source.new → IsErrOf result Halt.ReadFault }
     ensures later { S.faults source.old ≤ S.faults source.new }
 {
     if !asks_run(words) {
@@ -168,8 +170,10 @@ pub fn zeus_top<S: Source, K: Sink>(
     ensures usage { result ≡ Status.Usage → (¬ AsksRun words.now.items) × Appends (K.held sink.old) (K.held sink.new) usage_line }
     ensures unfinished { ¬ (result ≡ Status.Unfinished) }
 
-    // A fault is answered only where it rose in this call.
+    // A fault is answered exactly if it rose in this call.
     ensures read_fault { result ≡ Status.ReadFault → Rose (S.faults source.old) (S.faults source.new) × (sink.new ≡ sink.old) }
+    ensures read_told { S.faults source.old < S.faults source.new → result ≡ Status.ReadFault }
+    ensures write_told { K.faults sink.old < K.faults sink.new → result ≡ Status.WriteFault }
     ensures write_fault { result ≡ Status.WriteFault → Rose (K.faults sink.old) (K.faults sink.new) × WritesFront (K.held sink.old) (K.held sink.new) (IsDue words.now.items (S.left source.old) (S.left source.new)) }
     ensures memory { result ≡ Status.OutOfMemory → AsksRun words.now.items × (sink.new ≡ sink.old) }
 
