@@ -68,7 +68,11 @@ fn placed(count: usize, fault: Fault) -> WireFault
 /// The first fault from left to right, with its place: a field that is not whole (`Short`), a byte that is no tag
 /// (`BadTag`), or a field out of the range of the limits (`BadField`).
 #[tactic(auto, unfolding(crate::specs::Reading::decoded_front, crate::specs::Reading::counted))]
-pub fn decode_front(alloc: Global, bytes: &[u8], limits: &Limits) -> Result<(Packet, usize), WireFault>
+pub fn decode_front(
+    alloc: Global,
+    bytes: &[u8],
+    limits: &Limits,
+) -> Result<(Packet, usize), WireFault>
     requires { AreLimits limits.now }
     ensures { result ≡ decoded_front limits.now bytes.now }
 {
@@ -81,7 +85,10 @@ pub fn decode_front(alloc: Global, bytes: &[u8], limits: &Limits) -> Result<(Pac
 
 /// The packet, where it has as many bytes as there are.
 #[tactic(auto, unfolding(crate::specs::Reading::without_rest))]
-fn without_rest(count: usize, front: Result<(Packet, usize), WireFault>) -> Result<Packet, WireFault>
+fn without_rest(
+    count: usize,
+    front: Result<(Packet, usize), WireFault>,
+) -> Result<Packet, WireFault>
     ensures { result ≡ without_rest count front }
 {
     let (packet, len) = front?;

@@ -1,4 +1,4 @@
-use Rattle.std.proofs.Common.{◌≡◌, length, ap, sym, ◌∙◌, arith}
+use Rattle.std.proofs.Common.{length, ap, ◌∙◌, arith}
 use Rattle.zeus_wire.specs.Ranges.{AreBytes}
 use Rattle.zeus_wire.specs.Reading.{decoded, without_rest}
 use Rattle.zeus_wire.proofs.Decoded.{decoded_again, is_found}
