@@ -1,6 +1,6 @@
 #!/bin/sh
-# Builds a program outside the repository that runs zeus_wire on cases, and prints where the program is. The program is
-# not proved: only the crates that it calls are. `wire_differ.sh` and `wire_times.sh` use it.
+# Makes a program outside the repository, in the folder given, that runs zeus_wire on cases. `wire_differ.sh` and
+# `wire_times.sh` use it. The program meets the conditions of the calls that it makes, and promises nothing itself.
 set -eu
 top=$(CDPATH='' cd "$(dirname "$0")/.." && pwd)
 folder=$1
@@ -24,15 +24,19 @@ cat >"$folder/crates/wire_probe/src/main.rt" <<'END'
 //! Runs the codec on cases: a byte for the limits, two for the length, and the bytes.
 #![tactic(auto)]
 
+ghost use Rattle.zeus_wire.specs.Ranges.{AreLimits};
+
 use std::alloc::Global;
 use std::env;
 use std::process::ExitCode;
 use zeus_base::{Stamp, Stream, Value};
 use zeus_io::{StdSink, StdSource, read_all, write_all};
 use zeus_packet::{Body, Cause, Limits, Packet, Place, Proposal, State, Want, fits};
-use zeus_wire::{WireFault, decode, encode_into, largest};
+use zeus_wire::{WireFault, decode, encode_into, largest, longest};
 
-fn limits(kind: u8) -> Limits {
+fn limits(kind: u8) -> Limits
+    ensures { AreLimits result }
+{
     let (version, nodes, slots, objects) = match kind {
         0 => (1, 2, 1, 1),
         1 => (1, 8, 8, 256),
@@ -155,22 +159,21 @@ fn told(read: Result<Packet, WireFault>) -> (u64, u64) {
     match read {
         Ok(packet) => (0, add_packet(&packet)),
         Err(WireFault::Short { at }) => (1, at),
-        Err(WireFault::BadTag { at, byte }) => (2, at * 256 + u64::from(byte)),
+        Err(WireFault::BadTag { at, byte }) => (2, at.wrapping_mul(256).wrapping_add(u64::from(byte))),
         Err(WireFault::BadField { at }) => (3, at),
         Err(WireFault::Extra { at }) => (4, at),
     }
 }
 
-/// The places of the cases: their limits, and where their bytes begin and end.
-fn places(alloc: Global, cases: &[u8]) -> Vec<(u8, usize, usize)> {
-    let mut all = Vec::new(alloc);
-    let mut at = 0;
-    while at + 3 <= cases.len() {
-        let len = usize::from(cases[at + 1]) * 256 + usize::from(cases[at + 2]);
-        let _ = all.push((cases[at], at + 3, at + 3 + len));
-        at += 3 + len;
+/// The first case: its limits, its bytes, and the cases behind it.
+fn next_case(cases: &[u8]) -> Option<(u8, &[u8], &[u8])> {
+    let (head, behind) = cases.split_first_chunk::<3>()?;
+    let len = usize::from(u16::from_be_bytes([head[1], head[2]]));
+    if behind.len() < len {
+        return None;
     }
-    all
+    let (bytes, rest) = behind.split_at(len);
+    Some((head[0], bytes, rest))
 }
 
 /// A number for each BLOCK cases.
@@ -180,10 +183,15 @@ fn answers(alloc: Global, cases: &[u8]) -> Vec<u8> {
     let mut out = Vec::new(alloc);
     let mut sum: u64 = 7;
     let mut count: u64 = 0;
-    for (kind, begin, end) in places(alloc, cases) {
-        let (tag, number) = told(decode(alloc, &cases[begin..end], &limits(kind)));
+    let mut left = cases;
+    for _ in 0..cases.len() {
+        let Some((kind, bytes, rest)) = next_case(left) else {
+            break;
+        };
+        left = rest;
+        let (tag, number) = told(decode(alloc, bytes, &limits(kind)));
         sum = add(add(sum, tag), number);
-        count += 1;
+        count = count.wrapping_add(1);
         if count % BLOCK == 0 {
             let _ = out.extend_from_slice(&sum.to_be_bytes());
             sum = 7;
@@ -193,37 +201,61 @@ fn answers(alloc: Global, cases: &[u8]) -> Vec<u8> {
     out
 }
 
-fn decode_all(alloc: Global, cases: &[u8], rounds: u64) -> u64 {
-    let all = places(alloc, cases);
+fn decode_all(alloc: Global, cases: &[u8]) -> u64 {
     let mut sum: u64 = 0;
-    for _ in 0..rounds {
-        for (kind, begin, end) in &all {
-            if let Ok(packet) = decode(alloc, &cases[*begin..*end], &limits(*kind)) {
-                sum = sum.wrapping_add(u64::from(packet.number));
-            }
+    let mut left = cases;
+    for _ in 0..cases.len() {
+        let Some((kind, bytes, rest)) = next_case(left) else {
+            break;
+        };
+        left = rest;
+        if let Ok(packet) = decode(alloc, bytes, &limits(kind)) {
+            sum = sum.wrapping_add(u64::from(packet.number));
         }
     }
     sum
 }
 
-fn encode_all(alloc: Global, cases: &[u8], rounds: u64) -> u64 {
+fn read_packets(alloc: Global, cases: &[u8]) -> Vec<Packet> {
     let mut packets = Vec::new(alloc);
-    for (kind, begin, end) in places(alloc, cases) {
-        if let Ok(packet) = decode(alloc, &cases[begin..end], &limits(kind)) {
-            if fits(&packet.letter, &largest(2)) {
-                let _ = packets.push(packet);
-            }
+    let mut left = cases;
+    for _ in 0..cases.len() {
+        let Some((kind, bytes, rest)) = next_case(left) else {
+            break;
+        };
+        left = rest;
+        if let Ok(packet) = decode(alloc, bytes, &limits(kind)) {
+            let _ = packets.push(packet);
         }
     }
-    let mut bytes = Vec::new(alloc);
-    let _ = bytes.reserve(packets.len() * 368);
+    packets
+}
+
+fn encode_all(packets: &[Packet], out: &mut Vec<u8>) {
+    out.clear();
+    for packet in packets {
+        if fits(&packet.letter, &largest(2)) && out.capacity().saturating_sub(out.len()) >= longest(2) {
+            encode_into(packet, 2, out);
+        }
+    }
+}
+
+fn decode_rounds(alloc: Global, cases: &[u8], rounds: u64) -> u64 {
     let mut sum: u64 = 0;
     for _ in 0..rounds {
-        bytes.clear();
-        for packet in &packets {
-            encode_into(packet, 2, &mut bytes);
-        }
-        sum = sum.wrapping_add(bytes.len() as u64);
+        sum = sum.wrapping_add(decode_all(alloc, cases));
+    }
+    sum
+}
+
+fn encode_rounds(alloc: Global, cases: &[u8], rounds: u64) -> u64 {
+    let packets = read_packets(alloc, cases);
+    let mut out = Vec::new(alloc);
+    let _ = out.reserve(packets.len().saturating_mul(368));
+    let mut sum: u64 = 0;
+    for _ in 0..rounds {
+        encode_all(&packets, &mut out);
+        sum = sum.wrapping_add(out.len() as u64);
     }
     sum
 }
@@ -247,9 +279,9 @@ fn main(rt: HostRuntime) -> ExitCode {
         answers(alloc, &cases)
     } else {
         let sum = if task == "decode" {
-            decode_all(alloc, &cases, rounds)
+            decode_rounds(alloc, &cases, rounds)
         } else {
-            encode_all(alloc, &cases, rounds)
+            encode_rounds(alloc, &cases, rounds)
         };
         let mut line = Vec::new(alloc);
         if let Ok(text) = format!(in alloc; "{sum}\n") {
