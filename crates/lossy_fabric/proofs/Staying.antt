@@ -1,5 +1,5 @@
 -- The links that there are stay while letters are put on them.
-use Rattle.std.proofs.Common.{ℕ, zero, suc, ◌≡◌, ◌≢◌, ◌<◌, ◌⊎◌, List, [], ◌∷◌, ◌++◌, length, map, refl, sym, ap, ◌∙◌, inl, inr, arith}
+use Rattle.std.proofs.Common.{ℕ, suc, ◌≡◌, ◌<◌, List, [], ◌∷◌, ◌++◌, length, refl, sym, ap, inl, inr, arith}
 use Rattle.std.proofs.lemmas.Bool.{cases_eq}
 use Rattle.zeus_base.specs.TableLaws.{nth-put_same, nth-put_other, length-put}
 use Rattle.zeus_packet.specs.declared.letter.Letter.{Letter}
@@ -41,8 +41,8 @@ posted_has links l a b there h =
     let receivers : length row ≡ length (nth [] links l.from) = length-put [] (nth [] links l.from) l.to (link links l.from l.to ++ l ∷ []) there.to in
     elim (cases_eq a l.from) [
       | inl same ↦
-        let to : b < length (nth [] links l.from) = rw same at h.to in
-        record { from = omega (arith, senders, h.from); to = rw (same, nth-put_same [] links l.from row) (omega (arith, receivers, to)) }
+          let to : b < length (nth [] links l.from) = rw same at h.to in
+          record { from = omega (arith, senders, h.from); to = rw (same, nth-put_same [] links l.from row) (omega (arith, receivers, to)) }
       | inr other ↦ record { from = omega (arith, senders, h.from); to = rw (nth-put_other [] links l.from a row (λ e. other (sym e))) h.to }
     ]
 

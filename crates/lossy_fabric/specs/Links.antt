@@ -1,5 +1,5 @@
 -- The links between nodes as letters and the room that they have, and a link as one run of bytes with the place where each packet begins.
-use Rattle.std.specs.Prelude.{ℕ, true, ◌≡◌, ◌+◌, ◌-◌, ◌/◌, ◌<◌, ◌≤◌, min, suc, List, [], ◌∷◌, ◌++◌, length, map, drop, Option, Some, None, Result, Ok, Err, vec_capacity, vec_len}
+use Rattle.std.specs.Prelude.{ℕ, true, ◌≡◌, ◌-◌, ◌/◌, ◌<◌, ◌≤◌, min, suc, List, [], ◌∷◌, ◌++◌, length, map, drop, Option, Some, None, Result, Ok, Err, vec_capacity, vec_len}
 use Rattle.std.specs.Global.{Vec}
 use Rattle.zeus_packet.specs.Fits.{fits}
 use Rattle.zeus_packet.specs.declared.letter.Body.TheVariants.{Recovered}

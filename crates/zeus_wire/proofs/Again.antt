@@ -1,5 +1,5 @@
 -- A packet that was written is read again from the front of any bytes, and so no spelling begins another.
-use Rattle.std.proofs.Common.{◌≡◌, ℕ, ◌^◌, Bool, true, ◌&&◌, nat_lt, nat_le, ◌==◌, List, [], ◌∷◌, ◌++◌, length, Result, Ok, Err, refl, sym, ap, ◌∙◌, append_assoc, arith}
+use Rattle.std.proofs.Common.{◌≡◌, ℕ, true, nat_lt, nat_le, List, ◌∷◌, ◌++◌, Result, Ok, refl, ap, ◌∙◌, append_assoc, arith}
 use Rattle.std.proofs.lemmas.Bool.{eq-eqb}
 use Rattle.zeus_base.specs.declared.config.Limits.{Limits}
 use Rattle.zeus_packet.specs.Fits.{body_fits, fits}
@@ -21,10 +21,17 @@ packet_again limits p rest are is fit =
     let body : body_fits limits p.letter.body ≡ true = grind arith in
     let last : List ℕ = body_bytes limits.version p.letter.body ++ rest in
     let regrouped : packet_bytes limits.version p ++ rest ≡ limits.version ∷ (u32_bytes p.number ++ (p.letter.from ∷ p.letter.to ∷ (u32_bytes p.letter.epoch ++ (body_bytes limits.version p.letter.body ++ rest)))) = simp append_assoc in
-    rw (regrouped, u8_again limits.version (u32_bytes p.number ++ (p.letter.from ∷ p.letter.to ∷ (u32_bytes p.letter.epoch ++ last))), eq-eqb limits.version limits.version refl,
-    u32_again p.number (p.letter.from ∷ p.letter.to ∷ (u32_bytes p.letter.epoch ++ last)) is.number,
-    node_again limits p.letter.from (p.letter.to ∷ (u32_bytes p.letter.epoch ++ last)) from, node_again limits p.letter.to (u32_bytes p.letter.epoch ++ last) to,
-    u32_again p.letter.epoch last is.epoch, epoch, body_again limits p.letter.body rest are is.body body) refl
+    rw (
+      regrouped,
+      u8_again limits.version (u32_bytes p.number ++ (p.letter.from ∷ p.letter.to ∷ (u32_bytes p.letter.epoch ++ last))),
+      eq-eqb limits.version limits.version refl,
+      u32_again p.number (p.letter.from ∷ p.letter.to ∷ (u32_bytes p.letter.epoch ++ last)) is.number,
+      node_again limits p.letter.from (p.letter.to ∷ (u32_bytes p.letter.epoch ++ last)) from,
+      node_again limits p.letter.to (u32_bytes p.letter.epoch ++ last) to,
+      u32_again p.letter.epoch last is.epoch,
+      epoch,
+      body_again limits p.letter.body rest are is.body body,
+    ) refl
 
 one_value : (x y : Packet × List ℕ) (read : Result (Packet × List ℕ) Fault) → read ≡ Ok x → read ≡ Ok y → x ≡ y
 one_value x y read first second = cc

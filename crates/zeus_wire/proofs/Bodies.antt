@@ -1,10 +1,7 @@
 -- What a letter says: what was written is read again.
-use Rattle.std.proofs.Common.{◌≡◌, ℕ, ◌+◌, ◌^◌, ◌<◌, ◌≤◌, Bool, true, false, not, ◌&&◌, nat_lt, nat_le, ◌==◌, List, [], ◌∷◌, ◌++◌, length, Option, Some, None, Result, Ok, Err, refl, sym, ap, ◌∙◌, append_assoc, arith}
+use Rattle.std.proofs.Common.{◌≡◌, ℕ, ◌^◌, ◌≤◌, true, ◌&&◌, nat_lt, nat_le, List, [], ◌∷◌, ◌++◌, length, Option, None, Ok, refl, ◌∙◌, append_assoc, arith}
 use Rattle.std.specs.List.{list_all}
-use Rattle.std.proofs.lemmas.Bool.Decides.{nat_tests}
 use Rattle.zeus_base.specs.declared.config.Limits.{Limits}
-use Rattle.zeus_base.specs.declared.order.Stamp.{Stamp}
-use Rattle.zeus_base.specs.declared.order.Stream.{Stream}
 use Rattle.zeus_packet.specs.Fits.{are_once, body_fits, cause_fits, content_fits, inv_fits, nodes_fit, object_fits, place_fits, proposal_fits, stamp_fits, stream_fits, write_fits, writes_fit}
 use Rattle.zeus_packet.specs.declared.letter.Body.{Body}
 use Rattle.zeus_packet.specs.declared.letter.Body.TheVariants.{RInv, RAck, RVal, OReq, OInv, OAck, ONack, OVal, Recovered}
@@ -13,16 +10,15 @@ use Rattle.zeus_packet.specs.declared.letter.Cause.TheVariants.{OwnStream, Windo
 use Rattle.zeus_packet.specs.declared.letter.RInv.{RInv as Inv}
 use Rattle.zeus_packet.specs.declared.letter.State.{State}
 use Rattle.zeus_packet.specs.declared.letter.State.TheVariants.{Valid, Invalid, Write as Writing}
-use Rattle.zeus_packet.specs.declared.place.Place.{Place}
 use Rattle.zeus_packet.specs.declared.place.Proposal.{Proposal}
 use Rattle.zeus_packet.specs.declared.place.Want.{Want}
 use Rattle.zeus_packet.specs.declared.place.Want.TheVariants.{Own, Read, Leave}
 use Rattle.zeus_packet.specs.declared.write.Content.{Content}
-use Rattle.zeus_wire.specs.Ranges.{AreLimits, IsBody, IsCause, IsContent, IsInv, IsProposal, IsSet, IsStamp}
+use Rattle.zeus_wire.specs.Ranges.{AreLimits, IsBody, IsCause, IsContent, IsInv, IsProposal}
 use Rattle.zeus_model.specs.PacketSpelling.{body_bytes, cause_bytes, content_bytes, inv_bytes, place_bytes, proposal_bytes, set_bytes, stamp_bytes, state_byte, stream_bytes, u16_bytes, u32_bytes, wish_bytes, wish_tag, writes_bytes}
-use Rattle.zeus_wire.specs.Reading.{and_then, body_at, body_behind, cause_at, cause_behind, has_leaver, held_at, inv_at, kept_at, may_own, not_valid_at, oack_at, oinv_at, onack_at, oreq_at, oval_at, plain_cause, proposed_at, rack_at, rinv_at, rval_at, state_at, state_of, u32_at, u8_at}
+use Rattle.zeus_wire.specs.Reading.{and_then, body_at, body_behind, cause_at, cause_behind, has_leaver, held_at, inv_at, kept_at, may_own, not_valid_at, oack_at, oinv_at, onack_at, oreq_at, oval_at, plain_cause, proposed_at, rack_at, rinv_at, rval_at, state_at, state_of, u8_at}
 use Rattle.zeus_wire.proofs.Booleans.{both_true}
-use Rattle.zeus_wire.proofs.Numbers.{checked_again, u32_again, u8_again}
+use Rattle.zeus_wire.proofs.Numbers.{u32_again, u8_again}
 use Rattle.zeus_wire.proofs.Fields.{has_wish, object_again, place_again, proposal_again, set_again, slot_again, stamp_again, stream_again, want_again}
 use Rattle.zeus_wire.proofs.Values.{content_again, writes_again}
 
@@ -66,11 +62,19 @@ inv_again limits r rest are is fits =
     let once : are_once r.writes ≡ true = grind arith in
     let last : List ℕ = writes_bytes limits.version r.writes ++ rest in
     let regrouped : inv_bytes limits.version r ++ rest ≡ stream_bytes r.stream ++ (u32_bytes r.number ++ (u32_bytes r.done ++ (set_bytes r.followers ++ (length r.writes ∷ (writes_bytes limits.version r.writes ++ rest))))) = simp append_assoc in
-    rw (regrouped, stream_again limits r.stream (u32_bytes r.number ++ (u32_bytes r.done ++ (set_bytes r.followers ++ (length r.writes ∷ last)))) stream,
-    u32_again r.number (u32_bytes r.done ++ (set_bytes r.followers ++ (length r.writes ∷ last))) is.number, number,
-    u32_again r.done (set_bytes r.followers ++ (length r.writes ∷ last)) is.done, done,
-    set_again limits r.followers (length r.writes ∷ last) is.followers followers,
-    u8_again (length r.writes) last, some, few, writes_again limits [] r.writes rest are is.writes each once) refl
+    rw (
+      regrouped,
+      stream_again limits r.stream (u32_bytes r.number ++ (u32_bytes r.done ++ (set_bytes r.followers ++ (length r.writes ∷ last)))) stream,
+      u32_again r.number (u32_bytes r.done ++ (set_bytes r.followers ++ (length r.writes ∷ last))) is.number,
+      number,
+      u32_again r.done (set_bytes r.followers ++ (length r.writes ∷ last)) is.done,
+      done,
+      set_again limits r.followers (length r.writes ∷ last) is.followers followers,
+      u8_again (length r.writes) last,
+      some,
+      few,
+      writes_again limits [] r.writes rest are is.writes each once,
+    ) refl
 
 oreq_again : (limits : Limits) (x : ℕ) (want : Want) (rest : List ℕ) → limits.objects ≤ 2 ^ 16 → object_fits limits x ≡ true → oreq_at limits (has_wish want) ((u16_bytes x ++ wish_bytes want) ++ rest) ≡ Ok (OReq x want, rest)
 unfolding oreq_at and_then

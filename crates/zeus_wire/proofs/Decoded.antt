@@ -1,5 +1,5 @@
 -- All of the bytes are one packet: what is decoded is spelled so, and what is spelled so is decoded.
-use Rattle.std.proofs.Common.{◌≡◌, ℕ, ◌-◌, ◌<◌, ◌≤◌, Bool, true, false, cond, ltb, nat_lt, List, [], ◌∷◌, ◌++◌, length, Result, Ok, Err, refl, sym, ap, subst, ◌∙◌, arith}
+use Rattle.std.proofs.Common.{◌≡◌, ℕ, ◌-◌, ◌≤◌, Bool, true, false, cond, ltb, List, [], ◌++◌, length, Result, Ok, Err, refl, sym, ap, ◌∙◌, arith}
 use Rattle.std.specs.Prelude.{IfOk}
 use Rattle.std.proofs.lemmas.Bool.{le-ltb, ltb-false}
 use Rattle.std.proofs.lemmas.List.{append-nil, nil_from_length, length-append}
@@ -11,7 +11,7 @@ use Rattle.zeus_wire.specs.declared.fault.WireFault.{WireFault}
 use Rattle.zeus_wire.specs.declared.fault.WireFault.TheVariants as wire
 use Rattle.zeus_wire.specs.Ranges.{AreBytes, AreLimits, IsPacket}
 use Rattle.zeus_model.specs.PacketSpelling.{packet_bytes}
-use Rattle.zeus_wire.specs.Reading.{counted, decoded, decoded_front, packet_at, placed, without_rest}
+use Rattle.zeus_wire.specs.Reading.{counted, decoded, decoded_front, packet_at, without_rest}
 use Rattle.zeus_wire.proofs.Again.{packet_again}
 use Rattle.zeus_wire.proofs.FoundPackets.{one_spelling}
 

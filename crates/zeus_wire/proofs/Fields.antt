@@ -1,7 +1,7 @@
 -- The fields that several letters have: what was written is read again.
-use Rattle.std.proofs.Common.{◌≡◌, ℕ, ◌+◌, ◌^◌, ◌<◌, ◌≤◌, Bool, true, false, not, ◌&&◌, nat_lt, nat_le, ◌==◌, List, [], ◌∷◌, ◌++◌, Option, Some, None, Result, Ok, Err, refl, sym, ap, ◌∙◌, append_assoc, arith}
+use Rattle.std.proofs.Common.{◌≡◌, ℕ, ◌^◌, ◌<◌, ◌≤◌, Bool, true, false, not, nat_lt, ◌==◌, List, [], ◌∷◌, ◌++◌, Option, Ok, refl, append_assoc, arith}
 use Rattle.std.proofs.lemmas.Bool.Decides.{nat_tests}
-use Rattle.zeus_base.specs.Bits.{bits_of, nodes_of}
+use Rattle.zeus_base.specs.Bits.{bits_of}
 use Rattle.zeus_base.specs.Nodes.{has}
 use Rattle.zeus_base.specs.declared.config.Limits.{Limits}
 use Rattle.zeus_base.specs.declared.order.Stamp.{Stamp}
@@ -13,7 +13,7 @@ use Rattle.zeus_packet.specs.declared.place.Want.{Want}
 use Rattle.zeus_packet.specs.declared.place.Want.TheVariants.{Own, Read, Leave}
 use Rattle.zeus_wire.specs.Ranges.{IsProposal, IsSet}
 use Rattle.zeus_model.specs.PacketSpelling.{place_bytes, proposal_bytes, set_bytes, stamp_bytes, stream_bytes, u16_bytes, u64_bytes, wish_bytes}
-use Rattle.zeus_wire.specs.Reading.{and_then, any_set_at, has_leaver, leaver_of, may_own, node_at, object_at, place_at, proposal_at, set_at, slot_at, stamp_at, stream_at, u16_at, u64_at, u8_at, want_at, want_of}
+use Rattle.zeus_wire.specs.Reading.{and_then, any_set_at, has_leaver, leaver_of, may_own, node_at, object_at, place_at, proposal_at, set_at, slot_at, stamp_at, stream_at, u16_at, u8_at, want_at, want_of}
 use Rattle.zeus_wire.proofs.Booleans.{both_true}
 use Rattle.zeus_wire.proofs.Numbers.{checked_again, u16_again, u64_again, u8_again}
 

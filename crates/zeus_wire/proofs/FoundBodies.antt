@@ -1,23 +1,19 @@
 -- What a letter says: what was read was written so, and keeps its ranges.
-use Rattle.std.proofs.Common.{◌≡◌, ℕ, zero, suc, ◌+◌, ◌^◌, ◌<◌, ◌≤◌, Bool, true, false, not, ◌&&◌, nat_lt, nat_le, ◌==◌, cond, List, [], ◌∷◌, ◌++◌, length, Option, Some, None, Result, Ok, Err, refl, sym, ap, subst, ◌∙◌, append_assoc, arith, inl, inr}
-use Rattle.std.specs.List.{list_all}
+use Rattle.std.proofs.Common.{◌≡◌, ℕ, zero, suc, ◌+◌, Bool, true, false, ◌&&◌, nat_lt, nat_le, ◌==◌, cond, List, [], ◌∷◌, ◌++◌, length, None, Ok, refl, arith, inl, inr}
 use Rattle.std.proofs.lemmas.Bool.{eqb-true}
 use Rattle.std.proofs.lemmas.Bool.Decides.{nat_tests}
 use Rattle.zeus_base.specs.declared.config.Limits.{Limits}
-use Rattle.zeus_base.specs.declared.order.Stamp.{Stamp}
-use Rattle.zeus_base.specs.declared.order.Stream.{Stream}
-use Rattle.zeus_packet.specs.Fits.{are_once, body_fits, cause_fits, content_fits, inv_fits, nodes_fit, object_fits, place_fits, proposal_fits, stamp_fits, stream_fits, write_fits, writes_fit}
+use Rattle.zeus_packet.specs.Fits.{are_once, body_fits, cause_fits, inv_fits, writes_fit}
 use Rattle.zeus_packet.specs.declared.letter.Body.{Body}
-use Rattle.zeus_packet.specs.declared.letter.Body.TheVariants.{RInv, RAck, RVal, OReq, OInv, OAck, ONack, OVal, Recovered}
+use Rattle.zeus_packet.specs.declared.letter.Body.TheVariants.{Recovered}
 use Rattle.zeus_packet.specs.declared.letter.Cause.{Cause}
-use Rattle.zeus_packet.specs.declared.letter.Cause.TheVariants.{OwnStream, Window, NotDirectory, Proposed, Owns, HasCopy, NotReader, NoSource, Degree, IsSource, WornOut, NoCopy, Held, NotValid, Kept, NotArbiter, NotCollector, OwnPlace}
 use Rattle.zeus_packet.specs.declared.letter.RInv.{RInv as Inv}
 use Rattle.zeus_packet.specs.declared.letter.State.{State}
 use Rattle.zeus_packet.specs.declared.place.Want.{Want}
 use Rattle.zeus_packet.specs.declared.place.Want.TheVariants.{Own, Read, Leave}
 use Rattle.zeus_wire.specs.Ranges.{AreBytes, IsBody, IsCause, IsInv}
 use Rattle.zeus_model.specs.PacketSpelling.{body_bytes, cause_bytes, content_bytes, inv_bytes, proposal_bytes, state_byte, u16_bytes, wish_bytes, wish_tag}
-use Rattle.zeus_wire.specs.Reading.{Reader, and_then, body_at, body_behind, cause_at, cause_behind, gives, has_leaver, held_at, inv_at, kept_at, may_own, not_valid_at, oack_at, oinv_at, onack_at, oreq_at, oval_at, plain_cause, proposed_at, rack_at, rinv_at, rval_at, state_at, state_of, u32_at, u8_at}
+use Rattle.zeus_wire.specs.Reading.{Reader, body_at, body_behind, cause_at, cause_behind, gives, held_at, inv_at, kept_at, not_valid_at, oack_at, oinv_at, onack_at, oreq_at, oval_at, plain_cause, proposed_at, rack_at, rinv_at, rval_at, state_at, state_of, u32_at, u8_at}
 use Rattle.zeus_wire.proofs.Booleans.{both_true}
 use Rattle.zeus_wire.proofs.Fields.{has_wish}
 use Rattle.zeus_wire.proofs.Found.{Took, took_both, and_then_ok, checked_ok, either_ok, gives_ok, u8_found, u32_found}
@@ -115,8 +111,8 @@ behind_found limits byte bytes y are h e =
           | inr s ↦ elim (either_ok (byte == 10) (kept_at limits) (gives (plain_cause byte)) bytes y s.1) [
             | inl p ↦ rw (eqb-true byte 10 p.0) (kept_found limits bytes y are p.1)
             | inr t ↦
-              let is = plain byte h q.0 r.0 s.0 t.0 in
-              rw (gives_ok _ _ _ t.1) record { text = []; spelled = is.spelled; took = record { parts = refl; left = are }; is = is.is; fits = is.fits limits }
+                let is = plain byte h q.0 r.0 s.0 t.0 in
+                rw (gives_ok _ _ _ t.1) record { text = []; spelled = is.spelled; took = record { parts = refl; left = are }; is = is.is; fits = is.fits limits }
           ]
         ]
       ]
@@ -158,9 +154,11 @@ inv_found limits bytes y are e =
     let size : length writes.added ≡ f.0.0 = writes.count_is in
     let once : are_once writes.added ≡ true = rw (← is) writes.once in
     let sized : Took d.0.1 (length writes.added ∷ []) f.0.1 = rw size count.0 in
-    rw (gives_ok _ _ _ g.2, is) (took_both _ _ _ _ _ stream.0 (took_both _ _ _ _ _ number.0 (took_both _ _ _ _ _ done.0 (took_both _ _ _ _ _ followers.0 (took_both _ _ _ _ _ sized writes.text)))),
-    record { number = number.1; done = done.1; followers = followers.1; writes = writes.are },
-    rw (stream.1, below.1, passed.1, followers.2, size, few.0, few.1, writes.fit, once) refl)
+    rw (gives_ok _ _ _ g.2, is) (
+      took_both _ _ _ _ _ stream.0 (took_both _ _ _ _ _ number.0 (took_both _ _ _ _ _ done.0 (took_both _ _ _ _ _ followers.0 (took_both _ _ _ _ _ sized writes.text)))),
+      record { number = number.1; done = done.1; followers = followers.1; writes = writes.are },
+      rw (stream.1, below.1, passed.1, followers.2, size, few.0, few.1, writes.fit, once) refl,
+    )
 
 -- what stands behind a tag
 record Told (limits : Limits) (tag : ℕ) (bytes : List ℕ) (y : Body × List ℕ) : Type 0 where

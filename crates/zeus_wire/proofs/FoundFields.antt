@@ -1,7 +1,7 @@
 -- The fields that several letters have: what was read was written so, and keeps its range.
-use Rattle.std.proofs.Common.{◌≡◌, ℕ, zero, suc, ◌+◌, ◌^◌, ◌<◌, ◌≤◌, Bool, true, false, not, ◌&&◌, nat_lt, nat_le, ◌==◌, List, [], ◌∷◌, ◌++◌, Option, Some, None, Result, Ok, Err, refl, sym, ap, ◌∙◌, append_assoc, arith}
+use Rattle.std.proofs.Common.{◌≡◌, ℕ, zero, suc, ◌^◌, ◌<◌, Bool, true, false, ◌&&◌, nat_lt, nat_le, List, [], ◌∷◌, Option, Ok, refl, arith}
 use Rattle.std.proofs.lemmas.Bool.Decides.{nat_tests}
-use Rattle.zeus_base.specs.Bits.{bits_of, nodes_of, bits_of-nodes_of}
+use Rattle.zeus_base.specs.Bits.{nodes_of}
 use Rattle.zeus_base.specs.Nodes.{has}
 use Rattle.zeus_base.specs.declared.config.Limits.{Limits}
 use Rattle.zeus_base.specs.declared.order.Stamp.{Stamp}
@@ -12,8 +12,8 @@ use Rattle.zeus_packet.specs.declared.place.Proposal.{Proposal}
 use Rattle.zeus_packet.specs.declared.place.Want.{Want}
 use Rattle.zeus_packet.specs.declared.place.Want.TheVariants.{Own, Read, Leave}
 use Rattle.zeus_wire.specs.Ranges.{AreBytes, IsProposal, IsSet}
-use Rattle.zeus_model.specs.PacketSpelling.{place_bytes, proposal_bytes, set_bytes, stamp_bytes, stream_bytes, u16_bytes, u64_bytes, wish_bytes}
-use Rattle.zeus_wire.specs.Reading.{and_then, any_set_at, gives, has_leaver, leaver_of, may_own, node_at, object_at, place_at, proposal_at, set_at, slot_at, stamp_at, stream_at, u16_at, u64_at, u8_at, want_at, want_of}
+use Rattle.zeus_model.specs.PacketSpelling.{place_bytes, proposal_bytes, set_bytes, stamp_bytes, stream_bytes, u16_bytes, wish_bytes}
+use Rattle.zeus_wire.specs.Reading.{any_set_at, has_leaver, leaver_of, may_own, node_at, object_at, place_at, proposal_at, set_at, slot_at, stamp_at, stream_at, u16_at, u8_at, want_at, want_of}
 use Rattle.zeus_wire.proofs.Booleans.{both_true}
 use Rattle.zeus_wire.proofs.Sets.{set_of_byte}
 use Rattle.zeus_wire.proofs.Fields.{has_wish}
@@ -103,9 +103,12 @@ proposal_found limits want bytes y are e =
     let base = stamp_found limits b.0.1 c.0 requester.0.left c.1 in
     let place = place_found limits (leaver_of want b.0.0) c.0.1 d.0 base.0.left d.1 in
     let wish = wish_fits want b.0.0 d.0.0 place.3 place.4 in
-    rw (gives_ok _ _ _ d.2) (took_both _ _ _ _ _ stamp.0 (took_both _ _ _ _ _ requester.0 (took_both _ _ _ _ _ base.0 place.0)),
-    record { stamp = stamp.1; base = base.1; replicas = place.1 },
-    rw (stamp.2, requester.1, base.2, place.2, wish) refl, refl)
+    rw (gives_ok _ _ _ d.2) (
+      took_both _ _ _ _ _ stamp.0 (took_both _ _ _ _ _ requester.0 (took_both _ _ _ _ _ base.0 place.0)),
+      record { stamp = stamp.1; base = base.1; replicas = place.1 },
+      rw (stamp.2, requester.1, base.2, place.2, wish) refl,
+      refl,
+    )
 
 test_want : (byte : ℕ) → (nat_le 1 byte && nat_le byte 2) ≡ true → (byte ∷ [] ≡ wish_bytes (want_of byte)) × (has_wish (want_of byte) ≡ true)
 unfolding want_of wish_bytes has_wish

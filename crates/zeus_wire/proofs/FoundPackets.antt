@@ -1,5 +1,5 @@
 -- A packet that was read was written so, and fits.
-use Rattle.std.proofs.Common.{◌≡◌, ℕ, ◌^◌, Bool, true, ◌&&◌, nat_lt, nat_le, ◌==◌, List, [], ◌∷◌, ◌++◌, length, Result, Ok, Err, refl, sym, ap, subst, ◌∙◌, arith}
+use Rattle.std.proofs.Common.{◌≡◌, ℕ, true, nat_le, ◌==◌, List, [], ◌∷◌, ◌++◌, Ok, refl, subst}
 use Rattle.std.proofs.lemmas.Bool.{eqb-true}
 use Rattle.zeus_base.specs.declared.config.Limits.{Limits}
 use Rattle.zeus_packet.specs.Fits.{fits}
@@ -30,9 +30,11 @@ packet_found limits bytes y are e =
     let epoch = u32_found d.0.1 f.0 to.0.left begun.0 in
     let body = body_found limits f.0.1 g.0 epoch.0.left g.1 in
     let first : Took bytes (limits.version ∷ []) a.0.1 = subst (λ v. Took bytes (v ∷ []) a.0.1) same version.0 in
-    rw (gives_ok _ _ _ g.2) (took_both _ _ _ _ _ first (took_both _ _ _ _ _ number.0 (took_both _ _ _ _ _ from.0 (took_both _ _ _ _ _ to.0 (took_both _ _ _ _ _ epoch.0 body.0)))),
-    record { number = number.1; epoch = epoch.1; body = body.1 },
-    rw (from.1, to.1, begun.1, body.2) refl)
+    rw (gives_ok _ _ _ g.2) (
+      took_both _ _ _ _ _ first (took_both _ _ _ _ _ number.0 (took_both _ _ _ _ _ from.0 (took_both _ _ _ _ _ to.0 (took_both _ _ _ _ _ epoch.0 body.0)))),
+      record { number = number.1; epoch = epoch.1; body = body.1 },
+      rw (from.1, to.1, begun.1, body.2) refl,
+    )
 
 pub one_spelling : (limits : Limits) (bytes : List ℕ) (p : Packet) (rest : List ℕ) → AreBytes bytes → packet_at limits bytes ≡ Ok (p, rest)
     → (bytes ≡ packet_bytes limits.version p ++ rest) × IsPacket p × (fits p.letter limits ≡ true)

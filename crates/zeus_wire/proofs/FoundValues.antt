@@ -1,18 +1,18 @@
 -- Values, writes and contents: what was read was written so, and keeps its range.
-use Rattle.std.proofs.Common.{◌≡◌, ℕ, zero, suc, ◌+◌, ◌^◌, ◌<◌, ◌≤◌, Bool, true, false, not, ◌&&◌, ◌||◌, nat_lt, nat_le, ◌==◌, cond, List, [], ◌∷◌, ◌++◌, length, Option, Some, None, Result, Ok, Err, refl, sym, ap, subst, ◌∙◌, append_assoc, arith, inl, inr}
-use Rattle.std.specs.List.{list_all, list_any}
+use Rattle.std.proofs.Common.{◌≡◌, ℕ, zero, suc, ◌^◌, ◌<◌, ◌≤◌, Bool, true, false, not, nat_le, ◌==◌, List, [], ◌∷◌, ◌++◌, length, Option, None, Ok, refl, sym, ap, ◌∙◌, append_assoc, arith, inl, inr}
+use Rattle.std.specs.List.{list_all}
 use Rattle.std.proofs.lemmas.Bool.Decides.{nat_tests}
-use Rattle.std.proofs.lemmas.List.{append-nil, length-append}
+use Rattle.std.proofs.lemmas.List.{append-nil}
 use Rattle.zeus_base.specs.Texts.{IsText}
 use Rattle.zeus_base.specs.declared.config.Limits.{Limits}
 use Rattle.zeus_base.specs.declared.value.Value.{Value}
 use Rattle.zeus_base.specs.declared.value.Value.TheVariants.{Num, Text}
-use Rattle.zeus_packet.specs.Fits.{are_once, content_fits, object_fits, value_fits, write_fits}
+use Rattle.zeus_packet.specs.Fits.{are_once, content_fits, value_fits, write_fits}
 use Rattle.zeus_packet.specs.declared.write.Content.{Content}
 use Rattle.zeus_packet.specs.declared.write.Write.{Write}
 use Rattle.zeus_wire.specs.Ranges.{AreBytes, AreWrites, IsContent, IsValue, IsWrite}
-use Rattle.zeus_model.specs.PacketSpelling.{content_bytes, u16_bytes, u64_bytes, value_bytes, write_bytes, writes_bytes}
-use Rattle.zeus_wire.specs.Reading.{and_then, bytes_at, content_at, content_if, gives, is_printable, names, num_at, num_or_text_at, object_at, some_content_at, tagged_value_at, text_at, text_value_at, u64_at, u8_at, value_at, write_at, writes_at}
+use Rattle.zeus_model.specs.PacketSpelling.{content_bytes, u64_bytes, value_bytes, write_bytes, writes_bytes}
+use Rattle.zeus_wire.specs.Reading.{bytes_at, content_at, content_if, is_printable, names, num_at, num_or_text_at, object_at, some_content_at, tagged_value_at, text_at, text_value_at, u8_at, value_at, write_at, writes_at}
 use Rattle.zeus_wire.proofs.Booleans.{both_new, both_true, later_new, not_true}
 use Rattle.zeus_wire.proofs.Texts.{Decides-printable}
 use Rattle.zeus_wire.proofs.Values.{names-append}
@@ -42,16 +42,16 @@ tagged_found bytes y are e =
     let len = u8_found bytes a.0 are c.0 in
     elim (either_ok (a.0.0 == 0) num_at (text_value_at a.0.0) a.0.1 y a.2) [
       | inl first ↦
-        let zeroed : a.0.0 ≡ 0 = grind (arith, nat_tests) in
-        let n = num_found a.0.1 y len.0.left first.1 in
-        let front : Took bytes (0 ∷ []) a.0.1 = rw (← zeroed) len.0 in
-        rw n.1 (took_both _ _ _ _ _ front n.2, n.3)
+          let zeroed : a.0.0 ≡ 0 = grind (arith, nat_tests) in
+          let n = num_found a.0.1 y len.0.left first.1 in
+          let front : Took bytes (0 ∷ []) a.0.1 = rw (← zeroed) len.0 in
+          rw n.1 (took_both _ _ _ _ _ front n.2, n.3)
       | inr second ↦
-        let some : 1 ≤ a.0.0 = grind (arith, nat_tests) in
-        let short : a.0.0 ≤ 32 = grind (arith, nat_tests) in
-        let t = text_found a.0.0 a.0.1 y len.0.left some short second.1 in
-        let front : Took bytes (length t.0 ∷ []) a.0.1 = rw t.4 len.0 in
-        rw t.1 (took_both _ _ _ _ _ front t.2, t.3)
+          let some : 1 ≤ a.0.0 = grind (arith, nat_tests) in
+          let short : a.0.0 ≤ 32 = grind (arith, nat_tests) in
+          let t = text_found a.0.0 a.0.1 y len.0.left some short second.1 in
+          let front : Took bytes (length t.0 ∷ []) a.0.1 = rw t.4 len.0 in
+          rw t.1 (took_both _ _ _ _ _ front t.2, t.3)
     ]
 
 any_fits : (limits : Limits) (v : Value) → (limits.version == 2) ≡ true → value_fits limits v ≡ true

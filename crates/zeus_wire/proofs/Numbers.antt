@@ -1,12 +1,9 @@
 -- Numbers as bytes: what was written is read again, and what was read was written so.
-use Rattle.std.proofs.Common.{◌≡◌, ℕ, suc, ◌+◌, ◌^◌, ◌<◌, ◌≤◌, Bool, true, false, cond, ltb, List, [], ◌∷◌, ◌++◌, length, get_or, slice_index, take, drop, Result, Ok, Err, refl, sym, ap, subst, ◌∙◌, append_assoc, arith, inl, inr}
-use Rattle.std.specs.Int.{Width, w16, w32, w64, byte_len, from_be_bytes, to_be_bytes}
-use Rattle.std.proofs.lemmas.Bool.{cases_lt, ltb-false, le-ltb}
-use Rattle.std.proofs.lemmas.List.{take_at, drop_at, take-append-drop, length-append, length-take, get_or-drop, get_or-take, get_or_past}
-use Rattle.std.proofs.lemmas.Nat.{be_bytes_2, be_bytes_4, be_bytes_8, from_be_bytes-to_be_bytes_2, from_be_bytes-to_be_bytes_4, from_be_bytes-to_be_bytes_8}
-use Rattle.zeus_wire.specs.declared.fault.Fault.{Fault}
-use Rattle.zeus_wire.specs.declared.fault.Fault.TheVariants.{Short, Field}
-use Rattle.zeus_wire.specs.Ranges.{AreBytes}
+use Rattle.std.proofs.Common.{◌≡◌, ℕ, ◌^◌, ◌<◌, Bool, true, false, ltb, List, ◌∷◌, ◌++◌, length, Ok, refl, arith}
+use Rattle.std.specs.Int.{w16, w32, w64, to_be_bytes}
+use Rattle.std.proofs.lemmas.Bool.{le-ltb}
+use Rattle.std.proofs.lemmas.List.{take_at, drop_at, length-append}
+use Rattle.std.proofs.lemmas.Nat.{from_be_bytes-to_be_bytes_2, from_be_bytes-to_be_bytes_4, from_be_bytes-to_be_bytes_8}
 use Rattle.zeus_model.specs.PacketSpelling.{u16_bytes, u32_bytes, u64_bytes}
 use Rattle.zeus_wire.specs.Reading.{Reader, and_then, checked, bytes_at, u8_at, u16_at, u32_at, u64_at}
 
@@ -38,6 +35,3 @@ u64_again n rest fits = rw (bytes_again 8 (to_be_bytes w64 n) rest refl, from_be
 pub checked_again : {A : Type 0} (test : A → Bool) (r : Reader A) (bytes : List ℕ) (x : A) (rest : List ℕ) → r bytes ≡ Ok (x, rest) → test x ≡ true → checked test r bytes ≡ Ok (x, rest)
 unfolding and_then
 checked_again test r bytes x rest read passes = rw (read, passes) refl
-
-
-

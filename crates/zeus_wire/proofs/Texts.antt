@@ -1,11 +1,10 @@
 -- Reading a text.
-use Rattle.std.proofs.Common.{◌≡◌, ℕ, ◌≤◌, ◌<◌, Bool, true, false, ◌&&◌, nat_le, leb, ltb, List, length, take, drop, All, Decides, Result, Ok, Err, refl, sym, ap, ◌∙◌, arith}
+use Rattle.std.proofs.Common.{◌≡◌, ℕ, ◌≤◌, Bool, true, false, nat_le, List, length, take, drop, All, Decides, Ok, Err, refl, arith}
 use Rattle.std.specs.List.{list_all}
 use Rattle.std.proofs.lemmas.Bool.{le-ltb}
 use Rattle.std.proofs.lemmas.Bool.Decides.{Decides-by_and, Decides-and, nat_tests}
 use Rattle.std.proofs.lemmas.List.{length-take-le}
 use Rattle.zeus_base.specs.Texts.{IsText}
-use Rattle.zeus_wire.specs.declared.fault.Fault.{Fault}
 use Rattle.zeus_wire.specs.declared.fault.Fault.TheVariants.{Field}
 use Rattle.zeus_wire.specs.Reading.{bytes_at, and_then, text_at, is_printable}
 

@@ -1,6 +1,6 @@
 -- Values, writes and contents: what was written is read again.
-use Rattle.std.proofs.Common.{◌≡◌, ℕ, zero, suc, ◌+◌, ◌^◌, ◌<◌, ◌≤◌, Bool, true, false, not, ◌&&◌, ◌||◌, nat_lt, nat_le, ◌==◌, eqb, cond, List, [], ◌∷◌, ◌++◌, length, take, drop, Option, Some, None, Result, Ok, Err, refl, sym, ap, ◌∙◌, append_assoc, arith}
-use Rattle.std.specs.List.{list_all, list_any}
+use Rattle.std.proofs.Common.{◌≡◌, ℕ, ◌^◌, ◌<◌, ◌≤◌, Bool, true, false, not, ◌||◌, nat_le, ◌==◌, List, [], ◌∷◌, ◌++◌, length, Option, Some, None, Ok, refl, sym, ◌∙◌, append_assoc, arith}
+use Rattle.std.specs.List.{list_all}
 use Rattle.std.proofs.lemmas.Bool.Decides.{nat_tests}
 use Rattle.std.proofs.lemmas.List.{append-nil}
 use Rattle.zeus_base.specs.Texts.{IsText}
@@ -12,10 +12,10 @@ use Rattle.zeus_packet.specs.declared.write.Content.{Content}
 use Rattle.zeus_packet.specs.declared.write.Write.{Write}
 use Rattle.zeus_wire.specs.Ranges.{AreLimits, AreWrites, IsContent, IsValue, IsWrite}
 use Rattle.zeus_model.specs.PacketSpelling.{content_bytes, u16_bytes, u64_bytes, value_bytes, write_bytes, writes_bytes}
-use Rattle.zeus_wire.specs.Reading.{and_then, bytes_at, content_at, content_if, is_printable, names, num_at, num_or_text_at, object_at, some_content_at, tagged_value_at, text_at, text_value_at, u64_at, u8_at, value_at, write_at, writes_at}
+use Rattle.zeus_wire.specs.Reading.{and_then, content_at, content_if, is_printable, names, num_at, num_or_text_at, some_content_at, tagged_value_at, text_at, text_value_at, value_at, write_at, writes_at}
 use Rattle.zeus_wire.proofs.Booleans.{apart, both_true, not_true}
 use Rattle.zeus_wire.proofs.Texts.{Decides-printable}
-use Rattle.zeus_wire.proofs.Numbers.{bytes_again, checked_again, u64_again, u8_again}
+use Rattle.zeus_wire.proofs.Numbers.{bytes_again, u64_again, u8_again}
 use Rattle.zeus_wire.proofs.Fields.{object_again}
 
 num_again : (n : ℕ) (rest : List ℕ) → n < 2 ^ 64 → num_at (u64_bytes n ++ rest) ≡ Ok (Num n, rest)

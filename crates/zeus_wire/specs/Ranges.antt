@@ -1,5 +1,5 @@
 -- The limits that a packet can be read against, and the widths of a packet's numbers.
-use Rattle.std.specs.Prelude.{ℕ, ◌+◌, ◌-◌, vec_capacity, vec_len, Bool, true, ◌&&◌, ◌≡◌, ◌<◌, ◌≤◌, ◌^◌, nat_le, ◌==◌, List, [], ◌∷◌, ◌++◌, All, Option, Some, None, IfSome, slice_index, if◌then◌else◌}
+use Rattle.std.specs.Prelude.{ℕ, ◌+◌, ◌-◌, vec_capacity, vec_len, ◌≡◌, ◌<◌, ◌≤◌, ◌^◌, ◌==◌, List, [], ◌∷◌, Option, Some, None, slice_index, if◌then◌else◌}
 use Rattle.std.specs.Global.{Vec}
 use Rattle.zeus_base.specs.Bits.{bits_of, nodes_of}
 use Rattle.zeus_base.specs.Texts.{IsText}
@@ -7,14 +7,12 @@ use Rattle.zeus_base.specs.declared.config.Limits.{Limits}
 use Rattle.zeus_base.specs.declared.order.Stamp.{Stamp}
 use Rattle.zeus_base.specs.declared.value.Value.{Value}
 use Rattle.zeus_base.specs.declared.value.Value.TheVariants.{Num, Text}
-use Rattle.zeus_packet.specs.Fits.{fits}
 use Rattle.zeus_packet.specs.declared.letter.Body.{Body}
 use Rattle.zeus_packet.specs.declared.letter.Body.TheVariants.{RInv, RAck, RVal, OReq, OInv, OAck, ONack, OVal, Recovered}
 use Rattle.zeus_packet.specs.declared.letter.Cause.{Cause}
-use Rattle.zeus_packet.specs.declared.letter.Cause.TheVariants.{OwnStream, Window, NotDirectory, Proposed, Owns, HasCopy, NotReader, NoSource, Degree, IsSource, WornOut, NoCopy, Held, NotValid, Kept, NotArbiter, NotCollector, OwnPlace}
+use Rattle.zeus_packet.specs.declared.letter.Cause.TheVariants.{Proposed}
 use Rattle.zeus_packet.specs.declared.letter.Packet.{Packet}
 use Rattle.zeus_packet.specs.declared.letter.RInv.{RInv as Inv}
-use Rattle.zeus_packet.specs.declared.place.Place.{Place}
 use Rattle.zeus_packet.specs.declared.place.Proposal.{Proposal}
 use Rattle.zeus_packet.specs.declared.write.Content.{Content}
 use Rattle.zeus_packet.specs.declared.write.Write.{Write}

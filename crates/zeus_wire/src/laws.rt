@@ -15,13 +15,11 @@ pub fn what_was_written_is_read_again()
     ensures no_prefix { (limits : Limits) (p q : Packet) (rest more : List ℕ) → AreLimits limits → IsPacket p → fits p.letter limits ≡ true
         → IsPacket q → fits q.letter limits ≡ true
         → packet_bytes limits.version p ++ rest ≡ packet_bytes limits.version q ++ more → (p ≡ q) × (rest ≡ more) }
-{
-}
+{}
 
 /// What is read was spelled so, and fits the limits: each packet has one spelling.
 #[tactic(auto, using(crate::proofs::FoundPackets::one_spelling))]
 pub fn what_is_read_is_spelled_so()
     ensures { (limits : Limits) (bytes : List ℕ) (p : Packet) (rest : List ℕ) → AreBytes bytes → packet_at limits bytes ≡ Ok (p, rest)
         → (bytes ≡ packet_bytes limits.version p ++ rest) × IsPacket p × (fits p.letter limits ≡ true) }
-{
-}
+{}

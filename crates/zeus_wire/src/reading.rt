@@ -3,7 +3,7 @@ ghost use Rattle.std.specs.Prelude.{◌≡◌, ◌≤◌, ℕ, IfOk, Ok, true};
 ghost use Rattle.zeus_packet.specs.Fits.{fits};
 ghost use Rattle.zeus_packet.specs.declared.letter.Packet.{Packet};
 ghost use Rattle.zeus_wire.specs.Ranges.{AreLimits, IsPacket};
-ghost use Rattle.zeus_wire.specs.Reading.{IsRead, decoded, decoded_front, packet_at, placed, without_rest};
+ghost use Rattle.zeus_wire.specs.Reading.{IsRead, decoded, decoded_front, packet_at, placed};
 ghost use Rattle.zeus_model.specs.PacketSpelling.{packet_bytes};
 
 mod body;
@@ -37,13 +37,15 @@ fn read_packet(alloc: Global, limits: Limits, input: &mut Input<'_>) -> Result<P
         return Err(Fault::Field { left });
     }
     let body = read_body(alloc, limits, input)?;
-    let letter = Letter {
-        from,
-        to,
-        epoch,
-        body,
-    };
-    Ok(Packet { number, letter })
+    Ok(Packet {
+        number,
+        letter: Letter {
+            from,
+            to,
+            epoch,
+            body,
+        },
+    })
 }
 
 /// The fault with its place among so many bytes.
@@ -68,7 +70,11 @@ fn placed(count: usize, fault: Fault) -> WireFault
 /// The first fault from left to right, with its place: a field that is not whole (`Short`), a byte that is no tag
 /// (`BadTag`), or a field out of the range of the limits (`BadField`).
 #[tactic(auto, unfolding(crate::specs::Reading::decoded_front, crate::specs::Reading::counted))]
-pub fn decode_front(alloc: Global, bytes: &[u8], limits: &Limits) -> Result<(Packet, usize), WireFault>
+pub fn decode_front(
+    alloc: Global,
+    bytes: &[u8],
+    limits: &Limits,
+) -> Result<(Packet, usize), WireFault>
     requires { AreLimits limits.now }
     ensures { result ≡ decoded_front limits.now bytes.now }
 {
@@ -79,16 +85,23 @@ pub fn decode_front(alloc: Global, bytes: &[u8], limits: &Limits) -> Result<(Pac
     }
 }
 
-/// The packet, where it has as many bytes as there are.
-#[tactic(auto, unfolding(crate::specs::Reading::without_rest))]
-fn without_rest(count: usize, front: Result<(Packet, usize), WireFault>) -> Result<Packet, WireFault>
-    ensures { result ≡ without_rest count front }
+/// The packet that all of the bytes are.
+#[tactic(auto, unfolding(crate::specs::Reading::decoded, crate::specs::Reading::decoded_front, crate::specs::Reading::counted, crate::specs::Reading::without_rest))]
+fn decode_whole(alloc: Global, bytes: &[u8], limits: Limits) -> Result<Packet, WireFault>
+    requires { AreLimits limits }
+    ensures { result ≡ decoded limits bytes.now }
 {
-    let (packet, len) = front?;
-    if len < count {
-        return Err(WireFault::Extra { at: len as u64 });
+    let mut input = Input::new(bytes);
+    match read_packet(alloc, limits, &mut input) {
+        Err(fault) => Err(placed(bytes.len(), fault)),
+        Ok(packet) => {
+            let len = bytes.len().saturating_sub(input.len());
+            if len < bytes.len() {
+                return Err(WireFault::Extra { at: len as u64 });
+            }
+            Ok(packet)
+        }
     }
-    Ok(packet)
 }
 
 /// The packet that the bytes spell.
@@ -106,5 +119,5 @@ pub fn decode(alloc: Global, bytes: &[u8], limits: &Limits) -> Result<Packet, Wi
     // Which fault it is.
     ensures exact { result ≡ decoded limits.now bytes.now }
 {
-    without_rest(bytes.len(), decode_front(alloc, bytes, limits))
+    decode_whole(alloc, bytes, *limits)
 }

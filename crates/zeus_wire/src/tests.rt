@@ -4,19 +4,22 @@ ghost use Rattle.zeus_wire.specs.Ranges.{AreLimits};
 use super::*;
 use std::alloc::Global;
 use std::test::Fail;
-use zeus_packet::{Body, Letter, Limits, NodeId, NodeSet, ObjId, Packet, RInv, SlotId, Stream, Value, Want, Write, Writes, fits};
 use zeus_base::Text;
+use zeus_packet::{
+    Body, Letter, Limits, NodeId, NodeSet, ObjId, Packet, RInv, SlotId, Stream, Value, Want, Write,
+    Writes, fits,
+};
 
 // The first entry of node 0's slot: it makes 8 of object 0, and node 1 follows.
 const ENTRY: [u8; 42] = [
-    1, 0, 0, 0, 0, 0, 1, 0, 0, 0, 1, 1, 0, 0, 0, 0, 0, 0, 0, 0, 0, 0, 2, 1, 0, 0, 0, 0, 0, 0, 0, 0, 0, 1, 0, 0, 0, 0, 0, 0, 0,
-    8,
+    1, 0, 0, 0, 0, 0, 1, 0, 0, 0, 1, 1, 0, 0, 0, 0, 0, 0, 0, 0, 0, 0, 2, 1, 0, 0, 0, 0, 0, 0, 0, 0,
+    0, 1, 0, 0, 0, 0, 0, 0, 0, 8,
 ];
 
 // The same of the text `busy`, in version 2.
 const TEXT_ENTRY: [u8; 39] = [
-    2, 0, 0, 0, 0, 0, 1, 0, 0, 0, 1, 1, 0, 0, 0, 0, 0, 0, 0, 0, 0, 0, 2, 1, 0, 0, 0, 0, 0, 0, 0, 0, 0, 1, 4, 0x62, 0x75, 0x73,
-    0x79,
+    2, 0, 0, 0, 0, 0, 1, 0, 0, 0, 1, 1, 0, 0, 0, 0, 0, 0, 0, 0, 0, 0, 2, 1, 0, 0, 0, 0, 0, 0, 0, 0,
+    0, 1, 4, 0x62, 0x75, 0x73, 0x79,
 ];
 
 fn limits(version: u8) -> Limits
@@ -98,10 +101,16 @@ fn changed(alloc: Global, place: usize, bytes: &[u8]) -> Option<WireFault> {
 #[test]
 fn spells_an_entry(rt: HostRuntime) -> Result<(), Fail> {
     let packet = entry(rt.alloc(), Value::Num(8));
-    assert_eq!(rt; written(rt.alloc(), &packet, 1)?.as_slice(), ENTRY.as_slice());
+    assert_eq!(rt;
+        written(rt.alloc(), &packet, 1)?.as_slice(),
+        ENTRY.as_slice()
+    );
     let text = Text::new(b"busy").expect(&rt, "a text");
     let packet = entry(rt.alloc(), Value::Text(text));
-    assert_eq!(rt; written(rt.alloc(), &packet, 2)?.as_slice(), TEXT_ENTRY.as_slice());
+    assert_eq!(rt;
+        written(rt.alloc(), &packet, 2)?.as_slice(),
+        TEXT_ENTRY.as_slice()
+    );
     Ok(())
 }
 
@@ -124,7 +133,10 @@ fn each_front_is_short_at_its_length(rt: HostRuntime) {
 fn bytes_behind_the_packet_are_extra(rt: HostRuntime) -> Result<(), Fail> {
     let mut bytes = Vec::from_slice(rt.alloc(), &ENTRY)?;
     bytes.push(0)?;
-    assert_eq!(rt; fault(rt.alloc(), &bytes), Some(WireFault::Extra { at: 42 }));
+    assert_eq!(rt;
+        fault(rt.alloc(), &bytes),
+        Some(WireFault::Extra { at: 42 })
+    );
     Ok(())
 }
 
@@ -202,7 +214,10 @@ fn each_wish_has_its_tag(rt: HostRuntime) -> Result<(), Fail> {
         };
         assert_eq!(rt; kind, place / 3);
         assert!(rt; want == wanted, "{place}");
-        assert_eq!(rt; written(rt.alloc(), &packet, 1)?.as_slice(), bytes.as_slice());
+        assert_eq!(rt;
+            written(rt.alloc(), &packet, 1)?.as_slice(),
+            bytes.as_slice()
+        );
     }
     Ok(())
 }
@@ -268,7 +283,10 @@ fn an_object_twice_is_a_fault_at_its_second_place(rt: HostRuntime) -> Result<(),
         }
     }
     let wanted = WireFault::BadField { at: 42 };
-    assert_eq!(rt; decode(rt.alloc(), &bytes, &eight_objects(1)).err(), Some(wanted));
+    assert_eq!(rt;
+        decode(rt.alloc(), &bytes, &eight_objects(1)).err(),
+        Some(wanted)
+    );
     Ok(())
 }
 

@@ -4,7 +4,9 @@ ghost use Rattle.zeus_wire.specs.Ranges.{AreLimits};
 ghost use Rattle.zeus_wire.specs.Reading.{IsRead, body_at, body_behind, cause_at, cause_behind, held_at, inv_at, kept_at, not_valid_at, oack_at, oinv_at, onack_at, oreq_at, oval_at, plain_cause, proposed_at, rack_at, rinv_at, rval_at, state_at, state_of};
 
 use crate::fault::Fault;
-use crate::reading::fields::{read_object, read_place, read_proposal, read_set, read_slot, read_stamp, read_stream, read_want};
+use crate::reading::fields::{
+    read_object, read_place, read_proposal, read_set, read_slot, read_stamp, read_stream, read_want,
+};
 use crate::reading::input::Input;
 use crate::reading::values::{read_content, read_writes};
 use std::alloc::Global;

@@ -110,7 +110,11 @@ fn has_leaver(leaver: Option<NodeId>, nodes: NodeSet) -> bool
 
 /// A placement, whose owner does not leave, and which has the node that leaves, if one does.
 #[tactic(auto, unfolding(crate::specs::Reading::place_at, crate::specs::Reading::and_then))]
-pub fn read_place(limits: Limits, leaver: Option<NodeId>, input: &mut Input<'_>) -> Result<Place, Fault>
+pub fn read_place(
+    limits: Limits,
+    leaver: Option<NodeId>,
+    input: &mut Input<'_>,
+) -> Result<Place, Fault>
     requires { AreLimits limits }
     ensures { IsRead result input.new (place_at limits leaver input.old) }
 {

@@ -75,7 +75,12 @@ fn read_write(limits: Limits, before: &[Write], input: &mut Input<'_>) -> Result
     Ok(Write { obj, ver, value })
 }
 
-pub fn read_writes(alloc: Global, limits: Limits, count: u8, input: &mut Input<'_>) -> Result<Writes, Fault>
+pub fn read_writes(
+    alloc: Global,
+    limits: Limits,
+    count: u8,
+    input: &mut Input<'_>,
+) -> Result<Writes, Fault>
     requires limits { AreLimits limits }
     requires few { count ≤ 8 }
     ensures { IsRead result input.new (writes_at limits count [] input.old) }

@@ -4,7 +4,10 @@ ghost use Rattle.zeus_packet.specs.Fits.{body_fits, content_fits, inv_fits};
 ghost use Rattle.zeus_wire.specs.Ranges.{IsBody, IsCause, IsInv, largest, longest, longest_value, room};
 ghost use Rattle.zeus_model.specs.PacketSpelling.{body_bytes, cause_bytes, inv_bytes, state_byte, stream_bytes, u32_bytes, wish_bytes, wish_tag};
 
-use crate::writing::fields::{write_place, write_proposal, write_set, write_stamp, write_stream, write_u16, write_u32, write_u8};
+use crate::writing::fields::{
+    write_place, write_proposal, write_set, write_stamp, write_stream, write_u8, write_u16,
+    write_u32,
+};
 use crate::writing::values::{write_content, write_writes};
 use zeus_packet::{Body, Cause, Content, ObjId, Place, Proposal, RInv, Stamp, State, Stream, Want};
 

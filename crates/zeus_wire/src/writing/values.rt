@@ -5,7 +5,7 @@ ghost use Rattle.zeus_packet.specs.Fits.{content_fits, value_fits, write_fits};
 ghost use Rattle.zeus_wire.specs.Ranges.{AreWrites, IsContent, IsValue, IsWrite, largest, longest_value, longest_writes, room};
 ghost use Rattle.zeus_model.specs.PacketSpelling.{content_bytes, value_bytes, write_bytes as spelled, writes_bytes};
 
-use crate::writing::fields::{write_bytes, write_u16, write_u64, write_u8};
+use crate::writing::fields::{write_bytes, write_u8, write_u16, write_u64};
 use zeus_base::Text;
 use zeus_packet::{Content, Value, Write};
 

@@ -1,4 +1,4 @@
-use Rattle.std.proofs.Common.{◌≡◌, ℕ, ◌<◌, ◌≤◌, List, [], length, arith}
+use Rattle.std.proofs.Common.{◌≡◌, ◌≤◌, List, [], arith}
 use Rattle.std.specs.Prelude.{replicate}
 use Rattle.zeus_base.specs.Tables.{nth}
 use Rattle.lossy_fabric.specs.Links.{HasRoom, IsLink, LinkState, no_link, room}

@@ -1,4 +1,4 @@
-use Rattle.std.proofs.Common.{◌≡◌, ◌<◌, ◌≤◌, length, arith}
+use Rattle.std.proofs.Common.{◌≡◌, ◌<◌, length, arith}
 use Rattle.lossy_fabric.specs.Links.{link_room}
 use Rattle.lossy_fabric.proofs.Runs.{pushed_at, pushed_letters, length-letters_at}
 use Rattle.lossy_fabric.proofs.Rooms.{starts_room, starts_fit, bytes_room, pushed_room}

@@ -1,6 +1,5 @@
 use Rattle.std.proofs.Common.{drop, ◌+◌, arith, refl}
-use Rattle.zeus_wire.specs.Ranges.{AreWrites}
-use Rattle.zeus_wire.proofs.Room.{Remains, at_write, at_end, first_fits, first_room, first_done, all_done}
+use Rattle.zeus_wire.proofs.Room.{at_write, at_end, first_fits, first_room, first_done, all_done}
 use Rattle.zeus_wire.proofs.writing.values.write_writes.Goals as goal
 
 pub write_write-requires-clause-fits : goal.write_write-requires-clause-fits
