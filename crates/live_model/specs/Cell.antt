@@ -156,6 +156,10 @@ DeedFits c txs Ticked = Unit {0}
 DeedFits c txs Halted = Unit {0}
 DeedFits c txs (Saw v) = 1 ≤ v.epoch
 
+unfoldable pub DeedsFit : Config → List TxDecl → List CellEvent → Type 0
+DeedsFit c txs [] = Unit {0}
+DeedsFit c txs (e ∷ es) = DeedFits c txs e.deed × DeedsFit c txs es
+
 -- a node that is killed at its event of this number, counted from 0
 pub record Kill : Type 0 where
   pub node : ℕ

@@ -1,11 +1,11 @@
 -- A whole cluster as its cells, clients and service see it, each by its own ends of the rings; and what the rings say where they meet.
-use Rattle.std.specs.Prelude.{ℕ, ◌≡◌, ◌<◌, ◌≤◌, List, [], ◌∷◌, ◌++◌, length, map, Option, All}
+use Rattle.std.specs.Prelude.{ℕ, ◌≡◌, ◌<◌, ◌≤◌, List, [], ◌∷◌, ◌++◌, length, map, Option}
 use Rattle.zeus_base.specs.declared.config.Config.{Config}
 use Rattle.zeus_txn.specs.declared.tx.TxDecl.{TxDecl}
 use Rattle.live_model.specs.Items.{Stamped, Job, Answered, Note, Sight}
-use Rattle.live_model.specs.Cell.{CellEvent, Core, Entry, Kill, entry, core, start_core, AreClocks, BeginFresh, HaltsOnly, DeedFits, takes, jobs, sights_seen, sends, travelling, halts}
+use Rattle.live_model.specs.Cell.{CellEvent, Core, Entry, Kill, entry, core, start_core, AreClocks, BeginFresh, HaltsOnly, DeedsFit, takes, jobs, sights_seen, sends, travelling, halts}
 use Rattle.live_model.specs.Ends.{ClientId, answers, notes}
-use Rattle.live_model.specs.Service.{ServiceEvent, service_entry, AreServiceClocks, AreViews, halts_taken, sights, start_views, views_made}
+use Rattle.live_model.specs.Service.{ServiceEvent, service_entry, AreServiceClocks, AreViews, HaltsFit, halts_taken, sights, start_views, views_made}
 use Rattle.live_model.specs.Client.{ClientView, IsClient}
 
 -- what a live run is started with
@@ -49,7 +49,7 @@ pub record IsCell (p : Plan) (me : ℕ) (es : List CellEvent) (v : CellView) : T
   pub journal : v.journal ≡ map (entry me) es
   pub few : length es ≤ 5000000
   pub clocks : AreClocks 0 es
-  pub fit : All (λ e. DeedFits p.config p.txs e.deed) es
+  pub fit : DeedsFit p.config p.txs es
   pub begins : BeginFresh me p.config p.txs (start_core me p.config p.txs) es
   pub halting : HaltsOnly p.kill me 0 es
   -- what was taken is what the events say, no more and no less
@@ -77,7 +77,7 @@ pub record IsService (p : Plan) (es : List ServiceEvent) (v : ServiceView) : Typ
   pub journal : v.journal ≡ map service_entry es
   pub views : v.views ≡ views_made p.config es
   pub clocks : AreServiceClocks 0 es
-  pub fit : All (λ e. e.node < p.config.nodes) es
+  pub fit : HaltsFit p.config es
   pub made : AreViews (start_views p.config) es
   pub halts : (n : ℕ) → v.halts n ≡ halts_taken n es
   pub sights : (n : ℕ) → v.sights n ≡ sights n p.config es

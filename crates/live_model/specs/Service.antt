@@ -53,6 +53,11 @@ unfoldable pub AreViews : List (List ℕ) → List ServiceEvent → Type 0
 AreViews views [] = Unit {0}
 AreViews views (e ∷ es) = (e.members ≡ without e.node (last_view views)) × AreViews (viewed views e.members) es
 
+-- the stops are those of nodes that there are
+unfoldable pub HaltsFit : Config → List ServiceEvent → Type 0
+HaltsFit c [] = Unit {0}
+HaltsFit c (e ∷ es) = (e.node < c.nodes) × HaltsFit c es
+
 -- the clocks of the stops that it took from a node
 unfoldable pub halts_taken : ℕ → List ServiceEvent → List ℕ
 halts_taken n [] = []

@@ -1,0 +1,6 @@
+pub mod GreatClock
+pub mod KilledNode
+pub mod LostPacket
+pub mod Opened
+pub mod Whole
+pub mod WriteHereReadThere
