@@ -98,7 +98,7 @@ cell-change txs me bs qs i r a same =
 
 -- ---- the transaction of an entry
 
-tx_from-same : (s : Stream) (number first : ℕ) (rs qs : List TxRecord) → ((i : ℕ) → is_entry s number (nth no_record rs i).entry ≡ is_entry s number (nth no_record qs i).entry)
+pub tx_from-same : (s : Stream) (number first : ℕ) (rs qs : List TxRecord) → ((i : ℕ) → is_entry s number (nth no_record rs i).entry ≡ is_entry s number (nth no_record qs i).entry)
     → tx_from s number first rs ≡ tx_from s number first qs
 unfolding tx_from nth is_entry
 tx_from-same s number first [] [] h = refl
@@ -106,7 +106,7 @@ tx_from-same s number first [] (q ∷ qs) h = rw (sym (h 0)) (tx_from-same s num
 tx_from-same s number first (r ∷ rs) [] h = rw (h 0) (tx_from-same s number (suc first) rs [] (λ i. h (suc i)))
 tx_from-same s number first (r ∷ rs) (q ∷ qs) h = rw (h 0, tx_from-same s number (suc first) rs qs (λ i. h (suc i))) refl
 
-tx_from-none : (s : Stream) (number first : ℕ) (rs : List TxRecord) → ((i : ℕ) → is_entry s number (nth no_record rs i).entry ≡ false) → tx_from s number first rs ≡ None
+pub tx_from-none : (s : Stream) (number first : ℕ) (rs : List TxRecord) → ((i : ℕ) → is_entry s number (nth no_record rs i).entry ≡ false) → tx_from s number first rs ≡ None
 unfolding tx_from nth
 tx_from-none s number first [] h = refl
 tx_from-none s number first (r ∷ rs) h = rw (h 0) (tx_from-none s number (suc first) rs (λ i. h (suc i)))
@@ -124,13 +124,13 @@ found_in true s number first r rs id is later h = let same : first ≡ id = cc i
 found_in false s number first r rs id is later h =
     let f = later h in let at = f.at in record { place = suc f.place; at = omega arith; is = f.is }
 
-tx_from-found : (s : Stream) (number first : ℕ) (rs : List TxRecord) (id : ℕ) → tx_from s number first rs ≡ Some id → IsFound s number first rs id
+pub tx_from-found : (s : Stream) (number first : ℕ) (rs : List TxRecord) (id : ℕ) → tx_from s number first rs ≡ Some id → IsFound s number first rs id
 unfolding tx_from
 tx_from-found s number first [] id h = absurd cc
 tx_from-found s number first (r ∷ rs) id h = found_in (is_entry s number r.entry) s number first r rs id refl (tx_from-found s number (suc first) rs id) h
 
 -- an entry's stream
-is_entry-node : (s : Stream) (number : ℕ) (e : Option EntryId) → is_entry s number e ≡ true → (x : EntryId) × (e ≡ Some x) × (x.stream.node ≡ s.node)
+pub is_entry-node : (s : Stream) (number : ℕ) (e : Option EntryId) → is_entry s number e ≡ true → (x : EntryId) × (e ≡ Some x) × (x.stream.node ≡ s.node)
 unfolding is_entry same_stream
 is_entry-node s number None h = absurd cc
 is_entry-node s number (Some x) h = (x, refl, grind (arith, eqb-true x.stream.node s.node))
