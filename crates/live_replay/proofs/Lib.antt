@@ -1,6 +1,8 @@
+pub mod Acks
 pub mod Acts
 pub mod BookSteps
 pub mod Books
+pub mod Early
 pub mod Merging
 pub mod Posting
 pub mod Senders
