@@ -4,6 +4,8 @@ pub mod BookSteps
 pub mod Books
 pub mod Early
 pub mod Merging
+pub mod Mirrors
 pub mod Posting
+pub mod Reached
 pub mod Senders
 pub mod Tries

@@ -6,13 +6,10 @@ use Rattle.std.proofs.lemmas.Bool.{cond_both, ltb-true, ltb-false}
 use Rattle.zeus_model.specs.In.{In, here, there}
 use Rattle.machine_moves.specs.Scene.{all_of}
 use Rattle.machine_moves.proofs.Lists.{In-nothing, In-append, In-append_left, In-append_right}
+use Rattle.live_replay.specs.Parts.{part}
 use Rattle.live_model.specs.Merge.{Pick, behind_empty, earlier, pick, first_in, rest_in, merge_of, merge, count_all}
 
 -- ---- what a function finds in a list
-
-unfoldable pub part : {A B : Type 0} → (A → List B) → List A → List B
-part f [] = []
-part f (x ∷ xs) = f x ++ part f xs
 
 pub part-append : {A B : Type 0} (f : A → List B) (xs ys : List A) → part f (xs ++ ys) ≡ part f xs ++ part f ys
 unfolding part
