@@ -2,10 +2,13 @@ pub mod Acks
 pub mod Acts
 pub mod BookSteps
 pub mod Books
+pub mod Causes
 pub mod Early
 pub mod Merging
 pub mod Mirrors
 pub mod Posting
 pub mod Reached
+pub mod Replay
 pub mod Senders
+pub mod Serving
 pub mod Tries

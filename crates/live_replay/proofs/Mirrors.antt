@@ -50,7 +50,7 @@ pub record Mirrors (c : Config) (txs : List TxDecl) (past : List Turn) (w : Worl
 
 -- ---- one more event of a node
 
-part-one : {A B : Type 0} (f : A → List B) (xs : List A) (x : A) → part f (xs ++ x ∷ []) ≡ part f xs ++ f x
+pub part-one : {A B : Type 0} (f : A → List B) (xs : List A) (x : A) → part f (xs ++ x ∷ []) ≡ part f xs ++ f x
 unfolding part
 part-one {B = B} f xs x = part-append f xs (x ∷ []) ∙ ap (λ (ys : List B). part f xs ++ ys) (append-nil (f x))
 
