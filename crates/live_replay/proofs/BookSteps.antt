@@ -14,7 +14,7 @@ use Rattle.zeus_model.specs.Tables.{nth, put, numbers_from}
 use Rattle.zeus_model.specs.Book.{Book, BookChange, EntryId, TxRecord, no_record, record_of, unchanged, changed, change_then, is_entry, tx_of, point_once, ack_once, pass_tx, pass_numbers, book_passes, book_tried, book_begin, book_point, book_ack, book_commit, book_reply, book_read, book_refuse}
 use Rattle.zeus_model.specs.World.{book_begun}
 use Rattle.live_model.specs.Cell.{declared}
-use Rattle.live_replay.proofs.Books.{SameStory, same-refl, EntryOf, Agree, both-change, world-change, cell-change, tx_from-same, tx_from-none, IsFound, tx_from-found, is_entry-node}
+use Rattle.live_replay.proofs.Books.{EntryOf, Agree, both-change, world-change, cell-change, tx_from-same, tx_from-none, IsFound, tx_from-found, is_entry-node}
 
 -- the books of the world and of the cell of this node agree
 abbrev pub Agrees : List TxDecl → ℕ → Book → Book → Type 0

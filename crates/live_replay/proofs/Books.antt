@@ -16,14 +16,7 @@ use Rattle.zeus_model.specs.Book.{Book, BookChange, EntryId, TxRecord, no_record
 use Rattle.zeus_model.specs.World.{book_begun}
 use Rattle.machine_moves.proofs.Lists.{In-nothing, In-append, nth-put_same, nth-put_other}
 use Rattle.live_model.specs.Cell.{declared}
-
--- two records of one transaction, which may differ in its point and in the numbers of steps
-pub record SameStory (r q : TxRecord) : Type 0 where
-  pub begun : is_some r.begun ≡ is_some q.begun
-  pub entry : r.entry ≡ q.entry
-  pub reply : r.reply ≡ q.reply
-  pub acked : is_some r.acked ≡ is_some q.acked
-  pub refused : r.refused ≡ q.refused
+use Rattle.live_replay.specs.Replayed.{SameStory}
 
 pub same-refl : (r : TxRecord) → SameStory r r
 same-refl r = record { begun = refl; entry = refl; reply = refl; acked = refl; refused = refl }

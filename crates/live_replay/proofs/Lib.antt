@@ -6,9 +6,11 @@ pub mod Causes
 pub mod Early
 pub mod Merging
 pub mod Mirrors
+pub mod Orders
 pub mod Posting
 pub mod Reached
 pub mod Replay
 pub mod Senders
 pub mod Serving
 pub mod Tries
+pub mod Turns

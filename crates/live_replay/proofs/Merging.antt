@@ -7,6 +7,7 @@ use Rattle.zeus_model.specs.In.{In, here, there}
 use Rattle.machine_moves.specs.Scene.{all_of}
 use Rattle.machine_moves.proofs.Lists.{In-nothing, In-append, In-append_left, In-append_right}
 use Rattle.live_replay.specs.Parts.{part}
+use Rattle.live_replay.specs.Replayed.{Rises}
 use Rattle.live_model.specs.Merge.{Pick, behind_empty, earlier, pick, first_in, rest_in, merge_of, merge, count_all}
 
 -- ---- what a function finds in a list
@@ -35,10 +36,6 @@ silent-apart f [] h = tt
 silent-apart f (l ∷ ls) h = inr (λ x is. h x (In-append_right x l (all_of ls) is))
 
 -- ---- rising clocks
-
-unfoldable pub Rises : {A : Type 0} → (A → ℕ) → List A → Type 0
-Rises clock [] = Unit {0}
-Rises {A} clock (x ∷ xs) = ((y : A) → In y xs → clock x ≤ clock y) × Rises clock xs
 
 unfoldable pub EachRises : {A : Type 0} → (A → ℕ) → List (List A) → Type 0
 EachRises clock [] = Unit {0}

@@ -25,6 +25,7 @@ use Rattle.live_model.specs.Cell.{CellEvent, Core, Deed, step_of, does, notes_do
 use Rattle.live_model.specs.Service.{ServiceEvent, made, viewed, views_from, views_made, start_views}
 use Rattle.live_model.specs.Merge.{Turn, cell_turn, service_turn, entry_of, turn_step}
 use Rattle.live_replay.specs.Parts.{part, of_cell, of_service, cell_part, service_part}
+use Rattle.live_replay.specs.Replayed.{core_of}
 use Rattle.live_replay.proofs.Acts.{acts, Finds, happens-acts, NamesOwn, notes_down-both, notes_down-other, does-own}
 use Rattle.live_replay.proofs.BookSteps.{Agrees, AgreeAfter}
 use Rattle.live_replay.proofs.Early.{core_from-append}
@@ -32,9 +33,6 @@ use Rattle.live_replay.proofs.Merging.{part-append}
 use Rattle.live_replay.proofs.Posting.{letters, letters-append, all_posted-own, all_posted-other, posts_from-append}
 use Rattle.live_replay.proofs.Reached.{step-reached}
 use Rattle.live_replay.proofs.Senders.{AllFrom, IsOwn}
-
-abbrev pub core_of : Config → List TxDecl → ℕ → List Turn → Core
-core_of c txs n ts = core n c txs (cell_part n ts)
 
 -- the world is what the events so far have made of it
 pub record Mirrors (c : Config) (txs : List TxDecl) (past : List Turn) (w : World) : Type 0 where

@@ -30,8 +30,10 @@ use Rattle.live_replay.specs.Parts.{part, of_cell, of_service, cell_part, servic
 use Rattle.live_replay.proofs.Acts.{Finds, NamesOwn, acts, happens-acts}
 use Rattle.live_replay.proofs.Causes.{In-middle, clock-above, service_clock-above, fits-at, fresh-at, views-at, halts-fit-at, packet-sent, view-sent, stop-made, WasNoted, after-noted}
 use Rattle.live_replay.proofs.Early.{noted-early, halted-early, NoneServedBefore, HasView, seen-early}
-use Rattle.live_replay.proofs.Merging.{Rises, part-append}
-use Rattle.live_replay.proofs.Mirrors.{Mirrors, core_of, CellStep, cell-mirrors}
+use Rattle.live_replay.specs.Replayed.{Rises}
+use Rattle.live_replay.proofs.Merging.{part-append}
+use Rattle.live_replay.specs.Replayed.{core_of}
+use Rattle.live_replay.proofs.Mirrors.{Mirrors, CellStep, cell-mirrors}
 use Rattle.live_replay.proofs.Posting.{NoneBefore, letters, numbered-early, posts_from-append, posts_from-late}
 use Rattle.live_replay.proofs.Reached.{reached-current}
 use Rattle.live_replay.proofs.Serving.{ServiceStep, service-mirrors, start-mirrors}
@@ -101,7 +103,7 @@ own-part me e future = rw (eq_same me) refl
     eq_same : (n : ℕ) → (n == n) ≡ true
     eq_same n = Rattle.std.proofs.Common.eq-eqb n n refl
 
-served-part : (e : ServiceEvent) (future : List Turn) → service_part (service_turn e ∷ future) ≡ e ∷ service_part future
+pub served-part : (e : ServiceEvent) (future : List Turn) → service_part (service_turn e ∷ future) ≡ e ∷ service_part future
 unfolding part of_service
 served-part e future = refl
 
@@ -137,7 +139,7 @@ waits-none None w h = refl
 waits-none (Some i) w h = where_false (is_none (record_of w.book i).acked) (Waits i) (not_none (record_of w.book i).acked h)
 
 -- an acknowledgement that was noted before the turn stands in the world
-noted-acked : (p : Plan) (es : Events) (past : List Turn) (t : Turn) (future : List Turn) (w : World) (j : Job) (i : ℕ) → Mirrors p.config p.txs past w → IsAt p.config es past t future
+pub noted-acked : (p : Plan) (es : Events) (past : List Turn) (t : Turn) (future : List Turn) (w : World) (j : Job) (i : ℕ) → Mirrors p.config p.txs past w → IsAt p.config es past t future
     → j.seen < turn_clock t → WasNoted p es j i → is_some (record_of w.book i).acked ≡ true
 noted-acked p es past t future w j i m at less noted =
     let n = (declared p.txs i).node in
@@ -165,20 +167,20 @@ at-split : (p : Plan) (k : Cluster) (es : Events) (past : List Turn) (me : ℕ) 
 at-split p k es past me e future w a =
     let at = a.at in at.cells me a.there ∙ ap (λ (zs : List CellEvent). cell_part me past ++ zs) (own-part me e future)
 
-at-stamp : (p : Plan) (k : Cluster) (es : Events) (past : List Turn) (me : ℕ) (e : CellEvent) (future : List Turn) (w : World) → AtCell p k es past me e future w → stamp e.deed < e.clock
+pub at-stamp : (p : Plan) (k : Cluster) (es : Events) (past : List Turn) (me : ℕ) (e : CellEvent) (future : List Turn) (w : World) → AtCell p k es past me e future w → stamp e.deed < e.clock
 at-stamp p k es past me e future w a =
     let h = a.cluster in
     let cell = h.cells me a.there in
     clock-above 0 (cell_part me past) (cell_part me future) e (subst (λ (zs : List CellEvent). AreClocks 0 zs) (at-split p k es past me e future w a) cell.clocks)
 
-at-fits : (p : Plan) (k : Cluster) (es : Events) (past : List Turn) (me : ℕ) (e : CellEvent) (future : List Turn) (w : World) → AtCell p k es past me e future w → DeedFits p.config p.txs e.deed
+pub at-fits : (p : Plan) (k : Cluster) (es : Events) (past : List Turn) (me : ℕ) (e : CellEvent) (future : List Turn) (w : World) → AtCell p k es past me e future w → DeedFits p.config p.txs e.deed
 at-fits p k es past me e future w a =
     let h = a.cluster in
     let cell = h.cells me a.there in
     fits-at p.config p.txs (cell_part me past) (cell_part me future) e
     (subst (λ (zs : List CellEvent). Rattle.live_model.specs.Cell.DeedsFit p.config p.txs zs) (at-split p k es past me e future w a) cell.fit)
 
-at-fresh : (p : Plan) (k : Cluster) (es : Events) (past : List Turn) (me : ℕ) (e : CellEvent) (future : List Turn) (w : World) → AtCell p k es past me e future w
+pub at-fresh : (p : Plan) (k : Cluster) (es : Events) (past : List Turn) (me : ℕ) (e : CellEvent) (future : List Turn) (w : World) → AtCell p k es past me e future w
     → BeginsFresh me p.txs (core_of p.config p.txs me past) e.deed
 at-fresh p k es past me e future w a =
     let h = a.cluster in
@@ -186,7 +188,7 @@ at-fresh p k es past me e future w a =
     fresh-at me p.config p.txs (start_core me p.config p.txs) (cell_part me past) (cell_part me future) e
     (subst (λ (zs : List CellEvent). Rattle.live_model.specs.Cell.BeginFresh me p.config p.txs (start_core me p.config p.txs) zs) (at-split p k es past me e future w a) cell.begins)
 
-finds-begin : (p : Plan) (k : Cluster) (es : Events) (past : List Turn) (me : ℕ) (e : CellEvent) (future : List Turn) (w : World) (j : Job) → AtCell p k es past me e future w
+pub finds-begin : (p : Plan) (k : Cluster) (es : Events) (past : List Turn) (me : ℕ) (e : CellEvent) (future : List Turn) (w : World) (j : Job) → AtCell p k es past me e future w
     → e.deed ≡ Began j → IsFresh me p.txs (core_of p.config p.txs me past) j → j.tx < length p.txs → j.seen < e.clock → begin_refused w j.tx ≡ None
 unfolding begin_refused entry_of
 finds-begin p k es past me e future w j a began fresh less seen =
@@ -205,7 +207,7 @@ finds-begin p k es past me e future w j a began fresh less seen =
     three_none _ _ _ (where_false _ Twice unbegun) (where_false _ (BeginAnswer Stopped) running)
     (waits-none (declared w.txs j.tx).after w (subst (λ (ts : List TxDecl). IfSome (declared ts j.tx).after (λ i. is_some (record_of w.book i).acked ≡ true)) (sym m.declared) acked))
 
-finds-packet : (p : Plan) (k : Cluster) (es : Events) (past : List Turn) (me : ℕ) (e : CellEvent) (future : List Turn) (w : World) (sender : ℕ) (q : Stamped) → AtCell p k es past me e future w
+pub finds-packet : (p : Plan) (k : Cluster) (es : Events) (past : List Turn) (me : ℕ) (e : CellEvent) (future : List Turn) (w : World) (sender : ℕ) (q : Stamped) → AtCell p k es past me e future w
     → e.deed ≡ Took sender q → sender < p.config.nodes → q.clock < e.clock → nth_letter (link w.links sender me) q.number ≡ Some q.letter
 unfolding sends entry_of
 finds-packet p k es past me e future w sender q a took there_sender less =
@@ -222,7 +224,7 @@ finds-packet p k es past me e future w sender q a took there_sender less =
     let place : q.number - 0 ≡ q.number = omega arith in
     rw (m.links sender me there_sender) (rw place at early.1)
 
-finds-view : (p : Plan) (k : Cluster) (es : Events) (past : List Turn) (me : ℕ) (e : CellEvent) (future : List Turn) (w : World) (v : Sight) → AtCell p k es past me e future w
+pub finds-view : (p : Plan) (k : Cluster) (es : Events) (past : List Turn) (me : ℕ) (e : CellEvent) (future : List Turn) (w : World) (v : Sight) → AtCell p k es past me e future w
     → e.deed ≡ Saw v → v.clock < e.clock → HasView w.views v
 unfolding entry_of
 finds-view p k es past me e future w v a saw less =

@@ -30,7 +30,8 @@ use Rattle.live_model.specs.Merge.{Turn, cell_turn, service_turn}
 use Rattle.live_replay.specs.Parts.{part, of_cell, of_service, cell_part, service_part}
 use Rattle.live_replay.proofs.Books.{Agree, same-refl}
 use Rattle.live_replay.proofs.Merging.{part-append}
-use Rattle.live_replay.proofs.Mirrors.{Mirrors, core_of, part-one}
+use Rattle.live_replay.specs.Replayed.{core_of}
+use Rattle.live_replay.proofs.Mirrors.{Mirrors, part-one}
 use Rattle.live_replay.proofs.Posting.{letters}
 use Rattle.live_replay.proofs.Reached.{step-reached}
 
