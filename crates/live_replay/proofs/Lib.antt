@@ -10,6 +10,7 @@ pub mod Orders
 pub mod Posting
 pub mod Reached
 pub mod Replay
+pub mod Results
 pub mod Senders
 pub mod Serving
 pub mod Tries

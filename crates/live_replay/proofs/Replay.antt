@@ -160,10 +160,10 @@ pub record AtCell (p : Plan) (k : Cluster) (es : Events) (past : List Turn) (me 
   pub at : IsAt p.config es past (cell_turn me e) future
   pub mirrors : Mirrors p.config p.txs past w
 
-abbrev Split : Plan → Cluster → Events → List Turn → ℕ → CellEvent → List Turn → World → Type 0
+abbrev pub Split : Plan → Cluster → Events → List Turn → ℕ → CellEvent → List Turn → World → Type 0
 Split p k es past me e future w = AtCell p k es past me e future w → es.cells me ≡ cell_part me past ++ e ∷ cell_part me future
 
-at-split : (p : Plan) (k : Cluster) (es : Events) (past : List Turn) (me : ℕ) (e : CellEvent) (future : List Turn) (w : World) → Split p k es past me e future w
+pub at-split : (p : Plan) (k : Cluster) (es : Events) (past : List Turn) (me : ℕ) (e : CellEvent) (future : List Turn) (w : World) → Split p k es past me e future w
 at-split p k es past me e future w a =
     let at = a.at in at.cells me a.there ∙ ap (λ (zs : List CellEvent). cell_part me past ++ zs) (own-part me e future)
 

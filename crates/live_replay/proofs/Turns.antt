@@ -3,6 +3,7 @@ use Rattle.std.specs.Prelude.{ℕ, zero, suc, ◌≡◌, ◌+◌, ◌-◌, ◌<�
 use Rattle.std.proofs.Common.{arith, refl, sym, ap, ◌∙◌, subst, append_assoc, append-nil}
 use Rattle.std.proofs.lemmas.Bool.{cases_Bool, ltb-true, false_from_ne_true}
 use Rattle.zeus_base.specs.Limits.{KeepsLimits}
+use Rattle.zeus_base.specs.NodeLaws.{RisesFrom-without, IsBelow-without}
 use Rattle.zeus_base.specs.Nodes.{without}
 use Rattle.zeus_base.specs.declared.config.Config.{Config}
 use Rattle.zeus_base.specs.declared.step.Step.{Step}
@@ -133,6 +134,15 @@ pub order-mirrors : (p : Plan) (k : Cluster) (es : Events) (past future : List T
     → IsOrder p.config es (past ++ future) → Mirrors p.config p.txs past (run (start p.config p.txs) (map turn_step past))
 order-mirrors p k es past future keeps fit h o =
     run-mirrors past p k es [] future (start p.config p.txs) h fit o (start-mirrors p.config p.txs keeps fit)
+
+pub turn-fits : (t : Turn) (p : Plan) (k : Cluster) (es : Events) (past future : List Turn) (w : World) → IsCluster p k es → FitTxs p.config 0 p.txs
+    → IsOrder p.config es (past ++ t ∷ future) → Mirrors p.config p.txs past w → StepFits p.config p.txs (turn_step t)
+unfolding entry_of StepFits
+turn-fits (cell_turn me e) p k es past future w h fit o m =
+    let s = cell-step p k es past me e future w (at-cell p k es past me e future w h fit o m) in s.fits
+turn-fits (service_turn e) p k es past future w h fit o m =
+    let s = service-step p k es past e future w h (order-at p.config es past (service_turn e) future o) m in
+    rw (s.members) (RisesFrom-without 0 e.node (last_view w.views) m.last.0, IsBelow-without p.config.nodes e.node (last_view w.views) m.last.1)
 
 pub turn-answer : (t : Turn) (p : Plan) (k : Cluster) (es : Events) (past future : List Turn) (w : World) → IsCluster p k es → FitTxs p.config 0 p.txs
     → IsOrder p.config es (past ++ t ∷ future) → Mirrors p.config p.txs past w → (happens w (turn_step t)).answer ≡ given p past t
