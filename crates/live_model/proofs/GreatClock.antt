@@ -1,6 +1,6 @@
 -- A clock that has reached 2^62: the events go on, and nothing that they send travels.
-use Rattle.std.specs.Prelude.{ℕ, ◌≡◌, ◌+◌, ◌-◌, ◌^◌, List, [], ◌∷◌, length, None}
-use Rattle.std.proofs.Common.{refl, arith}
+use Rattle.std.specs.Prelude.{◌≡◌, ◌+◌, ◌-◌, ◌^◌, List, [], ◌∷◌, length}
+use Rattle.std.proofs.Common.{refl}
 use Rattle.worked_runs.proofs.Machine.{machine}
 use Rattle.live_model.specs.Cell.{CellEvent, Began, Tried, AreClocks, sends, travelling}
 use Rattle.live_model.proofs.Opened.{live}

@@ -2,12 +2,11 @@
 use Rattle.std.specs.Prelude.{ℕ, zero, suc, ◌≡◌, List, [], ◌∷◌, Some}
 use Rattle.std.proofs.Common.{refl, arith}
 use Rattle.zeus_base.specs.declared.step.Step.TheVariants.{Stop, View, Install}
-use Rattle.zeus_model.specs.declared.answer.Answer.{Answer}
 use Rattle.zeus_model.specs.declared.answer.Answer.TheVariants.{Install as InstallAnswer}
 use Rattle.zeus_model.specs.declared.answer.Install.TheVariants.{Installed}
 use Rattle.worked_runs.proofs.Machine.{machine}
-use Rattle.live_model.specs.Cell.{CellEvent, Halted, Saw, does, start_core, core, sights_seen}
-use Rattle.live_model.specs.Service.{ServiceEvent, AreServiceClocks, AreViews, HaltsFit, sights}
+use Rattle.live_model.specs.Cell.{CellEvent, Halted, Saw, does, core, sights_seen}
+use Rattle.live_model.specs.Service.{ServiceEvent, sights}
 use Rattle.live_model.specs.Cluster.{Plan, Cluster, IsCell, IsService}
 use Rattle.live_model.specs.Client.{ClientView}
 use Rattle.live_model.specs.Ends.{ClientId}

@@ -1,11 +1,11 @@
 -- A packet finds its ring full and is left out; the next one keeps its number, and the merge names that.
 use Rattle.std.specs.Prelude.{ℕ, zero, suc, ◌≡◌, List, [], ◌∷◌, None}
-use Rattle.std.proofs.Common.{refl, arith}
+use Rattle.std.proofs.Common.{refl}
 use Rattle.zeus_base.specs.declared.step.Step.TheVariants.{Begin, Try, Tick, Deliver}
 use Rattle.zeus_model.specs.declared.answer.Answer.TheVariants.{Receive}
 use Rattle.zeus_model.specs.declared.answer.Outcome.TheVariants.{Taken}
 use Rattle.worked_runs.proofs.Machine.{machine}
-use Rattle.live_model.specs.Cell.{CellEvent, Began, Tried, Ticked, Took, core, does, sends, travelling, takes}
+use Rattle.live_model.specs.Cell.{CellEvent, Began, Tried, Ticked, Took, core, does, sends, travelling}
 use Rattle.live_model.specs.Client.{ClientView}
 use Rattle.live_model.specs.Cluster.{Plan, Cluster, IsPart, none, left_out, kept}
 use Rattle.live_model.specs.Ends.{ClientId}

@@ -1,5 +1,5 @@
 -- The cell, the service and the client that keep all that their events give them, with nothing lost.
-use Rattle.std.specs.Prelude.{ℕ, ◌≡◌, ◌≤◌, List, [], ◌∷◌, ◌++◌, length, map}
+use Rattle.std.specs.Prelude.{ℕ, ◌≤◌, List, [], ◌∷◌, length, map}
 use Rattle.std.proofs.Common.{refl, append-nil}
 use Rattle.live_model.specs.Cell.{CellEvent, entry, core, start_core, AreClocks, BeginFresh, HaltsOnly, DeedsFit, takes, jobs, sights_seen, sends, travelling, halts}
 use Rattle.live_model.specs.Ends.{answers, notes}

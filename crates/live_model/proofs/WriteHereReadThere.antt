@@ -1,17 +1,15 @@
 -- A write at node 0 is read at node 1: a cluster of two cells, event by event, and the run that its journals merge to.
-use Rattle.std.specs.Prelude.{ℕ, zero, suc, ◌≡◌, true, List, [], ◌∷◌, length, All, Some, None}
+use Rattle.std.specs.Prelude.{ℕ, zero, suc, ◌≡◌, true, List, [], ◌∷◌, Some, None}
 use Rattle.std.proofs.Common.{refl, arith}
 use Rattle.zeus_base.specs.declared.config.Config.{Config}
-use Rattle.zeus_base.specs.declared.step.Step.{Step}
 use Rattle.zeus_base.specs.declared.step.Step.TheVariants.{Begin, Try, Deliver}
 use Rattle.zeus_base.specs.declared.value.Value.TheVariants.{Num}
 use Rattle.zeus_txn.specs.declared.ops.Op.TheVariants.{Add, Get}
 use Rattle.zeus_txn.specs.declared.tx.TxDecl.{TxDecl}
-use Rattle.zeus_packet.specs.declared.letter.Letter.{Letter}
 use Rattle.zeus_packet.specs.declared.letter.Body.TheVariants.{Recovered}
 use Rattle.zeus_model.specs.Tables.{nth}
 use Rattle.worked_runs.proofs.Machine.{machine}
-use Rattle.live_model.specs.Items.{Stamped, Job, Answered}
+use Rattle.live_model.specs.Items.{Stamped}
 use Rattle.live_model.specs.Cell.{CellEvent, Deed, Began, Tried, Took, jobs, sends}
 use Rattle.zeus_model.specs.Readers.{all_closed}
 use Rattle.zeus_model.specs.World.{run, start}

@@ -2,7 +2,7 @@
 use Rattle.std.specs.Prelude.{ℕ, suc, ◌≡◌, ◌≢◌, ◌<◌, ◌≤◌, max, true, List, [], ◌∷◌, IfSome, ◌⊎◌}
 use Rattle.zeus_txn.specs.declared.tx.TxDecl.{TxDecl}
 use Rattle.zeus_model.specs.In.{In}
-use Rattle.live_model.specs.Items.{Job, Answered, Note, End, Acked}
+use Rattle.live_model.specs.Items.{Job, Answered, Note, Acked}
 use Rattle.live_model.specs.Cell.{declared}
 use Rattle.live_model.specs.Ends.{ClientId, is_of, waits_behind}
 

@@ -1,5 +1,5 @@
 -- What travels between nodes, clients and the membership service, each with the clock of the event that sent it.
-use Rattle.std.specs.Prelude.{ℕ, ◌^◌, ◌<◌, Bool, nat_lt, List, Option}
+use Rattle.std.specs.Prelude.{ℕ, ◌^◌, Bool, nat_lt, List, Option}
 use Rattle.zeus_packet.specs.declared.letter.Letter.{Letter}
 use Rattle.zeus_txn.specs.declared.reply.Reply.{Reply}
 

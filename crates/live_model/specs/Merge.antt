@@ -2,9 +2,8 @@
 use Rattle.std.specs.Prelude.{ℕ, zero, suc, ◌+◌, nat_lt, List, [], ◌∷◌, ◌++◌, length, map, Option, Some, None, if◌then◌else◌}
 use Rattle.zeus_base.specs.declared.config.Config.{Config}
 use Rattle.zeus_base.specs.declared.step.Step.{Step}
-use Rattle.zeus_base.specs.declared.step.Step.TheVariants.{View}
 use Rattle.zeus_model.specs.Tables.{below}
-use Rattle.live_model.specs.Cell.{CellEvent, Entry, entry, step_of}
+use Rattle.live_model.specs.Cell.{CellEvent, Entry, entry}
 use Rattle.live_model.specs.Service.{ServiceEvent, service_entry}
 use Rattle.live_model.specs.Cluster.{Cluster, Events}
 

@@ -1,19 +1,13 @@
 -- A step of the world at a node is what the node's cell does, wherever the step finds what the cell found.
-use Rattle.std.specs.Prelude.{ℕ, ◌≡◌, ◌≢◌, ◌-◌, ◌≤◌, Bool, true, false, nat_lt, List, [], ◌∷◌, length, Option, Some, None}
-use Rattle.std.proofs.Common.{refl, sym, ap, ◌∙◌, subst}
-use Rattle.zeus_base.specs.declared.config.Config.{Config}
-use Rattle.zeus_base.specs.declared.step.Step.TheVariants.{Begin, Try, Deliver, Tick, Stop, Install}
+use Rattle.std.specs.Prelude.{ℕ, ◌≡◌, ◌≢◌, ◌-◌, false, nat_lt, List, [], length, Option, Some, None}
+use Rattle.std.proofs.Common.{refl, sym, ◌∙◌}
 use Rattle.zeus_txn.specs.declared.tx.TxDecl.{TxDecl}
 use Rattle.zeus_packet.specs.declared.letter.Letter.{Letter}
-use Rattle.zeus_model.specs.declared.answer.Answer.{Answer}
-use Rattle.zeus_model.specs.declared.answer.Answer.TheVariants.{Begin as BeginAnswer, NoView}
 use Rattle.zeus_model.specs.Tables.{nth}
 use Rattle.zeus_model.specs.State.{Node}
-use Rattle.zeus_model.specs.Local.{begin, try_slot}
-use Rattle.zeus_model.specs.Membership.{install}
-use Rattle.zeus_model.specs.Receive.{receive}
-use Rattle.zeus_model.specs.Book.{Book, BookChange, book_passes, book_tried, in_stream_order, change_then, changes_joined}
-use Rattle.zeus_model.specs.World.{World, Event, node, tx_decl, link, acted, refuse_step, begin_refused, begin_or_not, begun_at, step_begin, tried_at, nth_letter, received_at, deliver_or_not, ticked_at, stopped_at, installed_at, step_install, happens}
+use Rattle.zeus_model.specs.Local.{try_slot}
+use Rattle.zeus_model.specs.Book.{Book, book_passes, book_tried, in_stream_order}
+use Rattle.zeus_model.specs.World.{World, Event, node, link, acted, begin_refused, begin_or_not, step_begin, tried_at, nth_letter, received_at, deliver_or_not, ticked_at, stopped_at, installed_at, step_install, happens}
 use Rattle.live_model.specs.Cell.{Deed, Began, Tried, Took, Ticked, Halted, Saw, step_of, does, notes_down, declared}
 use Rattle.live_replay.proofs.BookSteps.{Agrees, AgreeAfter, after-then, TriesOwn, book_begun-both, book_begun-other, book_tried-both, book_tried-other, book_passes-both, book_passes-other}
 use Rattle.live_replay.proofs.Senders.{AllFrom, IsOwn, from-take, own-receive, own-try_slot, own-tick, own-install, own-begin, own-stop}

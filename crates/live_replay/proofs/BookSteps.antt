@@ -1,20 +1,20 @@
 -- What each note of the book does to the agreement of world and cell.
-use Rattle.std.specs.Prelude.{ℕ, zero, suc, ◌≡◌, ◌≢◌, ◌+◌, ◌-◌, Bool, true, false, ◌&&◌, ◌==◌, List, [], ◌∷◌, ◌++◌, Option, Some, None, is_some, is_none, if◌then◌else◌, ◌⊎◌}
+use Rattle.std.specs.Prelude.{ℕ, ◌≡◌, ◌≢◌, ◌-◌, Bool, true, false, ◌==◌, List, [], ◌∷◌, Option, Some, None, is_some, is_none, if◌then◌else◌}
 use Rattle.std.proofs.Common.{arith, refl, sym, ap, ◌∙◌, inl, inr, subst, eq-eqb}
-use Rattle.std.proofs.lemmas.Bool.{cases_eq, cond_both, ne_eqb, eqb-true, eqb-false}
+use Rattle.std.proofs.lemmas.Bool.{cases_eq, ne_eqb}
 use Rattle.zeus_base.specs.declared.order.Stream.{Stream}
 use Rattle.zeus_base.specs.declared.step.Passed.{Passed}
 use Rattle.zeus_txn.specs.declared.reply.Reply.{Reply}
 use Rattle.zeus_txn.specs.declared.tx.TxDecl.{TxDecl}
 use Rattle.zeus_model.specs.declared.answer.Begin.{Begin as BeginOutcome}
-use Rattle.zeus_model.specs.declared.answer.Begin.TheVariants.{Begun, Stopped, Busy}
+use Rattle.zeus_model.specs.declared.answer.Begin.TheVariants.{Begun}
 use Rattle.zeus_model.specs.declared.answer.Tried.{Tried}
 use Rattle.zeus_model.specs.declared.answer.Tried.TheVariants.{NoCopy, Read, Committed}
-use Rattle.zeus_model.specs.Tables.{nth, put, numbers_from}
-use Rattle.zeus_model.specs.Book.{Book, BookChange, EntryId, TxRecord, no_record, record_of, unchanged, changed, change_then, is_entry, tx_of, point_once, ack_once, pass_tx, pass_numbers, book_passes, book_tried, book_begin, book_point, book_ack, book_commit, book_reply, book_read, book_refuse}
+use Rattle.zeus_model.specs.Tables.{numbers_from}
+use Rattle.zeus_model.specs.Book.{Book, BookChange, EntryId, record_of, unchanged, changed, change_then, is_entry, tx_of, point_once, ack_once, pass_tx, pass_numbers, book_passes, book_tried, book_point, book_reply, book_read, book_refuse}
 use Rattle.zeus_model.specs.World.{book_begun}
 use Rattle.live_model.specs.Cell.{declared}
-use Rattle.live_replay.proofs.Books.{EntryOf, Agree, both-change, world-change, cell-change, tx_from-same, tx_from-none, IsFound, tx_from-found, is_entry-node}
+use Rattle.live_replay.proofs.Books.{Agree, both-change, world-change, cell-change, tx_from-same, tx_from-none, tx_from-found, is_entry-node}
 
 -- the books of the world and of the cell of this node agree
 abbrev pub Agrees : List TxDecl → ℕ → Book → Book → Type 0

@@ -1,20 +1,13 @@
 -- What a cell's book and the world's book have of the same transactions.
-use Rattle.std.specs.Prelude.{ℕ, zero, suc, ◌≡◌, ◌≢◌, ◌+◌, ◌-◌, Bool, true, false, ◌&&◌, ◌==◌, List, [], ◌∷◌, ◌++◌, Option, Some, None, is_some, is_none, if◌then◌else◌, ◌⊎◌}
+use Rattle.std.specs.Prelude.{ℕ, suc, ◌≡◌, ◌≢◌, ◌+◌, Bool, true, false, List, [], ◌∷◌, Option, Some, None, if◌then◌else◌}
 use Rattle.std.proofs.Common.{arith, refl, sym, ap, ◌∙◌, inl, inr, subst}
-use Rattle.std.proofs.lemmas.Bool.{cases_eq, cond_both, ne_eqb, eqb-true}
+use Rattle.std.proofs.lemmas.Bool.{cases_eq, eqb-true}
 use Rattle.zeus_base.specs.Order.{same_stream}
 use Rattle.zeus_base.specs.declared.order.Stream.{Stream}
-use Rattle.zeus_base.specs.declared.step.Passed.{Passed}
 use Rattle.zeus_txn.specs.declared.tx.TxDecl.{TxDecl}
-use Rattle.zeus_model.specs.declared.answer.Begin.{Begin as BeginOutcome}
-use Rattle.zeus_model.specs.declared.answer.Begin.TheVariants.{Begun, Stopped, Busy}
-use Rattle.zeus_model.specs.declared.answer.Tried.{Tried}
-use Rattle.zeus_model.specs.declared.answer.Tried.TheVariants.{NoCopy, Read, Committed}
-use Rattle.zeus_model.specs.In.{In, here, there}
-use Rattle.zeus_model.specs.Tables.{nth, put, numbers_from}
-use Rattle.zeus_model.specs.Book.{Book, BookChange, EntryId, TxRecord, no_record, record_of, unchanged, change_then, is_entry, tx_from, tx_of, point_once, ack_once, pass_tx, pass_numbers, book_passes, book_tried}
-use Rattle.zeus_model.specs.World.{book_begun}
-use Rattle.machine_moves.proofs.Lists.{In-nothing, In-append, nth-put_same, nth-put_other}
+use Rattle.zeus_model.specs.Tables.{nth, put}
+use Rattle.zeus_model.specs.Book.{EntryId, TxRecord, no_record, is_entry, tx_from}
+use Rattle.machine_moves.proofs.Lists.{nth-put_same, nth-put_other}
 use Rattle.live_model.specs.Cell.{declared}
 use Rattle.live_replay.specs.Replayed.{SameStory}
 

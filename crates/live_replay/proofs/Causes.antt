@@ -1,8 +1,7 @@
 -- What the facts of cells, clients and service, and their rings, say of the cause of each event.
-use Rattle.std.specs.Prelude.{ℕ, zero, suc, ◌≡◌, ◌≢◌, ◌+◌, ◌<◌, ◌≤◌, max, Bool, true, false, ◌==◌, List, [], ◌∷◌, ◌++◌, length, IfSome, Option, Some, None, if◌then◌else◌}
-use Rattle.std.proofs.Common.{arith, refl, sym, ap, ◌∙◌, inl, inr, subst, eq-eqb}
-use Rattle.std.proofs.lemmas.Bool.{cond_both, cases_eq, eqb-true}
-use Rattle.std.proofs.lemmas.Option.{IfSome_then}
+use Rattle.std.specs.Prelude.{ℕ, zero, suc, ◌≡◌, ◌+◌, ◌<◌, ◌≤◌, ◌==◌, List, [], ◌∷◌, ◌++◌, length, IfSome, Option, Some, None}
+use Rattle.std.proofs.Common.{arith, refl, sym, subst, eq-eqb}
+use Rattle.std.proofs.lemmas.Bool.{cond_both}
 use Rattle.zeus_base.specs.Nodes.{without}
 use Rattle.zeus_base.specs.declared.config.Config.{Config}
 use Rattle.zeus_txn.specs.declared.tx.TxDecl.{TxDecl}
@@ -10,9 +9,9 @@ use Rattle.zeus_model.specs.In.{In, here, there}
 use Rattle.zeus_model.specs.Scripts.{FitTxs, FitsTx}
 use Rattle.zeus_model.specs.Tables.{nth}
 use Rattle.zeus_model.specs.World.{last_view, no_tx}
-use Rattle.machine_moves.proofs.Lists.{In-nothing, In-append_left, In-append_right}
+use Rattle.machine_moves.proofs.Lists.{In-append_left, In-append_right}
 use Rattle.live_model.specs.Items.{Stamped, Job, Note, Acked, Sight, travels}
-use Rattle.live_model.specs.Cell.{CellEvent, Core, Deed, Began, Took, Saw, stamp, declared, after, core_from, AreClocks, BeginsFresh, BeginFresh, DeedFits, DeedsFit, taken_from, takes, job_of, jobs, seen_in, sights_seen, sends, travelling, halts}
+use Rattle.live_model.specs.Cell.{CellEvent, Core, Began, Took, Saw, stamp, declared, after, core_from, AreClocks, BeginsFresh, BeginFresh, DeedFits, DeedsFit, taken_from, takes, job_of, jobs, seen_in, sights_seen, sends, travelling, halts}
 use Rattle.live_model.specs.Ends.{ClientId, notes}
 use Rattle.live_model.specs.Service.{ServiceEvent, viewed, views_from, AreServiceClocks, AreViews, HaltsFit, halts_taken, sights}
 use Rattle.live_model.specs.Client.{KnowsAcked}

@@ -1,7 +1,7 @@
 -- What an earlier event has done still stands: notes, stops and views.
-use Rattle.std.specs.Prelude.{ℕ, zero, suc, ◌≡◌, ◌≢◌, ◌+◌, ◌-◌, ◌<◌, ◌≤◌, Bool, true, false, ◌&&◌, nat_lt, List, [], ◌∷◌, ◌++◌, length, Option, Some, None, is_some, is_none, if◌then◌else◌}
-use Rattle.std.proofs.Common.{arith, refl, sym, ap, ◌∙◌, inl, inr, subst, append_assoc, append-nil, length-append}
-use Rattle.std.proofs.lemmas.Bool.{cases_eq, cond_both, ltb-true}
+use Rattle.std.specs.Prelude.{ℕ, ◌≡◌, ◌+◌, ◌-◌, ◌<◌, ◌≤◌, Bool, true, false, ◌&&◌, List, [], ◌∷◌, ◌++◌, length, Option, is_none, if◌then◌else◌}
+use Rattle.std.proofs.Common.{arith, refl, sym, ap, ◌∙◌, inl, inr, subst, length-append}
+use Rattle.std.proofs.lemmas.Bool.{cond_both}
 use Rattle.zeus_base.specs.Nodes.{has}
 use Rattle.zeus_base.specs.declared.config.Config.{Config}
 use Rattle.zeus_txn.specs.declared.tx.TxDecl.{TxDecl}
@@ -13,7 +13,7 @@ use Rattle.zeus_model.specs.In.{In, here, there}
 use Rattle.zeus_model.specs.Tables.{nth, below}
 use Rattle.zeus_model.specs.World.{is_empty}
 use Rattle.machine_moves.proofs.Lists.{In-nothing, In-append, nth-append, nth-last}
-use Rattle.live_model.specs.Items.{Note, End, Acked, Refused, Stopped, Sight, travels}
+use Rattle.live_model.specs.Items.{Note, Acked, Refused, Stopped, Sight, travels}
 use Rattle.live_model.specs.Cell.{CellEvent, Core, Deed, Halted, after, core_from, does, notes_down, is_halt, halt_of, halts}
 use Rattle.live_model.specs.Ends.{ClientId, acked_at, refused_by, refused_at, ends_at, is_awaited, awaited, is_open_at, stopped_at, stops_at, notes_from}
 use Rattle.live_model.specs.Service.{ServiceEvent, viewed, views_from, sight_at, sights_from}

@@ -1,29 +1,19 @@
 -- The world after some events of cells and service is what these know of it.
-use Rattle.std.specs.Prelude.{ℕ, zero, suc, ◌≡◌, ◌≢◌, ◌+◌, ◌-◌, ◌<◌, ◌≤◌, Bool, true, false, ◌&&◌, not, ◌==◌, nat_lt, List, [], ◌∷◌, ◌++◌, length, map, replicate, Option, Some, None, is_some, is_none, if◌then◌else◌}
-use Rattle.std.proofs.Common.{arith, refl, sym, ap, ◌∙◌, inl, inr, subst, append-nil, eq-eqb}
-use Rattle.std.proofs.lemmas.Bool.{cases_eq, cond_both, ne_eqb}
-use Rattle.zeus_base.specs.Limits.{KeepsLimits}
-use Rattle.zeus_base.specs.Nodes.{has, without}
-use Rattle.zeus_base.specs.NodeLaws.{IsRising, IsBelow, RisesFrom-without, IsBelow-without, has-without}
+use Rattle.std.specs.Prelude.{ℕ, ◌≡◌, ◌≢◌, ◌<◌, Bool, List, [], ◌∷◌, ◌++◌, if◌then◌else◌}
+use Rattle.std.proofs.Common.{refl, sym, ap, ◌∙◌, inl, inr, subst, append-nil, eq-eqb}
+use Rattle.std.proofs.lemmas.Bool.{cases_eq, ne_eqb}
+use Rattle.zeus_base.specs.NodeLaws.{IsRising, IsBelow}
 use Rattle.zeus_base.specs.declared.config.Config.{Config}
-use Rattle.zeus_base.specs.declared.step.Step.{Step}
-use Rattle.zeus_base.specs.declared.step.Step.TheVariants.{View}
 use Rattle.zeus_txn.specs.declared.tx.TxDecl.{TxDecl}
 use Rattle.zeus_packet.specs.declared.letter.Letter.{Letter}
-use Rattle.zeus_model.specs.declared.answer.Answer.{Answer}
-use Rattle.zeus_model.specs.declared.answer.Answer.TheVariants.{View as ViewAnswer}
-use Rattle.zeus_model.specs.declared.answer.Made.{Made}
-use Rattle.zeus_model.specs.declared.answer.Made.TheVariants.{Installed, Empty, NotMember, NotStopped}
-use Rattle.zeus_model.specs.Tables.{nth, put, below, or_else, where_true, first_of}
 use Rattle.zeus_model.specs.State.{Node}
-use Rattle.zeus_model.specs.Book.{Book, counted}
-use Rattle.zeus_model.specs.World.{World, Event, no_node, node, link, all_posted, last_view, is_empty, view_refused, view_or_not, refuse_step, happens, stepped}
+use Rattle.zeus_model.specs.World.{World, Event, no_node, node, link, last_view, happens, stepped}
 use Rattle.machine_moves.specs.Fits.{StepFits}
 use Rattle.machine_moves.proofs.Lists.{nth-put_same, nth-put_other}
 use Rattle.soundness.proofs.Runs.{IsReached}
 use Rattle.live_model.specs.Cell.{CellEvent, Core, Deed, step_of, does, notes_down, after, core_from, core, start_core, posts, posts_from, posts_to}
-use Rattle.live_model.specs.Service.{ServiceEvent, made, viewed, views_from, views_made, start_views}
-use Rattle.live_model.specs.Merge.{Turn, cell_turn, service_turn, entry_of, turn_step}
+use Rattle.live_model.specs.Service.{ServiceEvent, views_made}
+use Rattle.live_model.specs.Merge.{Turn, cell_turn}
 use Rattle.live_replay.specs.Parts.{part, of_cell, of_service, cell_part, service_part}
 use Rattle.live_replay.specs.Replayed.{core_of}
 use Rattle.live_replay.proofs.Acts.{acts, Finds, happens-acts, NamesOwn, notes_down-both, notes_down-other, does-own}
@@ -32,7 +22,7 @@ use Rattle.live_replay.proofs.Early.{core_from-append}
 use Rattle.live_replay.proofs.Merging.{part-append}
 use Rattle.live_replay.proofs.Posting.{letters, letters-append, all_posted-own, all_posted-other, posts_from-append}
 use Rattle.live_replay.proofs.Reached.{step-reached}
-use Rattle.live_replay.proofs.Senders.{AllFrom, IsOwn}
+use Rattle.live_replay.proofs.Senders.{AllFrom}
 
 -- the world is what the events so far have made of it
 pub record Mirrors (c : Config) (txs : List TxDecl) (past : List Turn) (w : World) : Type 0 where

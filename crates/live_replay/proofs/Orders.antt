@@ -1,20 +1,18 @@
 -- The merge of the journals is an order of all events, with rising clocks.
-use Rattle.std.specs.Prelude.{ℕ, zero, suc, ◌≡◌, ◌≢◌, ◌+◌, ◌<◌, ◌≤◌, max, Bool, true, false, ◌==◌, List, [], ◌∷◌, ◌++◌, length, map, if◌then◌else◌}
+use Rattle.std.specs.Prelude.{ℕ, zero, suc, ◌≡◌, ◌≢◌, ◌+◌, ◌<◌, ◌≤◌, Bool, List, [], ◌∷◌, ◌++◌, map, if◌then◌else◌}
 use Rattle.std.proofs.Common.{arith, refl, sym, ap, ◌∙◌, inl, inr, subst, append-nil, eq-eqb}
 use Rattle.std.proofs.lemmas.Bool.{cases_eq, ne_eqb}
-use Rattle.zeus_base.specs.declared.config.Config.{Config}
-use Rattle.zeus_base.specs.declared.step.Step.{Step}
 use Rattle.zeus_model.specs.In.{In, here, there}
 use Rattle.zeus_model.specs.Tables.{below, numbers_from}
 use Rattle.machine_moves.specs.Scene.{all_of}
 use Rattle.machine_moves.proofs.Lists.{In-nothing, In-append}
-use Rattle.live_model.specs.Cell.{CellEvent, Entry, entry, stamp, AreClocks}
+use Rattle.live_model.specs.Cell.{CellEvent, Entry, entry, AreClocks}
 use Rattle.live_model.specs.Service.{ServiceEvent, service_entry, AreServiceClocks}
 use Rattle.live_model.specs.Cluster.{Plan, Cluster, Events, IsCluster}
 use Rattle.live_model.specs.Merge.{Turn, cell_turn, service_turn, entry_of, turn_clock, turn_step, clock_in, step_in, cell_turns, all_turns, turns, cell_journals, journals, merged, merge}
 use Rattle.live_replay.specs.Parts.{part, of_cell, of_service, cell_part, service_part}
 use Rattle.live_replay.specs.Replayed.{Rises}
-use Rattle.live_replay.proofs.Merging.{part-append, Silent, silent-part, Apart, EachRises, IsMerged, merge-merged, merge-map}
+use Rattle.live_replay.proofs.Merging.{part-append, Silent, silent-part, Apart, EachRises, merge-merged, merge-map}
 use Rattle.live_replay.proofs.Replay.{IsOrder}
 
 -- ---- lists of one place

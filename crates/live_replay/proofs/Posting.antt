@@ -1,5 +1,5 @@
 -- The letters of one sender on its links, in order.
-use Rattle.std.specs.Prelude.{ℕ, zero, suc, ◌≡◌, ◌≢◌, ◌+◌, ◌-◌, ◌<◌, ◌≤◌, Bool, true, false, ◌==◌, List, [], ◌∷◌, ◌++◌, length, map, Some, if◌then◌else◌}
+use Rattle.std.specs.Prelude.{ℕ, suc, ◌≡◌, ◌≢◌, ◌-◌, ◌<◌, ◌≤◌, ◌==◌, List, [], ◌∷◌, ◌++◌, Some}
 use Rattle.std.proofs.Common.{arith, refl, sym, ap, ◌∙◌, inl, inr, append_assoc, append-nil, eq-eqb, subst}
 use Rattle.std.proofs.lemmas.Bool.{cases_eq, cond_both, ne_eqb}
 use Rattle.zeus_base.specs.declared.config.Config.{Config}

@@ -1,43 +1,31 @@
 -- Events of cells and service in an order of rising clocks are a run of the machine, step by step.
-use Rattle.std.specs.Prelude.{ℕ, zero, suc, ◌≡◌, ◌≢◌, ◌+◌, ◌-◌, ◌<◌, ◌≤◌, Bool, true, false, ◌==◌, nat_lt, List, [], ◌∷◌, ◌++◌, length, map, IfSome, Option, Some, None, is_some, is_none, if◌then◌else◌}
+use Rattle.std.specs.Prelude.{ℕ, ◌≡◌, ◌-◌, ◌<◌, ◌≤◌, Bool, true, false, ◌==◌, List, [], ◌∷◌, ◌++◌, length, IfSome, Option, Some, None, is_some, is_none, if◌then◌else◌}
 use Rattle.std.proofs.Common.{arith, refl, sym, ap, ◌∙◌, inl, inr, subst, append_assoc, append-nil}
-use Rattle.std.proofs.lemmas.Bool.{cond_both, cases_eq, cases_Bool, eqb-true}
-use Rattle.zeus_base.specs.Limits.{KeepsLimits}
 use Rattle.zeus_base.specs.declared.config.Config.{Config}
-use Rattle.zeus_base.specs.declared.step.Step.{Step}
-use Rattle.zeus_base.specs.declared.step.Step.TheVariants.{View}
 use Rattle.zeus_txn.specs.declared.tx.TxDecl.{TxDecl}
-use Rattle.zeus_packet.specs.declared.letter.Letter.{Letter}
-use Rattle.zeus_model.specs.declared.answer.Answer.{Answer}
-use Rattle.zeus_model.specs.declared.answer.Answer.TheVariants.{Twice, Waits, Begin as BeginAnswer, View as ViewAnswer}
+use Rattle.zeus_model.specs.declared.answer.Answer.TheVariants.{Twice, Waits, Begin as BeginAnswer}
 use Rattle.zeus_model.specs.declared.answer.Begin.TheVariants.{Begun, Stopped}
 use Rattle.zeus_model.specs.In.{In, here, there}
 use Rattle.zeus_model.specs.Scripts.{FitTxs}
 use Rattle.zeus_model.specs.State.{Node}
-use Rattle.zeus_model.specs.Tables.{nth, or_else, where_true}
+use Rattle.zeus_model.specs.Tables.{or_else, where_true}
 use Rattle.zeus_model.specs.Act.{Did, just}
 use Rattle.zeus_model.specs.Book.{record_of}
 use Rattle.zeus_model.specs.Local.{begin}
-use Rattle.zeus_model.specs.World.{World, Event, node, link, nth_letter, waits_for, begin_refused, happens, stepped, run, start}
-use Rattle.machine_moves.specs.Fits.{StepFits}
-use Rattle.machine_moves.proofs.Lists.{In-nothing}
-use Rattle.live_model.specs.Items.{Job, Stamped, Note, Sight}
+use Rattle.zeus_model.specs.World.{World, node, link, nth_letter, waits_for, begin_refused}
+use Rattle.live_model.specs.Items.{Job, Stamped, Sight}
 use Rattle.live_model.specs.Cell.{CellEvent, Core, Deed, Began, Tried, Took, Ticked, Halted, Saw, step_of, stamp, declared, start_core, core, core_from, posts, posts_from, numbered, sends, AreClocks, BeginsFresh, IsFresh, DeedFits, does, notes_down}
 use Rattle.live_model.specs.Service.{ServiceEvent, made, start_views, views_made, views_from}
 use Rattle.live_model.specs.Cluster.{Plan, Cluster, Events, IsCluster}
-use Rattle.live_model.specs.Merge.{Turn, cell_turn, service_turn, entry_of, turn_step, turn_clock}
+use Rattle.live_model.specs.Merge.{Turn, cell_turn, service_turn, entry_of, turn_clock}
 use Rattle.live_replay.specs.Parts.{part, of_cell, of_service, cell_part, service_part}
-use Rattle.live_replay.proofs.Acts.{Finds, NamesOwn, acts, happens-acts}
-use Rattle.live_replay.proofs.Causes.{In-middle, clock-above, service_clock-above, fits-at, fresh-at, views-at, halts-fit-at, packet-sent, view-sent, stop-made, WasNoted, after-noted}
-use Rattle.live_replay.proofs.Early.{noted-early, halted-early, NoneServedBefore, HasView, seen-early}
+use Rattle.live_replay.proofs.Causes.{clock-above, fits-at, fresh-at, packet-sent, view-sent, WasNoted, after-noted}
+use Rattle.live_replay.proofs.Early.{noted-early, NoneServedBefore, HasView, seen-early}
 use Rattle.live_replay.specs.Replayed.{Rises}
 use Rattle.live_replay.proofs.Merging.{part-append}
 use Rattle.live_replay.specs.Replayed.{core_of}
-use Rattle.live_replay.proofs.Mirrors.{Mirrors, CellStep, cell-mirrors}
-use Rattle.live_replay.proofs.Posting.{NoneBefore, letters, numbered-early, posts_from-append, posts_from-late}
-use Rattle.live_replay.proofs.Reached.{reached-current}
-use Rattle.live_replay.proofs.Serving.{ServiceStep, service-mirrors, start-mirrors}
-use Rattle.live_replay.proofs.Tries.{own-try_slot}
+use Rattle.live_replay.proofs.Mirrors.{Mirrors}
+use Rattle.live_replay.proofs.Posting.{NoneBefore, numbered-early, posts_from-append, posts_from-late}
 
 -- the turns have the events of each cell and of the service, each in their order, and their clocks rise
 pub record IsOrder (c : Config) (es : Events) (ts : List Turn) : Type 0 where

@@ -1,26 +1,24 @@
 -- What the run of the merged journals gives, clause by clause.
-use Rattle.std.specs.Prelude.{ℕ, zero, suc, ◌≡◌, ◌<◌, Bool, true, List, [], ◌∷◌, ◌++◌, length, map, All, IfSome, Option, Some, None, is_some}
+use Rattle.std.specs.Prelude.{ℕ, suc, ◌≡◌, ◌<◌, true, List, [], ◌∷◌, ◌++◌, length, map, All, IfSome, is_some}
 use Rattle.std.proofs.Common.{refl, sym, ap, ◌∙◌, subst, append-nil}
 use Rattle.std.proofs.lemmas.List.Elements.{All-nil, All-cons}
 use Rattle.std.proofs.lemmas.Option.{IfSome_then}
 use Rattle.zeus_base.specs.declared.config.Config.{Config}
-use Rattle.zeus_base.specs.declared.step.Step.{Step}
 use Rattle.zeus_packet.specs.declared.letter.Letter.{Letter}
 use Rattle.zeus_txn.specs.declared.tx.TxDecl.{TxDecl}
-use Rattle.zeus_model.specs.declared.answer.Answer.{Answer}
 use Rattle.zeus_model.specs.declared.answer.Answer.TheVariants.{Begin as BeginAnswer}
 use Rattle.zeus_model.specs.declared.answer.Begin.TheVariants.{Begun}
 use Rattle.zeus_model.specs.Book.{Book, record_of}
 use Rattle.zeus_model.specs.Sound.{Sound}
 use Rattle.zeus_model.specs.State.{Node}
-use Rattle.zeus_model.specs.World.{World, node, link, happens, stepped, run, start}
+use Rattle.zeus_model.specs.World.{node, link, happens, run, start}
 use Rattle.machine_moves.specs.Fits.{StepFits}
 use Rattle.soundness.proofs.Runs.{reached-sound}
 use Rattle.live_model.specs.Items.{Stamped, Job, Answered}
 use Rattle.live_model.specs.Cell.{CellEvent, Core, Deed, Began, Tried, Took, Ticked, Halted, Saw, Posted, core, declared, does, jobs, posts, numbered, sends, BeginsFresh, DeedFits, stamp}
 use Rattle.live_model.specs.Ends.{ClientId, answers}
 use Rattle.live_model.specs.Service.{ServiceEvent}
-use Rattle.live_model.specs.Cluster.{Plan, Cluster, Events, IsCluster, IsThere, IsFront}
+use Rattle.live_model.specs.Cluster.{Plan, Cluster, Events, IsThere, IsFront}
 use Rattle.live_model.specs.Merge.{Turn, cell_turn, service_turn, entry_of, turn_step, turn_clock, turns, merged}
 use Rattle.live_replay.specs.Parts.{cell_part, service_part}
 use Rattle.live_replay.specs.Replayed.{IsLive, world_after, core_of, given, acknowledged, IsMissed, SameStory, Rises}

@@ -1,5 +1,5 @@
 -- Whatever a node does, it keeps its number, and each letter that it sends is from it.
-use Rattle.std.specs.Prelude.{ℕ, zero, suc, ◌≡◌, ◌+◌, Bool, true, false, ◌&&◌, ◌==◌, nat_lt, List, [], ◌∷◌, ◌++◌, length, take, map, Option, Some, None, is_some, if◌then◌else◌}
+use Rattle.std.specs.Prelude.{ℕ, zero, suc, ◌≡◌, ◌+◌, Bool, true, false, ◌==◌, nat_lt, List, [], ◌∷◌, ◌++◌, length, take, Option, Some, None, is_some, if◌then◌else◌}
 use Rattle.std.proofs.Common.{refl, ◌∙◌, subst}
 use Rattle.zeus_base.specs.Nodes.{without, meet}
 use Rattle.zeus_base.specs.Order.{is_below}
@@ -25,7 +25,7 @@ use Rattle.zeus_model.specs.declared.answer.Tried.TheVariants.{NotOwner, Committ
 use Rattle.zeus_model.specs.declared.state.Current.{Current}
 use Rattle.zeus_model.specs.declared.state.Gather.{Gather}
 use Rattle.zeus_model.specs.declared.state.Kept.{Kept}
-use Rattle.zeus_model.specs.State.{Node, next_number, slot, log, entry, own_stream}
+use Rattle.zeus_model.specs.State.{Node, next_number, slot, log, entry}
 use Rattle.zeus_model.specs.Act.{Act, Did, still, just, sends, did_then, and_then, in_turn, letter, to_each}
 use Rattle.zeus_model.specs.Tables.{below}
 use Rattle.zeus_model.specs.Commit.{next_kept, pass_own, pass_kept, advance_own_by, advance_own, advance_kept_by, advance_kept, raise, stored_rinv, on_rinv, on_own_rack, on_kept_rack, on_rack, on_rval, outside, report, finish}
@@ -33,7 +33,7 @@ use Rattle.zeus_model.specs.Ownership.{takes_over, hold_cause, collect_cause, se
 use Rattle.zeus_model.specs.Receive.{on_recovered, row, receive_or_not, receive}
 use Rattle.zeus_model.specs.Local.{Hindrance, Missing, Unready, begin_free, begin, ask, read_missing, read_row, invalidation, committed, commit_entry, commit, write_row, try_current, try_slot}
 use Rattle.zeus_model.specs.Membership.{install, stop, letters_of, repeat_report, repeat_entries, repeat_own, repeat_kept, repeat_requests, own_acknowledgement, repeat_proposal, repeat_proposals, repeat_done, repeat_leave, repeats, tick}
-use Rattle.machine_moves.proofs.Within.{Keeps, Keeps-settle, Keeps-raise, Keeps-bring}
+use Rattle.machine_moves.proofs.Within.{Keeps-settle, Keeps-raise, Keeps-bring}
 
 -- each of the letters is from the node
 unfoldable pub AllFrom : ℕ → List Letter → Type 0

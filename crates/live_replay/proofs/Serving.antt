@@ -1,21 +1,19 @@
 -- The start of the run, and the world after an event of the service.
-use Rattle.std.specs.Prelude.{ℕ, zero, suc, ◌≡◌, ◌≢◌, ◌+◌, ◌<◌, ◌≤◌, Bool, true, false, ◌&&◌, not, ◌==◌, List, [], ◌∷◌, ◌++◌, length, map, replicate, Option, Some, None, if◌then◌else◌}
+use Rattle.std.specs.Prelude.{ℕ, zero, suc, ◌≡◌, ◌+◌, ◌<◌, ◌≤◌, Bool, true, false, not, List, [], ◌∷◌, ◌++◌, length, replicate, Option, Some, None, if◌then◌else◌}
 use Rattle.std.proofs.Common.{arith, refl, sym, ap, ◌∙◌, inl, inr, subst, append-nil}
-use Rattle.std.proofs.lemmas.Bool.{cases_eq, cases_Bool, ne_eqb, and_right}
+use Rattle.std.proofs.lemmas.Bool.{cases_eq, and_right}
 use Rattle.zeus_base.specs.Limits.{KeepsLimits}
 use Rattle.zeus_base.specs.Nodes.{has, without}
 use Rattle.zeus_base.specs.NodeLaws.{RisesFrom, IsRising, IsBelow, RisesFrom-without, IsBelow-without, has-without, has-without_other, has-head, has-tail}
 use Rattle.zeus_base.specs.declared.config.Config.{Config}
-use Rattle.zeus_base.specs.declared.step.Step.{Step}
 use Rattle.zeus_base.specs.declared.step.Step.TheVariants.{View}
 use Rattle.zeus_txn.specs.declared.tx.TxDecl.{TxDecl}
 use Rattle.zeus_packet.specs.declared.letter.Letter.{Letter}
-use Rattle.zeus_model.specs.declared.answer.Answer.{Answer}
 use Rattle.zeus_model.specs.declared.answer.Answer.TheVariants.{View as ViewAnswer}
 use Rattle.zeus_model.specs.declared.answer.Made.{Made}
-use Rattle.zeus_model.specs.declared.answer.Made.TheVariants.{Installed, Empty, NotMember, NotStopped}
+use Rattle.zeus_model.specs.declared.answer.Made.TheVariants.{Empty, NotMember, NotStopped}
 use Rattle.zeus_model.specs.Scripts.{FitTxs}
-use Rattle.zeus_model.specs.Tables.{nth, put, below, numbers_from, or_else, where_true, first_of}
+use Rattle.zeus_model.specs.Tables.{nth, numbers_from, or_else, where_true, first_of}
 use Rattle.zeus_model.specs.State.{Node}
 use Rattle.zeus_model.specs.Book.{TxRecord, counted, no_record}
 use Rattle.zeus_model.specs.World.{World, Event, no_node, node, link, start_node, start, last_view, is_empty, view_refused, view_or_not, happens, stepped}
@@ -24,13 +22,11 @@ use Rattle.machine_moves.proofs.Lists.{nth-map_numbers, nth-replicate, nth-past,
 use Rattle.machine_moves.proofs.Start.{start-config}
 use Rattle.data_safety.proofs.RowsRuns.{start-txs}
 use Rattle.soundness.proofs.Runs.{IsReached, start-reached}
-use Rattle.live_model.specs.Cell.{CellEvent, Core, core_from, core, posts, posts_from}
+use Rattle.live_model.specs.Cell.{CellEvent, core_from, core, posts, posts_from}
 use Rattle.live_model.specs.Service.{ServiceEvent, made, viewed, views_from, views_made, start_views}
-use Rattle.live_model.specs.Merge.{Turn, cell_turn, service_turn}
+use Rattle.live_model.specs.Merge.{Turn, service_turn}
 use Rattle.live_replay.specs.Parts.{part, of_cell, of_service, cell_part, service_part}
 use Rattle.live_replay.proofs.Books.{Agree, same-refl}
-use Rattle.live_replay.proofs.Merging.{part-append}
-use Rattle.live_replay.specs.Replayed.{core_of}
 use Rattle.live_replay.proofs.Mirrors.{Mirrors, part-one}
 use Rattle.live_replay.proofs.Posting.{letters}
 use Rattle.live_replay.proofs.Reached.{step-reached}

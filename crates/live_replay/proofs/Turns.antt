@@ -1,27 +1,24 @@
 -- Each turn of an order finds in the world what its cell or the service found, so the world follows the whole order.
-use Rattle.std.specs.Prelude.{ℕ, zero, suc, ◌≡◌, ◌+◌, ◌-◌, ◌<◌, ◌≤◌, Bool, true, false, nat_lt, List, [], ◌∷◌, ◌++◌, length, map, IfSome, Option, Some, None, is_some}
+use Rattle.std.specs.Prelude.{ℕ, ◌≡◌, ◌<◌, true, false, nat_lt, List, [], ◌∷◌, ◌++◌, length, map}
 use Rattle.std.proofs.Common.{arith, refl, sym, ap, ◌∙◌, subst, append_assoc, append-nil}
-use Rattle.std.proofs.lemmas.Bool.{cases_Bool, ltb-true, false_from_ne_true}
+use Rattle.std.proofs.lemmas.Bool.{ltb-true, false_from_ne_true}
 use Rattle.zeus_base.specs.Limits.{KeepsLimits}
 use Rattle.zeus_base.specs.NodeLaws.{RisesFrom-without, IsBelow-without}
 use Rattle.zeus_base.specs.Nodes.{without}
 use Rattle.zeus_base.specs.declared.config.Config.{Config}
-use Rattle.zeus_base.specs.declared.step.Step.{Step}
 use Rattle.zeus_txn.specs.declared.tx.TxDecl.{TxDecl}
-use Rattle.zeus_model.specs.declared.answer.Answer.{Answer}
 use Rattle.zeus_model.specs.declared.answer.Answer.TheVariants.{View as ViewAnswer}
-use Rattle.zeus_model.specs.declared.state.Current.{Current}
 use Rattle.zeus_model.specs.In.{In}
 use Rattle.zeus_model.specs.Scripts.{FitTxs}
-use Rattle.zeus_model.specs.State.{Node, slot}
+use Rattle.zeus_model.specs.State.{Node}
 use Rattle.zeus_model.specs.World.{World, Event, node, last_view, happens, stepped, run, start}
 use Rattle.machine_moves.specs.Fits.{StepFits}
-use Rattle.live_model.specs.Cell.{CellEvent, Core, Deed, Began, Tried, Took, Ticked, Halted, Saw, step_of, stamp, declared, start_core, BeginsFresh, DeedFits, does, notes_down, halts}
+use Rattle.live_model.specs.Cell.{CellEvent, Deed, Began, Tried, Took, Ticked, Halted, Saw, step_of, stamp, declared, start_core, BeginsFresh, DeedFits, halts}
 use Rattle.live_model.specs.Service.{ServiceEvent, AreServiceClocks, AreViews, HaltsFit, made, start_views, views_made}
 use Rattle.live_model.specs.Cluster.{Plan, Cluster, Events, IsCluster}
 use Rattle.live_model.specs.Merge.{Turn, cell_turn, service_turn, entry_of, turn_step}
 use Rattle.live_replay.specs.Parts.{cell_part, service_part}
-use Rattle.live_replay.proofs.Acts.{Finds, NamesOwn, acts, happens-acts}
+use Rattle.live_replay.proofs.Acts.{Finds, NamesOwn, happens-acts}
 use Rattle.live_replay.proofs.Causes.{In-middle, service_clock-above, views-at, halts-fit-at, stop-made}
 use Rattle.live_replay.proofs.Early.{halted-early, HasView}
 use Rattle.live_replay.specs.Replayed.{core_of, given, acknowledged}
