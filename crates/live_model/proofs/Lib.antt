@@ -1,3 +1,4 @@
+pub mod DriveAlone
 pub mod GreatClock
 pub mod KilledNode
 pub mod LostPacket

@@ -5,3 +5,4 @@ pub mod Service
 pub mod Client
 pub mod Cluster
 pub mod Merge
+pub mod Drive
