@@ -1,11 +1,8 @@
-//! A node of the cluster: what it keeps, and what it does with a transaction, a try and a letter.
+//! A stand-in of a node: its contracts alone.
 #![tactic(auto)]
 
-mod copies;
 mod effect;
 mod node;
-mod pipeline;
-mod stored;
 
 pub use effect::{Effect, Letters, PassedList};
 pub use node::Node;
