@@ -32,7 +32,7 @@ with_log_at-with_log_at logs s l m =
     ∙ put-put_same [] logs s.node (put no_log (nth [] logs s.node) s.slot l) (put no_log (nth [] logs s.node) s.slot m)
 
 -- the same streams there are after one has become another
-length_row-put : (logs : List (List StreamLog)) (s : Stream) (row : List StreamLog) (m : ℕ) → length row ≡ length (nth [] logs s.node) → length (nth [] (put [] logs s.node row) m) ≡ length (nth [] logs m)
+pub length_row-put : (logs : List (List StreamLog)) (s : Stream) (row : List StreamLog) (m : ℕ) → length row ≡ length (nth [] logs s.node) → length (nth [] (put [] logs s.node row) m) ≡ length (nth [] logs m)
 length_row-put logs s row m e =
     elim (cases_eq s.node m) [
       | inl same ↦ ap (λ (k : ℕ). length (nth [] (put [] logs s.node row) k)) (sym same) ∙ ap length (nth-put_same [] logs s.node row) ∙ e ∙ ap (λ (k : ℕ). length (nth [] logs k)) same

@@ -58,13 +58,13 @@ impl<W: Window<Kept>> LogOver<W> {
         ensures answer { (n : Node) (from : ℕ) → log n r.now.stream ≡ self.old → outcome_of result ≡ (stored_rinv n from r.now).answer }
         ensures after { (n : Node) (from : ℕ) → log n r.now.stream ≡ self.old → self.new ≡ log (stored_rinv n from r.now).node r.now.stream }
     {
-        let next = u64::from(self.done) + u64::from(self.kept.len());
-        let number = u64::from(r.number);
+        let next = self.done + self.kept.len();
+        let number = r.number;
         if number < next {
             return Store::Again;
         }
         if next < number {
-            return Store::Gap(next as u32);
+            return Store::Gap(next);
         }
         let entry = Kept {
             followers: r.followers,

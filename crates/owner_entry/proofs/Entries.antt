@@ -1,5 +1,5 @@
 -- What becomes of an entry: the node's definitions, at a node that has it.
-use Rattle.std.proofs.Common.{ℕ, ◌≡◌, ◌∙◌, ◌<◌, Bool, true, false, ◌&&◌, ◌==◌, List, Option, Some, None, is_none, if◌then◌else◌, length, refl, sym, ap}
+use Rattle.std.proofs.Common.{ℕ, ◌≡◌, ◌∙◌, ◌<◌, Bool, true, false, not, ◌&&◌, ◌==◌, List, Option, Some, None, is_none, if◌then◌else◌, length, refl, sym, ap}
 use Rattle.std.proofs.Math.ListN.{get_or, set}
 use Rattle.zeus_base.specs.Tables.{put}
 use Rattle.zeus_base.specs.TableLaws.{nth-put_same, nth_read, put-set, set-nth}
@@ -11,7 +11,7 @@ use Rattle.zeus_packet.specs.declared.place.Place.{Place}
 use Rattle.zeus_packet.specs.declared.place.Proposal.{Proposal}
 use Rattle.zeus_model.specs.declared.answer.Outcome.TheVariants.{Taken, Again}
 use Rattle.zeus_model.specs.declared.state.Entry.{Entry}
-use Rattle.zeus_model.specs.Ownership.{answer_settled, greater_cause, hold_or_refuse, is_held, refuse_proposal, settle, settled_entry}
+use Rattle.zeus_model.specs.Ownership.{answer_settled, greater_cause, hold_or_refuse, holding, is_held, refuse_proposal, settle, settled_entry}
 use Rattle.zeus_model.specs.State.{Node, entry, no_entry, owns}
 use Rattle.owner_entry.specs.Acceptance.{on_proposal}
 
@@ -48,14 +48,22 @@ unfolding on_proposal
 on_proposal-held n from x e p here above greater = rw (here, above, ← greater) refl
 
 -- the entry with this proposal held
-pub holding_entry : (n : Node) (from x : ℕ) (e : Entry) (p : Proposal) → entry n x ≡ e → entry (hold_or_refuse n from x p None).node x ≡ record { stamp = e.stamp; place = e.place; proposal = Some p }
-unfolding hold_or_refuse
-holding_entry n from x e p here =
-    nth-put_same no_entry n.entries x _ ∙ ap (λ (f : Entry). let g : Entry = record { stamp = f.stamp; place = f.place; proposal = Some p } in g) here
+pub holding_known : (n : Node) (x : ℕ) (e : Entry) (p : Proposal) → entry n x ≡ e → record { stamp = e.stamp; place = e.place; proposal = Some p } ≡ entry (holding n x p) x
+holding_known n x e p here =
+    sym (nth-put_same no_entry n.entries x _ ∙ ap (λ (f : Entry). let g : Entry = record { stamp = f.stamp; place = f.place; proposal = Some p } in g) here)
 
-pub holding_answer : (n : Node) (from x : ℕ) (e : Entry) (p : Proposal) (held : Bool) → entry n x ≡ e → held ≡ is_held p e.proposal → (hold_or_refuse n from x p None).answer ≡ (if held then Again else Taken)
+pub holding_node : (n : Node) (from x : ℕ) (p : Proposal) → entry (holding n x p) x ≡ entry (hold_or_refuse n from x p None).node x
 unfolding hold_or_refuse
-holding_answer n from x e p held here is = rw (here, is) refl
+holding_node n from x p = refl
+
+module _ (n : Node) (from x : ℕ) (e : Entry) (p : Proposal) (here : entry n x ≡ e) where
+  held_as : (held new : Bool) → is_held p e.proposal ≡ held → new ≡ not held → (hold_or_refuse n from x p None).answer ≡ (if new then Taken else Again)
+  unfolding hold_or_refuse
+  held_as true new is e = rw (here, is, e) refl
+  held_as false new is e = rw (here, is, e) refl
+
+  pub holding_answer : (new : Bool) → new ≡ not (is_held p e.proposal) → (hold_or_refuse n from x p None).answer ≡ (if new then Taken else Again)
+  holding_answer new is = held_as (is_held p e.proposal) new refl is
 
 settle_set-by : (n : Node) (x : ℕ) (stamp : Stamp) (place : Place) (b : Bool) → x < length n.entries → is_below (entry n x).stamp stamp ≡ b → set n.entries x (entry (settle n x stamp place) x) ≡ (settle n x stamp place).entries
 settle_set-by n x stamp place true h above =
@@ -86,3 +94,8 @@ settle_written n xs x stamp place f same h is = rw (← same, is) (settle_set n 
 
 pub on_proposal_written : (n : Node) (xs : List Entry) (from x : ℕ) (p : Proposal) (f : Entry) → n.entries ≡ xs → x < length xs → f ≡ entry (on_proposal n from x p).node x → set xs x f ≡ (on_proposal n from x p).node.entries
 on_proposal_written n xs from x p f same h is = rw (← same, is) (on_proposal_set n from x p (rw same h))
+
+-- a proposal that is held changes the entry of its object and no other
+pub holding_written : (n : Node) (xs : List Entry) (x : ℕ) (p : Proposal) (f : Entry) → n.entries ≡ xs → x < length xs → f ≡ entry (holding n x p) x → set xs x f ≡ (holding n x p).entries
+holding_written n xs x p f same h is =
+    rw (← same, is, nth-put_same no_entry n.entries x record { stamp = (entry n x).stamp; place = (entry n x).place; proposal = Some p }) (sym (put-set no_entry n.entries x _ (rw same h)))

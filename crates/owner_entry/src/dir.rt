@@ -1,7 +1,7 @@
 //! What a node knows of who owns and keeps each object.
-ghost use Rattle.std.specs.Prelude.{◌≡◌, ◌<◌, ℕ, IfOk, length, map};
+ghost use Rattle.std.specs.Prelude.{◌≡◌, ◌<◌, ℕ, IfOk, length, map, not};
 ghost use Rattle.zeus_base.specs.Order.{is_below};
-ghost use Rattle.zeus_model.specs.Ownership.{settle};
+ghost use Rattle.zeus_model.specs.Ownership.{holding, is_held, settle};
 ghost use Rattle.zeus_model.specs.State.{Node, entry, no_entry};
 ghost use Rattle.zeus_model.specs.Tables.{nth};
 ghost use Rattle.zeus_model.specs.World.{start_entry};
@@ -99,6 +99,20 @@ impl Dir {
     {
         let entry = &mut self.entries[obj.place()];
         entry.accept(p)
+    }
+
+    /// Holds a proposal for the object in place of any other, whatever their stamps. True exactly where this one was
+    /// not held.
+    pub fn hold(&mut self, obj: ObjId, p: &Proposal) -> bool
+        requires { obj < length self.old.entries }
+        ensures new { result ≡ not (is_held p.now (nth no_entry self.old.entries obj).proposal) }
+        ensures after { (n : Node) → n.entries ≡ self.old.entries → self.new.entries ≡ (holding n obj p.now).entries }
+        ensures nodes { self.new.nodes ≡ self.old.nodes }
+        ensures degree { self.new.degree ≡ self.old.degree }
+        ensures objects { length self.new.entries ≡ length self.old.entries }
+    {
+        let entry = &mut self.entries[obj.place()];
+        entry.hold(p)
     }
 }
 

@@ -1,7 +1,7 @@
 //! The entry of one object: whether its node owns the object, and how the entry settles and holds proposals.
-ghost use Rattle.std.specs.Prelude.{◌≡◌, ℕ};
+ghost use Rattle.std.specs.Prelude.{◌≡◌, ℕ, not};
 ghost use Rattle.zeus_base.specs.Order.{is_below};
-ghost use Rattle.zeus_model.specs.Ownership.{greater_cause, is_held, proposal_above, settle};
+ghost use Rattle.zeus_model.specs.Ownership.{greater_cause, holding, is_held, proposal_above, settle};
 ghost use Rattle.zeus_model.specs.State.{Node, entry, owns};
 ghost use Rattle.owner_entry.specs.Acceptance.{cause_of, on_proposal, outcome_of};
 
@@ -46,6 +46,11 @@ pub trait OwnerEntry {
     fn accept(&mut self, p: &Proposal) -> Accept
         ensures answer { (n : Node) (from x : ℕ) → entry n x ≡ known self.old → outcome_of result ≡ (on_proposal n from x p.now).answer }
         ensures after { (n : Node) (from x : ℕ) → entry n x ≡ known self.old → known self.new ≡ entry (on_proposal n from x p.now).node x };
+
+    /// Holds a proposal in place of any other, whatever their stamps. True exactly where this one was not held.
+    fn hold(&mut self, p: &Proposal) -> bool
+        ensures new { result ≡ not (is_held p.now (known self.old).proposal) }
+        ensures after { (n : Node) (x : ℕ) → entry n x ≡ known self.old → known self.new ≡ entry (holding n x p.now) x };
 }
 
 impl OwnerEntry for Entry {
@@ -76,13 +81,17 @@ impl OwnerEntry for Entry {
         if let Some(stamp) = greater_stamp(p.stamp, &self.proposal) {
             return Accept::Older(stamp);
         }
+        if self.hold(p) {
+            Accept::Held
+        } else {
+            Accept::HeldBefore
+        }
+    }
+
+    fn hold(&mut self, p: &Proposal) -> bool {
         let before = is_held(p, &self.proposal);
         self.proposal = Some(*p);
-        if before {
-            Accept::HeldBefore
-        } else {
-            Accept::Held
-        }
+        !before
     }
 }
 

@@ -59,6 +59,11 @@ fn an_entry_holds_the_greatest_proposal(rt: HostRuntime) {
     assert!(rt; entry.settle(stamp(1, NodeId(2)), place(NodeId(1))));
     assert_eq!(rt; entry.proposal, None);
     assert!(rt; entry.owns(NodeId(1)));
+    let first = proposal(&stamp(0, NodeId(0)));
+    assert!(rt; entry.hold(&first));
+    assert!(rt; !entry.hold(&first));
+    assert_eq!(rt; entry.proposal, Some(first));
+    assert_eq!(rt; entry.stamp, stamp(1, NodeId(2)));
 }
 
 #[test]

@@ -22,7 +22,7 @@ pub returns-then-next-number-clause-answer : goal.returns-then-next-number-claus
 returns-then-next-number-clause-answer g c = λ n from here.
     let next = ap next_kept c.self.view_is in
     let high : next_kept c.args.self.now < c.args.r.now.number = omega (arith, next) in
-    let same : c.from.result + c.from-2.result ≡ next_kept c.args.self.now = omega (arith, next) in
+    let same : c.self.inside.done + c.len.result ≡ next_kept c.args.self.now = omega (arith, next) in
     rw same (stored-gap n from c.args.r.now c.args.self.now here high)
 
 pub returns-then-next-number-clause-after : goal.returns-then-next-number-clause-after

@@ -3,7 +3,7 @@ use Rattle.zeus_base.specs.Order.{is_below}
 use Rattle.zeus_packet.specs.declared.letter.Cause.TheVariants.{Proposed}
 use Rattle.zeus_model.specs.Ownership.{greater_cause, refusal}
 use Rattle.owner_entry.specs.Acceptance.{cause_of, outcome_of}
-use Rattle.owner_entry.proofs.Entries.{holding_answer, holding_entry, on_proposal-held, on_proposal-older, on_proposal-settled}
+use Rattle.owner_entry.proofs.Entries.{holding_answer, holding_node, on_proposal-held, on_proposal-older, on_proposal-settled}
 use Rattle.owner_entry.proofs.entry.EntryOwnerEntry.accept.Goals as goal
 
 pub returns-then-not-is_below-clause-answer : goal.returns-then-not-is_below-clause-answer
@@ -31,30 +31,30 @@ returns-in-Some-clause-after c = λ n from x here.
     let greater : Some (Proposed c.in-Some.stamp) ≡ greater_cause c.args.p.now.stamp c.args.self.now.proposal = c.in-Some.ensures in
     rw (on_proposal-older n from x _ c.args.p.now c.in-Some.stamp here above greater) (sym here)
 
-pub returns-then-before-clause-answer : goal.returns-then-before-clause-answer
+pub returns-then-hold-clause-answer : goal.returns-then-hold-clause-answer
 unfolding outcome_of cause_of
-returns-then-before-clause-answer c = λ n from x here.
+returns-then-hold-clause-answer c = λ n from x here.
     let above : is_below c.args.self.now.stamp c.args.p.now.stamp ≡ true = grind arith in
     let none : None ≡ greater_cause c.args.p.now.stamp c.args.self.now.proposal = c.in_default.ensures in
-    rw (on_proposal-held n from x _ c.args.p.now here above none, holding_answer n from x _ c.args.p.now true here (sym c.if-before.true ∙ c.is_held-before.ensures)) refl
+    rw (on_proposal-held n from x _ c.args.p.now here above none, holding_answer n from x _ c.args.p.now here true (sym c.if-hold.true ∙ c.hold.ensures.new)) refl
 
-pub returns-then-before-clause-after : goal.returns-then-before-clause-after
+pub returns-then-hold-clause-after : goal.returns-then-hold-clause-after
 unfolding cause_of
-returns-then-before-clause-after c = λ n from x here.
+returns-then-hold-clause-after c = λ n from x here.
     let above : is_below c.args.self.now.stamp c.args.p.now.stamp ≡ true = grind arith in
     let none : None ≡ greater_cause c.args.p.now.stamp c.args.self.now.proposal = c.in_default.ensures in
-    rw (on_proposal-held n from x _ c.args.p.now here above none) (sym (holding_entry n from x _ c.args.p.now here))
+    rw (on_proposal-held n from x _ c.args.p.now here above none) (c.hold.ensures.after n x here ∙ holding_node n from x c.args.p.now)
 
-pub returns-else-before-clause-answer : goal.returns-else-before-clause-answer
+pub returns-else-hold-clause-answer : goal.returns-else-hold-clause-answer
 unfolding outcome_of cause_of
-returns-else-before-clause-answer c = λ n from x here.
+returns-else-hold-clause-answer c = λ n from x here.
     let above : is_below c.args.self.now.stamp c.args.p.now.stamp ≡ true = grind arith in
     let none : None ≡ greater_cause c.args.p.now.stamp c.args.self.now.proposal = c.in_default.ensures in
-    rw (on_proposal-held n from x _ c.args.p.now here above none, holding_answer n from x _ c.args.p.now false here (sym c.if-before.false ∙ c.is_held-before.ensures)) refl
+    rw (on_proposal-held n from x _ c.args.p.now here above none, holding_answer n from x _ c.args.p.now here false (sym c.if-hold.false ∙ c.hold.ensures.new)) refl
 
-pub returns-else-before-clause-after : goal.returns-else-before-clause-after
+pub returns-else-hold-clause-after : goal.returns-else-hold-clause-after
 unfolding cause_of
-returns-else-before-clause-after c = λ n from x here.
+returns-else-hold-clause-after c = λ n from x here.
     let above : is_below c.args.self.now.stamp c.args.p.now.stamp ≡ true = grind arith in
     let none : None ≡ greater_cause c.args.p.now.stamp c.args.self.now.proposal = c.in_default.ensures in
-    rw (on_proposal-held n from x _ c.args.p.now here above none) (sym (holding_entry n from x _ c.args.p.now here))
+    rw (on_proposal-held n from x _ c.args.p.now here above none) (c.hold.ensures.after n x here ∙ holding_node n from x c.args.p.now)

@@ -1,0 +1,9 @@
+use Rattle.std.proofs.Common.{refl, ◌∙◌}
+use Rattle.object_table.specs.Holders.{holder-held}
+use Rattle.node_state.specs.Shown.{shown}
+use Rattle.node_state.proofs.state.NodeState.source_cause.Goals as goal
+
+pub returns : goal.returns
+returns c =
+    rw (← c.self.view_is)
+    (c.cause_of.ensures ∙ c.give_up.ensures.kept (shown c.self.inside) (record { copy = refl; holder = holder-held _ _ c.args.obj c.self.invariant.held; me = refl }) (rw (← c.self.view_is) at c.keeper-keeper.ensures))

@@ -1,0 +1,4 @@
+pub mod Effect
+pub mod Done
+pub mod Changes
+pub mod Shown

@@ -1,0 +1,18 @@
+//! The state of a node, seen as the node of the rules, and each small change of it as one call.
+#![tactic(auto)]
+
+mod commit;
+mod effect;
+mod local;
+mod ownership;
+mod slot;
+mod state;
+
+pub use arbitration::{Ack, Decision};
+pub use directory::Drive;
+pub use effect::{Effect, Letters, PassedList};
+pub use local_txn::WriteTry;
+pub use reliable_commit::{Advance, RInvAnswer, RValAnswer};
+pub use replica_reads::ReadTry;
+pub use slot::Slot;
+pub use state::NodeState;
