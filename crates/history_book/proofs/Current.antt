@@ -45,3 +45,14 @@ next_is ids number o found below free = elim (cases_lt (length ids) number) [
     | inr not_more ↦ omega arith
   ]
 ]
+
+acked_by : (r : TxRecord) (refused : Bool) (acked point begun : Option ℕ) (entry : Option EntryId) → r.acked ≡ acked
+    → (if refused then Refused else (if is_some acked then Acked else (if is_some point then Passed else (if is_some entry then Pending else (if is_some begun then Current else New))))) ≡ Current → r.acked ≡ None
+acked_by r true acked point begun entry e h = cc
+acked_by r false (Some a) point begun entry e h = cc
+acked_by r false None point begun entry e h = e
+
+-- nor is it acknowledged
+pub current_acked : (r : TxRecord) → state_of r ≡ Current → r.acked ≡ None
+unfolding state_of
+current_acked r h = acked_by r r.refused r.acked r.point r.begun r.entry refl h

@@ -5,3 +5,4 @@ pub mod Rows
 pub mod Keeping
 pub mod Current
 pub mod Passing
+pub mod Noting

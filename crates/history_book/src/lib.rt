@@ -7,6 +7,7 @@ mod ids;
 mod passes;
 mod readers;
 mod record;
+mod tries;
 
 pub use book::Book;
 pub use ids::IdList;

@@ -35,6 +35,8 @@ impl Model for Node {
     ghost use Rattle.zeus_model.specs.World.{no_node};
 
     ghost view = { λ n. no_node };
+
+    ghost invariant = { λ n. ⊥ };
 }
 
 impl Node {
@@ -43,7 +45,7 @@ impl Node {
         requires me { me < config.now.nodes }
         ensures { IfOk result (λ n. n ≡ start_node config.now me) }
     {
-        unreachable!()
+        Err(NoMemory)
     }
 
     pub fn begin(&mut self, slot: SlotId, id: TxId, tx: &Tx) -> Begin
@@ -53,6 +55,7 @@ impl Node {
         ensures answer { result ≡ (begin self.old slot id tx.now).answer }
         ensures after { self.new ≡ (begin self.old slot id tx.now).node }
     {
+        let _me = self.me;
         unreachable!()
     }
 
@@ -64,6 +67,7 @@ impl Node {
         ensures sent { out.new.sent ≡ take 64 (try_slot self.old slot).sent }
         ensures passed { out.new.passed ≡ (try_slot self.old slot).passed }
     {
+        let _me = self.me;
         unreachable!()
     }
 
@@ -75,6 +79,7 @@ impl Node {
         ensures sent { out.new.sent ≡ take 64 (receive self.old letter.now).sent }
         ensures passed { out.new.passed ≡ (receive self.old letter.now).passed }
     {
+        let _me = self.me;
         unreachable!()
     }
 
@@ -85,6 +90,7 @@ impl Node {
         ensures sent { out.new.sent ≡ take 64 (tick self.old).sent }
         ensures passed { out.new.passed ≡ (tick self.old).passed }
     {
+        let _me = self.me;
         unreachable!()
     }
 
@@ -97,6 +103,7 @@ impl Node {
         ensures sent { out.new.sent ≡ take 64 (install self.old view.now).sent }
         ensures passed { out.new.passed ≡ (install self.old view.now).passed }
     {
+        let _me = self.me;
         unreachable!()
     }
 
@@ -104,30 +111,35 @@ impl Node {
         ensures answer { result ≡ (stop self.old).answer }
         ensures after { self.new ≡ (stop self.old).node }
     {
+        let _me = self.me;
         unreachable!()
     }
 
     pub fn is_stopped(&self) -> bool
         ensures { result ≡ self.now.stopped }
     {
+        let _me = self.me;
         unreachable!()
     }
 
     pub fn known_entry(&self, obj: ObjId) -> Entry
         ensures { result ≡ entry self.now obj }
     {
+        let _me = self.me;
         unreachable!()
     }
 
     pub fn owns(&self, obj: ObjId) -> bool
         ensures { result ≡ owns self.now obj }
     {
+        let _me = self.me;
         unreachable!()
     }
 
     pub fn copy(&self, obj: ObjId) -> Option<Copy>
         ensures { result ≡ copy self.now obj }
     {
+        let _me = self.me;
         unreachable!()
     }
 }

@@ -1,16 +1,2 @@
-mod AtStart
-mod Batches
-mod Finding
-mod FirstLinks
-mod FirstNodes
-mod Noting
-mod Passes
-mod Passing
-mod Reaching
-mod Recording
-mod Sending
-mod Standing
-mod Starting
-mod Trying
-mod TwoNodes
-mod Worlds
+pub mod Batches
+pub mod Sending
