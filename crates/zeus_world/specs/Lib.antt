@@ -1,7 +1,6 @@
 pub mod Links
 pub mod Packets
 pub mod Posting
-pub mod Reached
 pub mod Refusals
 pub mod Reports
 pub mod Settling
