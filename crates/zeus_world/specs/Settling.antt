@@ -23,3 +23,4 @@ pub record IsSettled (at : ℕ) (said : List Letter) (passed : List Passed) (bef
   pub acked : s.acked.ids ≡ r.acked.ids ++ (book_passes before.book at (in_stream_order passed)).acked
   pub links : letters new ≡ all_posted (letters old) said
   pub sent : s.sent.packets ≡ r.sent.packets ++ packets (letters old) said
+  pub answer : s.answer ≡ r.answer
