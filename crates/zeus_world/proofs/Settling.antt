@@ -24,7 +24,7 @@ use Rattle.reached_worlds.specs.Ranged.{IsRanged}
 use Rattle.reached_worlds.proofs.Passes.{book_passes-sized}
 use Rattle.reached_worlds.proofs.Ranging.{fits_ends, first_fits, rest_fits}
 use Rattle.reached_worlds.proofs.Signed.{AreBy, by_take}
-use Rattle.zeus_world.specs.Links.{LinkState, HasRoom, letters}
+use Rattle.zeus_world.specs.Links.{LinkState, HasRoom, IsLink, letters}
 use Rattle.zeus_world.specs.Posting.{AreFrom, CanPost}
 use Rattle.zeus_world.specs.Reports.{HasSpace, Reports}
 use Rattle.zeus_world.specs.Settling.{CanSettle, IsSettled}
@@ -146,4 +146,27 @@ quiet_taken w n after a c links b r h e f p q alone =
           ap (λ (ns : List Node). world_with w ns links b) nodes
           ∙ ap (λ (x : List (List (List Letter))). world_with w (put no_node w.nodes n after) x b) e
           ∙ ap (λ (d : Book). world_with w (put no_node w.nodes n after) w.links d) f;
+    }
+
+-- ---- links that are there, and a world that only counts
+
+pub link_there : (w : World) (from to : ℕ) (L : List (List LinkState)) → IsRanged w → from < w.config.nodes → to < w.config.nodes → letters L ≡ w.links → IsLink L from to
+link_there w from to L r h k e =
+    let size : length L ≡ w.config.nodes = sym (length-letters L) ∙ ap length e ∙ r.senders in
+    let row : length (nth [] L from) ≡ w.config.nodes = length-row L from ∙ ap (λ (x : List (List (List Letter))). length (nth [] x from)) e ∙ r.receivers from h in
+    record { from = rw size h; to = rw row k }
+
+pub alone_as : (w : World) (a : Answer) (r : Report) (e : Event) (links : List (List (List Letter))) (b : Book) → e ≡ refuse_step w a → links ≡ w.links → b ≡ counted w.book → IsAlone a r → IsTaken r (world_with w w.nodes links b) e
+alone_as w a r e links b is f g alone =
+    alone_taken w (world_with w w.nodes links b) a r e is
+    (ap (λ (x : List (List (List Letter))). world_with w w.nodes x b) f ∙ ap (λ (d : Book). world_with w w.nodes w.links d) g) alone
+
+-- what a change says of the book and of lists that were empty
+pub made_first : (b b1 : BookState) (p q p1 q1 : IdsState) (f : Book → BookChange) → p.ids ≡ [] → q.ids ≡ [] → so_far b1 p1 q1 ≡ change_then (so_far b p q) f → IsMade (f b.book) b1 p1 q1
+made_first b b1 p q p1 q1 f e g h =
+    let m = made (change_then (so_far b p q) f) b1 p1 q1 h in
+    record {
+      book = m.book;
+      points = m.points ∙ ap (λ (xs : List ℕ). xs ++ (f b.book).points) e;
+      acks = m.acks ∙ ap (λ (xs : List ℕ). xs ++ (f b.book).acked) g;
     }

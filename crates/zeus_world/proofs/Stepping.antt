@@ -2,6 +2,8 @@
 use Rattle.std.proofs.Common.{ℕ, zero, suc, ◌≡◌, ◌<◌, ◌≤◌, ◌+◌, ◌-◌, ◌^◌, ◌++◌, Bool, true, false, not, List, [], ◌∷◌, Option, Some, None, length, take, refl, sym, ap, ◌∙◌, subst, arith}
 use Rattle.std.specs.Prelude.{nat_lt, if◌then◌else◌, is_none}
 use Rattle.std.proofs.Math.ListN.{get_or, set}
+use Rattle.std.proofs.Common.{◌⊎◌, inl, inr}
+use Rattle.std.proofs.lemmas.Bool.{cases_lt}
 use Rattle.std.proofs.lemmas.Bool.Decides.{nat_tests}
 use Rattle.zeus_base.specs.Limits.{limits_of}
 use Rattle.zeus_base.specs.NodeLaws.{IsBelow}
@@ -32,10 +34,16 @@ use Rattle.zeus_model.specs.declared.answer.Stop.{Stop as Stopping}
 use Rattle.zeus_model.specs.declared.answer.Ticked.{Ticked as Ticking}
 use Rattle.zeus_model.specs.declared.answer.Tried.{Tried}
 use Rattle.zeus_model.specs.declared.answer.Answer.TheVariants.{Begin as BeginAnswer, Try as TryAnswer, Receive as ReceiveAnswer, Tick as TickAnswer, Stop as StopAnswer, Install as InstallAnswer, NoPacket, NoView}
-use Rattle.node_ranges.specs.Ranges.{AllFit, KeepsRanges}
+use Rattle.zeus_base.specs.declared.config.Limits.{Limits}
+use Rattle.zeus_packet.specs.Fits.{nodes_fit}
+use Rattle.node_ranges.specs.Ranges.{AllFit, KeepsRanges, limits_of as node_limits}
 use Rattle.history_book.specs.Books.{BookState, HasLists}
+use Rattle.history_book.specs.Ids.{IdsState}
+use Rattle.history_book.specs.Tries.{CanNote}
 use Rattle.reached_worlds.specs.Ranged.{IsRanged}
-use Rattle.reached_worlds.proofs.Passes.{IsSized}
+use Rattle.reached_worlds.proofs.Passes.{IsOfBelow, book_tried-sized}
+use Rattle.reached_worlds.proofs.Reaching.{IsKnown}
+use Rattle.reached_worlds.proofs.Telling.{can_note, try_of_below}
 use Rattle.reached_worlds.proofs.Signed.{AreBy, tick-passed}
 use Rattle.zeus_world.specs.Links.{LinkState, HasRoom, letters}
 use Rattle.zeus_world.specs.Settling.{CanSettle, IsSettled}
@@ -242,3 +250,44 @@ pub try_taken : (w : World) (n slot : ℕ) (k after : Node) (t : Tried) (said : 
 try_taken w n slot k after t said passed b b' L L' r s at did e m none says settled =
     rw (try_happens w n slot k at, ← did.says)
     (rw (← did.says) at (settled_as w n TryAnswer (try_slot k slot) t after said passed (book_tried w.book record { node = n; slot = slot } w.config.degree t) b b' L L' r s did at.place e m none says settled))
+
+-- ---- what the nodes' calls and the book ask
+
+pub members_fit : (limits : Limits) (n : Node) (ms : List ℕ) → KeepsRanges limits n → nodes_fit limits ms ≡ true → nodes_fit (node_limits n) ms ≡ true
+unfolding nodes_fit
+members_fit limits n ms k h = rw k.sizes.nodes h
+
+pub can_try : (w : World) (n s : ℕ) (k : Node) (t : Tried) (b : BookState) → IsKnown w → IsNodeAt w n k → b.book ≡ w.book → b.nodes ≡ w.config.nodes → b.slots ≡ w.config.slots → s < w.config.slots → t ≡ (try_slot k s).answer
+    → CanNote b (record { node = n; slot = s }) t
+can_try w n s k t b known at book nodes slots h e =
+    let can = can_note w known.faithful.truth n s b book (rw nodes at.there) (rw slots h) known.faithful.faithful in
+    rw (e, ← at.same) can
+
+-- a try leaves the count of steps
+pub tried_counted : (w : World) (n s : ℕ) (k : Node) (t : Tried) (b1 : BookState) (p q : IdsState) → IsKnown w → IsNodeAt w n k → t ≡ (try_slot k s).answer
+    → IsMade (book_tried w.book record { node = n; slot = s } w.config.degree t) b1 p q → w.book.steps + 1 < 2 ^ 64 → b1.book.steps + 1 < 2 ^ 64
+tried_counted w n s k t b1 p q known at e m h =
+    let there : IsOfBelow (length w.book.records) t = rw (e, ← at.same) (try_of_below w known.faithful.truth n s known.faithful.faithful) in
+    let sized = book_tried-sized w.book record { node = n; slot = s } w.config.degree t there in
+    let same : b1.book.steps ≡ w.book.steps = ap (λ (d : Book). d.steps) m.book ∙ sized.steps in
+    rw same h
+
+-- an epoch of which there is a view, or none
+pub epoch_past : (n e : ℕ) → (e ≡ 0) ⊎ (n < e) → 1 ≤ e → n < e
+epoch_past n e (inl nought) h = absurd (omega arith)
+epoch_past n e (inr past) h = past
+
+pub epoch_there : (n e : ℕ) → ((e ≡ 0) ⊎ (n < e) → true ≡ false) → e ≤ n
+epoch_there n e h = elim (cases_lt n e) [ inl past ↦ let no : true ≡ false = h (inr past) in absurd (cc) | inr there ↦ there ]
+
+-- a begin leaves the count of steps
+begun_steps : (b : Book) (k : ℕ) (a : BeginOutcome) → (book_begun b k a).book.steps ≡ b.steps
+unfolding book_begun
+begun_steps b k Begun = refl
+begun_steps b k (Busy id) = refl
+begun_steps b k BeginStopped = refl
+
+pub begun_counted : (b : Book) (k : ℕ) (a : BeginOutcome) (d : Book) → d ≡ (book_begun b k a).book → b.steps + 1 < 2 ^ 64 → d.steps + 1 < 2 ^ 64
+begun_counted b k a d e h =
+    let same : d.steps ≡ b.steps = ap (λ (x : Book). x.steps) e ∙ begun_steps b k a in
+    rw same h
