@@ -6,3 +6,4 @@ pub mod Standing
 pub mod Starting
 pub mod Settling
 pub mod Stepping
+pub mod Viewing

@@ -1,6 +1,6 @@
 //! The steps that send nothing and let nothing pass: begins, stops and views.
-ghost use Rattle.std.specs.Prelude.{ℕ, ◌≡◌, ◌<◌, ◌≤◌, ◌+◌, ◌^◌, true, IfOk, OnErr, length};
-ghost use Rattle.zeus_base.specs.Nodes.{has};
+ghost use Rattle.std.specs.Prelude.{ℕ, ◌≡◌, ◌<◌, ◌+◌, ◌^◌, IfOk, OnErr, length, if◌then◌else◌};
+ghost use Rattle.zeus_base.specs.Nodes.{has, with_node};
 ghost use Rattle.zeus_base.specs.declared.step.Step.TheVariants.{Begin as BeginStep, Stop as StopStep, View as ViewStep};
 ghost use Rattle.zeus_model.specs.Book.{counted};
 ghost use Rattle.zeus_model.specs.Scripts.{FitsStep};
@@ -91,16 +91,20 @@ impl<'a> World<'a> {
         answer_alone(&mut self.book, Answer::Stop(stopped), report);
     }
 
+    /// The set with the node, if it has stopped.
+    fn with_stopped(&self, set: NodeSet, at: NodeId) -> NodeSet
+        ensures { result ≡ (if (node self.now at).stopped then with_node at set else set) }
+    {
+        if self.is_live(at) { set } else { set.insert(at) }
+    }
+
     /// The nodes that have stopped.
     fn stopped(&self) -> NodeSet
         ensures { (n : ℕ) → n < self.now.config.nodes → has n result ≡ (node self.now n).stopped }
     {
         let mut stopped = NodeSet::empty();
         for number in 0..self.config.nodes {
-            let at = NodeId(number);
-            if !self.is_live(at) {
-                stopped = stopped.insert(at);
-            }
+            stopped = self.with_stopped(stopped, NodeId(number));
         }
         stopped
     }
