@@ -9,11 +9,15 @@ use Rattle.zeus_base.specs.declared.step.Step.{Step}
 use Rattle.zeus_txn.specs.declared.tx.TxDecl.{TxDecl}
 use Rattle.zeus_model.specs.Scripts.{FitsStep, FitsTxs}
 use Rattle.zeus_model.specs.Sound.{Sound}
-use Rattle.zeus_model.specs.World.{World, run, start, stepped}
+use Rattle.zeus_model.specs.World.{World, happens, run, start, stepped}
 use Rattle.history_book.specs.Books.{BookState}
 use Rattle.reached_worlds.specs.Reached.{IsReached}
 use Rattle.reached_worlds.proofs.Reaching.{IsKnown, reached_known, reached_same}
+use Rattle.std.specs.Prelude.{Result, Ok, Err, IfOk, OnErr}
+use Rattle.zeus_base.specs.declared.step.NoMemory.{NoMemory}
 use Rattle.zeus_world.specs.Shown.{IsKept}
+use Rattle.zeus_world.specs.Taken.{IsTaken}
+use Rattle.zeus_world.specs.declared.report.Report.{Report}
 
 pub known : (w : World) (b : BookState) → IsKept w b → IsKnown w
 known w b k = reached_known w k.reached
@@ -71,3 +75,19 @@ kept_after w v s b c k f e nodes slots =
       nodes = nodes ∙ k.nodes ∙ sym (ap (λ (x : Config). x.nodes) config);
       slots = slots ∙ k.slots ∙ sym (ap (λ (x : Config). x.slots) config);
     }
+
+-- ---- what a step ensures
+
+-- the theorem that every run is sound
+abbrev pub EveryRunIsSound : Type 0
+EveryRunIsSound = (c : Config) (txs : List TxDecl) (steps : List Step) → KeepsLimits c → FitsTxs c txs → All (FitsStep c (length txs)) steps → (k : ℕ) → Sound (run (start c txs) (take k steps))
+
+pub sound_stepped : (w v : World) (s t : Step) → IsReached w → FitsStep w.config (length w.txs) s → EveryRunIsSound → s ≡ t → v ≡ (happens w t).world → Sound v
+sound_stepped w v s t r f sound is e =
+    let after : v ≡ stepped w s = e ∙ ap (λ (u : Step). stepped w u) (sym is) in
+    rw after (reached_sound (stepped w s) (reached_step w s r f) sound)
+
+pub sound_after : (w v : World) (s t : Step) (report : Report) (r : Result (Unit {0}) NoMemory) → IsReached w → FitsStep w.config (length w.txs) s → EveryRunIsSound → s ≡ t
+    → IfOk r (λ u. IsTaken report v (happens w t)) → OnErr r (v ≡ w) → Sound v
+sound_after w v s t report (Ok u) r f sound is ok err = sound_stepped w v s t r f sound is ok.becomes
+sound_after w v s t report (Err e) r f sound is ok err = rw err (reached_sound w r sound)

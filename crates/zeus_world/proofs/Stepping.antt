@@ -291,3 +291,11 @@ pub begun_counted : (b : Book) (k : ℕ) (a : BeginOutcome) (d : Book) → d ≡
 begun_counted b k a d e h =
     let same : d.steps ≡ b.steps = ap (λ (x : Book). x.steps) e ∙ begun_steps b k a in
     rw same h
+
+pub begin_there : (c : Config) (txs k : ℕ) → FitsStep c txs (Begin k) → k < txs
+unfolding FitsStep
+begin_there c txs k h = h
+
+pub stop_there : (c : Config) (txs n : ℕ) → FitsStep c txs (Stop n) → n < c.nodes
+unfolding FitsStep
+stop_there c txs n h = h
