@@ -76,6 +76,13 @@ impl DueList {
         self.sends.retain(|due| due.number != number);
     }
 
+    /// The sends that are due.
+    pub(crate) fn as_slice(&self) -> &[Due]
+        ensures { result.now ≡ self.now }
+    {
+        self.sends.as_slice()
+    }
+
     /// The send at this place from 0 among those to the members; none exactly past their end.
     pub(crate) fn get(&self, members: NodeSet, place: u32) -> Option<Due>
         ensures { result ≡ slice_get (filter (is_to members) self.now) place }

@@ -4,7 +4,7 @@ ghost use Rattle.std.specs.Option.{OnSome};
 ghost use Rattle.zeus_base.specs.Nodes.{has};
 ghost use Rattle.zeus_model.specs.Commit.{acked_pending, as_kept, no_pending, passes_at};
 ghost use Rattle.zeus_model.specs.Tables.{front, nth, put};
-ghost use Rattle.commit_pipeline.specs.Pipes.{acknowledged, counts, outstanding};
+ghost use Rattle.commit_pipeline.specs.Pipes.{acknowledged, all_due, counts, outstanding};
 
 use crate::due::{Due, DueList};
 use std::alloc::Global;
@@ -150,6 +150,14 @@ impl<W: Window<Pending>> PipeOver<W> {
         ensures { option_copied result ≡ slice_get self.now.pending place }
     {
         self.entries.get(place)
+    }
+
+    /// The sends that are due, of one pass: each pending entry in order of number to each follower that has not
+    /// acknowledged it, in node order.
+    pub fn due(&self) -> &[Due]
+        ensures { result.now ≡ all_due self.now }
+    {
+        self.due.as_slice()
     }
 
     /// The send at this place from 0 among those that are due to members: each pending entry in order of number, each

@@ -1,7 +1,6 @@
 -- The search over the streams of the nodes that are no members.
 use Rattle.std.proofs.Common.{ℕ, suc, ◌≡◌, ◌∙◌, ◌<◌, ◌≤◌, ◌+◌, ◌-◌, Bool, true, false, not, ◌&&◌, ◌==◌, List, [], ◌∷◌, ◌++◌, Option, Some, None, is_none, is_some, length, refl, sym, ap, add-one, arith}
 use Rattle.zeus_base.specs.Nodes.{has}
-use Rattle.zeus_base.specs.declared.config.Config.{Config}
 use Rattle.zeus_base.specs.declared.order.Stream.{Stream}
 use Rattle.zeus_model.specs.Commit.{none_stored, outside, streams_of, streams_outside}
 use Rattle.zeus_model.specs.State.{Node, StreamLog}
@@ -107,10 +106,8 @@ module _ (logs : List (List StreamLog)) (after : Option Stream) where
 
 -- ---- at a node
 
-pub next_stored-known : (n : Node) (logs : List (List StreamLog)) (members : List ℕ) (config : Config) (after : Option Stream) → IsNodeWith n logs members config → next_in logs after (streams_outside members (below config.slots) (below config.nodes)) ≡ next_stored n after
-next_stored-known n logs members config after is =
-    let nodes : length logs ≡ config.nodes = rw is.logs at is.nodes in
-    rw (is.logs, is.members, is.slots, nodes) refl
+pub next_stored-known : (n : Node) (logs : List (List StreamLog)) (members : List ℕ) (nodes slots : ℕ) (after : Option Stream) → length logs ≡ nodes → IsNodeWith n logs members slots → next_in logs after (streams_outside members (below slots) (below nodes)) ≡ next_stored n after
+next_stored-known n logs members nodes slots after there is = rw (is.logs, is.members, is.slots, there) refl
 
 none_stored-one : (b : Bool) (s : Stream) (r : Option Stream) → (b && is_none r) ≡ is_none (or_else (where_true (not b) s) r)
 unfolding or_else where_true

@@ -1,23 +1,21 @@
 -- Which streams of nodes that are no members a node has to replay.
 use Rattle.std.specs.Prelude.{ℕ, ◌≡◌, ◌<◌, Bool, true, ◌&&◌, not, ◌==◌, List, [], length, Option, Some, None}
 use Rattle.zeus_base.specs.Order.{is_before}
-use Rattle.zeus_base.specs.declared.config.Config.{Config}
 use Rattle.zeus_base.specs.declared.order.Stream.{Stream}
 use Rattle.zeus_model.specs.Commit.{outside}
 use Rattle.zeus_model.specs.State.{Node, StreamLog, no_log}
 use Rattle.zeus_model.specs.Tables.{first_of, nth, where_true}
-use Rattle.follower_log.specs.Streams.{IsStreamOf}
 
--- a node that has these streams and members, and as many nodes and slots as the configuration
-pub record IsNodeWith (n : Node) (streams : List (List StreamLog)) (ms : List ℕ) (config : Config) : Type 0 where
+-- a node that has these streams and members, and this many slots
+pub record IsNodeWith (n : Node) (streams : List (List StreamLog)) (ms : List ℕ) (count : ℕ) : Type 0 where
   pub logs : n.logs ≡ streams
   pub members : n.members ≡ ms
-  pub nodes : length n.logs ≡ config.nodes
-  pub slots : length n.slots ≡ config.slots
+  pub slots : length n.slots ≡ count
 
--- the stream of each node and slot of the configuration is there
-abbrev pub HasStreams : Config → List (List StreamLog) → Type 0
-HasStreams config logs = (s : Stream) → s.node < config.nodes → s.slot < config.slots → IsStreamOf logs s
+-- the streams are those of this many nodes, each of which has this many
+pub record HasStreams (nodes slots : ℕ) (logs : List (List StreamLog)) : Type 0 where
+  pub by_node : length logs ≡ nodes
+  pub by_slot : (i : ℕ) → i < nodes → length (nth [] logs i) ≡ slots
 
 -- whether a stream comes after another, where one is given
 unfoldable pub is_after : Option Stream → Stream → Bool

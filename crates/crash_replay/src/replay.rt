@@ -1,5 +1,5 @@
 //! Which foreign streams are to be replayed.
-ghost use Rattle.std.specs.Prelude.{◌≡◌, ◌<◌, ◌≤◌, ◌&&◌};
+ghost use Rattle.std.specs.Prelude.{◌≡◌, ℕ, ◌<◌, ◌≤◌, ◌&&◌};
 ghost use Rattle.zeus_model.specs.Commit.{none_stored, outside, streams_of};
 ghost use Rattle.zeus_model.specs.State.{Node};
 ghost use Rattle.zeus_model.specs.Tables.{below};
@@ -7,37 +7,38 @@ ghost use Rattle.follower_log.specs.Streams.{IsStreamOf};
 ghost use Rattle.crash_replay.specs.Replay.{HasStreams, IsNodeWith, is_after, is_stored, next_in, next_stored};
 
 use follower_log::Stored;
-use zeus_base::{Config, NodeId, NodeSet, SlotId, Stream};
+use zeus_base::{NodeId, NodeSet, SlotId, Stream};
 
-/// Whether no entry of a non-member's stream is stored, so whether every node with these streams and members, and as
-/// many nodes and slots as the configuration, has nothing to replay. Takes no memory.
-pub fn is_recovered(log: &Stored, config: &Config, members: NodeSet) -> bool
-    requires nodes { config.now.nodes ≤ 8 }
-    requires slots { config.now.slots ≤ 8 }
-    requires streams { HasStreams config.now log.now }
-    ensures { (n : Node) → IsNodeWith n log.now members config.now → result ≡ none_stored n (outside n) }
+/// Whether no entry of a non-member's stream is stored, so whether a node with these streams, members and slots has
+/// nothing to replay. The streams are those of `nodes` nodes with `slots` slots each. Takes no memory.
+pub fn is_recovered(log: &Stored, nodes: u8, slots: u8, members: NodeSet) -> bool
+    requires nodes { nodes ≤ 8 }
+    requires slots { slots ≤ 8 }
+    requires streams { HasStreams nodes slots log.now }
+    ensures { (n : Node) → IsNodeWith n log.now members slots → result ≡ none_stored n (outside n) }
 {
-    next_replay(log, config, members, None).is_none()
+    next_replay(log, nodes, slots, members, None).is_none()
 }
 
-/// The first stream after the given one, or of all, in the order of node and slot, whose node is no member and of
-/// which entries are stored, at every node with these streams and members and as many nodes and slots as the configuration.
-/// None exactly where there is no such stream. Takes no memory.
+/// The first stream after the given one, or of all, in the order of node and slot, whose node is no member and of which
+/// entries are stored, at every node with these streams, members and slots. `None` exactly if there is no such stream.
+/// The streams are those of `nodes` nodes with `slots` slots each. Takes no memory.
 pub fn next_replay(
     log: &Stored,
-    config: &Config,
+    nodes: u8,
+    slots: u8,
     members: NodeSet,
     after: Option<Stream>,
 ) -> Option<Stream>
-    requires nodes { config.now.nodes ≤ 8 }
-    requires slots { config.now.slots ≤ 8 }
-    requires streams { HasStreams config.now log.now }
-    ensures { (n : Node) → IsNodeWith n log.now members config.now → result ≡ next_stored n after }
+    requires nodes { nodes ≤ 8 }
+    requires slots { slots ≤ 8 }
+    requires streams { HasStreams nodes slots log.now }
+    ensures { (n : Node) → IsNodeWith n log.now members slots → result ≡ next_stored n after }
 {
-    for node in 0..config.nodes {
+    for node in 0..nodes {
         let node = NodeId(node);
         if !members.has(node) {
-            if let Some(stream) = next_of(log, config, node, &after) {
+            if let Some(stream) = next_of(log, slots, node, &after) {
                 return Some(stream);
             }
         }
@@ -46,13 +47,12 @@ pub fn next_replay(
 }
 
 /// The first stream of the node after the given one of which entries are stored.
-fn next_of(log: &Stored, config: &Config, node: NodeId, after: &Option<Stream>) -> Option<Stream>
-    requires node { node < config.now.nodes }
-    requires slots { config.now.slots ≤ 8 }
-    requires streams { HasStreams config.now log.now }
-    ensures { result ≡ next_in log.now after.now (streams_of node (below config.now.slots)) }
+fn next_of(log: &Stored, slots: u8, node: NodeId, after: &Option<Stream>) -> Option<Stream>
+    requires slots { slots ≤ 8 }
+    requires streams { (slot : ℕ) → slot < slots → IsStreamOf log.now (record { node = node; slot = slot }) }
+    ensures { result ≡ next_in log.now after.now (streams_of node (below slots)) }
 {
-    for slot in 0..config.slots {
+    for slot in 0..slots {
         let stream = &Stream {
             node,
             slot: SlotId(slot),

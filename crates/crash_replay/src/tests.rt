@@ -61,18 +61,18 @@ fn config(alloc: Global) -> Result<Config, AllocError>
 
 /// What is stored at the start of a run.
 fn start(alloc: Global, config: &Config) -> Result<Stored, NoMemory>
-    ensures { IfOk result (λ log. HasStreams config.now log) }
+    ensures { IfOk result (λ log. HasStreams config.now.nodes config.now.slots log) }
 {
     let log = Stored::new(alloc, config)?;
     Ok(log)
 }
 
 /// Stores the first entry of the stream.
-fn store_first(alloc: Global, config: &Config, log: &mut Stored, stream: &Stream) -> Store
-    requires node { stream.now.node < config.now.nodes }
-    requires slot { stream.now.slot < config.now.slots }
-    requires streams { HasStreams config.now log.old }
-    ensures { HasStreams config.now log.new }
+fn store_first(alloc: Global, log: &mut Stored, stream: &Stream) -> Store
+    requires node { stream.now.node < 4 }
+    requires slot { stream.now.slot < 2 }
+    requires streams { HasStreams 4 2 log.old }
+    ensures { HasStreams 4 2 log.new }
 {
     log.store(&entry(alloc, stream))
 }
@@ -83,30 +83,27 @@ fn replays_the_streams_of_nodes_outside_in_order(rt: HostRuntime) -> Result<(), 
     let config = &config(alloc)?;
     let mut log = start(alloc, config)?;
     let members = NodeSet::empty().insert(NodeId(0)).insert(NodeId(2));
-    assert!(rt; is_recovered(&log, config, members));
+    assert!(rt; is_recovered(&log, 4, 2, members));
     let member = &stream(NodeId(2), SlotId(1));
-    assert_eq!(rt; store_first(alloc, config, &mut log, member), Store::Stored);
-    assert!(rt; is_recovered(&log, config, members));
-    assert_eq!(rt; next_replay(&log, config, members, None), None);
+    assert_eq!(rt; store_first(alloc, &mut log, member), Store::Stored);
+    assert!(rt; is_recovered(&log, 4, 2, members));
+    assert_eq!(rt; next_replay(&log, 4, 2, members, None), None);
     let second = &stream(NodeId(3), SlotId(0));
-    assert_eq!(rt; store_first(alloc, config, &mut log, second), Store::Stored);
+    assert_eq!(rt; store_first(alloc, &mut log, second), Store::Stored);
     let first = &stream(NodeId(1), SlotId(1));
-    assert_eq!(rt; store_first(alloc, config, &mut log, first), Store::Stored);
-    assert!(rt; !is_recovered(&log, config, members));
-    assert_eq!(rt; next_replay(&log, config, members, None), Some(*first));
+    assert_eq!(rt; store_first(alloc, &mut log, first), Store::Stored);
+    assert!(rt; !is_recovered(&log, 4, 2, members));
+    assert_eq!(rt; next_replay(&log, 4, 2, members, None), Some(*first));
     assert_eq!(rt;
-        next_replay(&log, config, members, Some(*first)),
+        next_replay(&log, 4, 2, members, Some(*first)),
         Some(*second)
     );
     assert_eq!(rt;
-        next_replay(&log, config, members, Some(*member)),
+        next_replay(&log, 4, 2, members, Some(*member)),
         Some(*second)
     );
-    assert_eq!(rt; next_replay(&log, config, members, Some(*second)), None);
+    assert_eq!(rt; next_replay(&log, 4, 2, members, Some(*second)), None);
     let none = NodeSet::empty();
-    assert_eq!(rt;
-        next_replay(&log, config, none, Some(*first)),
-        Some(*member)
-    );
+    assert_eq!(rt; next_replay(&log, 4, 2, none, Some(*first)), Some(*member));
     Ok(())
 }

@@ -38,10 +38,12 @@ pub(crate) fn cause(
     if pipe.len() as usize == WINDOW_DEPTH {
         return Some(WriteTry::PipeFull);
     }
-    if let Some(object) = first_not_owned(dir, me, tx) {
+    let named = tx.named();
+    let objects = named.as_slice();
+    if let Some(object) = first_not_owned(dir, me, objects) {
         return Some(WriteTry::NotOwner(object));
     }
-    if let Some(held) = first_held(copies, slot, tx) {
+    if let Some(held) = first_held(copies, slot, objects) {
         return Some(WriteTry::Held(held.object, held.slot));
     }
     if is_worn(copies, pipe, tx) {
@@ -50,13 +52,12 @@ pub(crate) fn cause(
     None
 }
 
-/// The first named object that the node does not own.
-fn first_not_owned(dir: &Dir, me: NodeId, tx: &Tx) -> Option<ObjId>
-    requires { All (λ x. x < length dir.now.entries) (named tx.now) }
-    ensures { told_not_owned result ≡ first_of (owner_at me dir.now.entries) (named tx.now) }
+/// The first of the objects that the node does not own.
+fn first_not_owned(dir: &Dir, me: NodeId, objects: &[ObjId]) -> Option<ObjId>
+    requires { All (λ x. x < length dir.now.entries) objects.now }
+    ensures { told_not_owned result ≡ first_of (owner_at me dir.now.entries) objects.now }
 {
-    let named = tx.named();
-    for object in named.as_slice() {
+    for object in objects {
         if !dir.entry(*object).owns(me) {
             return Some(*object);
         }
@@ -64,12 +65,11 @@ fn first_not_owned(dir: &Dir, me: NodeId, tx: &Tx) -> Option<ObjId>
     None
 }
 
-/// The first named object that another slot holds.
-fn first_held(copies: &Copies, slot: SlotId, tx: &Tx) -> Option<HeldBy>
-    ensures { told_held result ≡ first_of (held_at slot copies.now.holds) (named tx.now) }
+/// The first of the objects that another slot holds.
+fn first_held(copies: &Copies, slot: SlotId, objects: &[ObjId]) -> Option<HeldBy>
+    ensures { told_held result ≡ first_of (held_at slot copies.now.holds) objects.now }
 {
-    let named = tx.named();
-    for object in named.as_slice() {
+    for object in objects {
         let found = held_by_another(copies, slot, *object);
         if found.is_some() {
             return found;

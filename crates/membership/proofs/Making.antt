@@ -1,18 +1,17 @@
 -- When a view is made, and what is then the last one.
-use Rattle.std.proofs.Common.{ℕ, zero, suc, ◌≡◌, ◌∙◌, ◌<◌, ◌+◌, ◌-◌, Bool, true, false, not, ◌&&◌, List, [], ◌∷◌, ◌++◌, Some, None, length, refl, sym, ap, add-one, arith}
+use Rattle.std.proofs.Common.{ℕ, ◌≡◌, ◌∙◌, ◌<◌, ◌+◌, ◌-◌, Bool, true, false, not, ◌&&◌, List, [], ◌∷◌, ◌++◌, Some, None, length, refl, sym, arith}
 use Rattle.std.specs.Prelude.{◌||◌, if◌then◌else◌}
 use Rattle.std.specs.List.{find}
 use Rattle.std.specs.Option.{option_map}
 use Rattle.std.proofs.Math.ListN.{get_or}
-use Rattle.std.proofs.lemmas.Bool.{le-ltb, ne_eqb}
 use Rattle.std.proofs.lemmas.List.{get_or_default, length_push}
-use Rattle.zeus_base.specs.Nodes.{has, join, with_node}
+use Rattle.zeus_base.specs.Nodes.{has, join}
 use Rattle.zeus_base.specs.NodeLaws.{has-head, has-join, has-tail}
 use Rattle.zeus_base.specs.declared.step.Step.TheVariants.{View as ViewStep}
 use Rattle.zeus_model.specs.declared.answer.Answer.TheVariants.{View as ViewAnswer}
 use Rattle.zeus_model.specs.declared.answer.Made.{Made}
 use Rattle.zeus_model.specs.declared.answer.Made.TheVariants.{Empty, Installed, NotMember, NotStopped}
-use Rattle.zeus_model.specs.Tables.{below, first_of, numbers_from, or_else, where_true}
+use Rattle.zeus_model.specs.Tables.{first_of, or_else, where_true}
 use Rattle.zeus_model.specs.World.{World, happens, is_empty, last_view, node, refuse_step, view_or_not, view_refused}
 use Rattle.membership.specs.Views.{IsWorldWith}
 

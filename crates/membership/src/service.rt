@@ -1,5 +1,5 @@
 //! The views of a run, and who may make the next one.
-ghost use Rattle.std.specs.Prelude.{◌≡◌, ◌↔◌, ◌⊎◌, ◌<◌, ◌≤◌, ◌+◌, ◌-◌, ◌^◌, true, not, ℕ, List, [], ◌∷◌, IfOk, IfSome, IsNone, OnErr, length};
+ghost use Rattle.std.specs.Prelude.{◌≡◌, ◌↔◌, ◌⊎◌, ◌<◌, ◌≤◌, ◌+◌, ◌-◌, ◌^◌, true, not, ℕ, List, [], ◌∷◌, IfOk, IfSome, IsNone, None, OnErr, length};
 ghost use Rattle.std.specs.List.{find};
 ghost use Rattle.zeus_base.specs.Nodes.{has};
 ghost use Rattle.zeus_base.specs.declared.step.Step.TheVariants.{View as ViewStep};
@@ -53,13 +53,14 @@ impl Service {
     ///
     /// # Errors
     ///
-    /// `NoMemory` where the memory for the view is not there; nothing has changed then.
+    /// `NoMemory` where the view would be made and the memory for it is not there; nothing has changed then.
     pub fn view(&mut self, members: NodeSet, stopped: NodeSet) -> Result<Made, NoMemory>
         requires room { length self.old < 2 ^ 32 - 1 }
         ensures answer { IfOk result (λ made. (w : World) → IsWorldWith w self.old stopped → ViewAnswer made ≡ (happens w (ViewStep members)).answer) }
         ensures after { IfOk result (λ made. (w : World) → IsWorldWith w self.old stopped → self.new ≡ (stepped w (ViewStep members)).views) }
         ensures most { length self.new ≤ length self.old + 1 }
         ensures err { OnErr result (self.new ≡ self.old) }
+        ensures unmade { OnErr result ((w : World) → IsWorldWith w self.old stopped → view_refused w members ≡ None) }
     {
         if let Some(refused) = view_refused(self.last(), members, stopped) {
             return Ok(refused);

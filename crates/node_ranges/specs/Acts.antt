@@ -34,9 +34,11 @@ to_nodes-fit limits n tos body h tos_fit fit = to_each-fit limits n tos body h (
 
 -- ---- acts
 
+-- a node that does nothing keeps its ranges
 pub KeepsAndFits-still : (limits : Limits) (n : Node) → KeepsRanges limits n → KeepsAndFits limits n []
 KeepsAndFits-still limits n k = record { node = k; sent = AllFit-none limits }
 
+-- what two acts send fits where what each sends fits
 pub KeepsAndFits-joined : (limits : Limits) (m n : Node) (a b : List Letter) → KeepsAndFits limits m a → KeepsAndFits limits n b → KeepsAndFits limits n (a ++ b)
 KeepsAndFits-joined limits m n a b h g = record { node = g.node; sent = AllFit-append limits a b h.sent g.sent }
 
@@ -44,9 +46,11 @@ KeepsAndFits-joined limits m n a b h g = record { node = g.node; sent = AllFit-a
 abbrev pub Keeping : Limits → (Node → Act) → Type 0
 Keeping limits f = (n : Node) → KeepsRanges limits n → KeepsAndFits limits (f n).node (f n).sent
 
+-- one act after another
 pub KeepsAndFits-then : (limits : Limits) (a : Act) (next : Node → Act) → KeepsAndFits limits a.node a.sent → Keeping limits next → KeepsAndFits limits (and_then a next).node (and_then a next).sent
 KeepsAndFits-then limits a next h g = KeepsAndFits-joined limits a.node (next a.node).node a.sent (next a.node).sent h (g a.node h.node)
 
+-- an answer, and then an act
 pub KeepsAndFits-did_then : {A : Type 0} (limits : Limits) (d : Did A) (next : Node → Act) → KeepsAndFits limits d.node d.sent → Keeping limits next → KeepsAndFits limits (did_then d next).node (did_then d next).sent
 KeepsAndFits-did_then limits d next h g = KeepsAndFits-joined limits d.node (next d.node).node d.sent (next d.node).sent h (g d.node h.node)
 

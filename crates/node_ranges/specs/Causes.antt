@@ -28,11 +28,13 @@ unfoldable pub CauseFits : Limits → Option Cause → Type 0
 CauseFits limits None = Unit {0}
 CauseFits limits (Some c) = cause_fits limits c ≡ true
 
+-- the first of two causes fits where both do
 pub CauseFits-or_else : (limits : Limits) (a b : Option Cause) → CauseFits limits a → CauseFits limits b → CauseFits limits (or_else a b)
 unfolding or_else
 CauseFits-or_else limits None b h g = g
 CauseFits-or_else limits (Some c) b h g = h
 
+-- a cause that stands where a test holds fits where the cause does
 pub CauseFits-where : (limits : Limits) (test : Bool) (c : Cause) → cause_fits limits c ≡ true → CauseFits limits (where_true test c)
 unfolding where_true CauseFits
 CauseFits-where limits true c h = h
@@ -50,12 +52,14 @@ first_slot test i (suc k) s h =
       | false ↦ λ later. omega (arith, first_slot test (suc i) k s later)
     ] h
 
+-- the slot that holds an object is one that there is
 pub holder-within : (limits : Limits) (n : Node) (x s : ℕ) → KeepsRanges limits n → holder n x ≡ Some s → s < limits.slots
 unfolding holder
 holder-within limits n x s k h =
     let found = first_slot (λ t. pending_names x (slot n t).pending) 0 (length n.slots) s h in
     omega (arith, k.sizes.slots)
 
+-- so is the one that keeps it
 pub keeper-within : (limits : Limits) (n : Node) (x s : ℕ) → KeepsRanges limits n → keeper n x ≡ Some s → s < limits.slots
 unfolding keeper
 keeper-within limits n x s k h =

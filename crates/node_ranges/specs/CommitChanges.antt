@@ -22,10 +22,12 @@ use Rattle.node_ranges.specs.Ranges.{FitsKept, FitsPending, FitsSlot, FitsLog, K
 
 -- ---- writes of copies
 
+-- a write that fits is of an object that there is
 pub write_fits-object : (limits : Limits) (w : Write) → write_fits limits w ≡ true → w.obj < limits.objects
 unfolding write_fits
 write_fits-object limits w h = object_fits-less limits w.obj (and_parts _ (value_fits limits w.value) h).0
 
+-- and its value fits
 pub write_fits-value : (limits : Limits) (w : Write) → write_fits limits w ≡ true → value_fits limits w.value ≡ true
 unfolding write_fits
 write_fits-value limits w h = (and_parts _ (value_fits limits w.value) h).1
@@ -34,16 +36,19 @@ write_fits-value limits w h = (and_parts _ (value_fits limits w.value) h).1
 abbrev pub LeavesFit : Limits → (Write → Option Copy → Option Copy) → Type 0
 LeavesFit limits f = (w : Write) (c : Option Copy) → value_fits limits w.value ≡ true → value_fits limits (value_of c) ≡ true → value_fits limits (value_of (f w c)) ≡ true
 
+-- validating leaves a value that fits
 pub LeavesFit-validated : (limits : Limits) → LeavesFit limits validated
 unfolding validated value_of
 LeavesFit-validated limits w None h g = g
 LeavesFit-validated limits w (Some c) h g = cond_both (c.ver == w.ver) (Some _) (Some c) (λ o. value_fits limits (value_of o) ≡ true) (λ _. g) (λ _. g)
 
+-- so does a write that a follower takes
 pub LeavesFit-applied : (limits : Limits) → LeavesFit limits applied
 unfolding applied value_of
 LeavesFit-applied limits w None h g = g
 LeavesFit-applied limits w (Some c) h g = cond_both (nat_lt c.ver w.ver) (Some _) (Some c) (λ o. value_fits limits (value_of o) ≡ true) (λ _. h) (λ _. g)
 
+-- and one that the owner makes
 pub LeavesFit-rewritten : (limits : Limits) → LeavesFit limits rewritten_copy
 unfolding rewritten_copy value_of
 LeavesFit-rewritten limits w None h g = g
@@ -59,6 +64,7 @@ KeepsRanges-each_write limits f n (w ∷ ws) leaves h k =
     KeepsRanges-each_write limits f (with_copy n w.obj after) ws leaves both.1
     (KeepsRanges-with_copy limits n w.obj after (write_fits-object limits w both.0) (leaves w (copy n w.obj) (write_fits-value limits w both.0) (k.copies w.obj)) k)
 
+-- the writes of entries that fit, fit
 pub writes_of-fit : (limits : Limits) (ks : List Kept) → All (FitsKept limits) ks → list_all (write_fits limits) (writes_of ks) ≡ true
 unfolding writes_of
 writes_of-fit limits [] h = refl
@@ -72,9 +78,11 @@ KeepsRanges-after_passing limits n ks h k = KeepsRanges-each_write limits valida
 
 -- ---- entries that pass
 
+-- pending entries that fit do so as stored ones
 pub FitsKept-pending : (limits : Limits) (me : ℕ) (ps : List Pending) → All (FitsPending limits me) ps → All (FitsKept limits) (map as_kept ps)
 FitsKept-pending limits me ps h = All-map (FitsKept limits) as_kept ps (All-weaker (FitsPending limits me) (λ p. FitsKept limits (as_kept p)) (λ p fit. fit.entry) ps h)
 
+-- a slot fits after its first entries have passed
 pub FitsSlot-passed : (limits : Limits) (me k : ℕ) (l : Slot) → k ≤ length l.pending → FitsSlot limits me l → FitsSlot limits me record { current = l.current; done = l.done + k; pending = drop k l.pending }
 FitsSlot-passed limits me k l less h =
     let size = length-drop k l.pending in
@@ -93,6 +101,7 @@ KeepsRanges-pass_own limits n s k within less h =
     KeepsRanges-with_slot limits (after_passing n ks) s record { current = (slot n s).current; done = (slot n s).done + k; pending = drop k (slot n s).pending }
     within (FitsSlot-passed limits n.me k (slot n s) less (h.slots s)) passed
 
+-- so does a stream
 pub FitsLog-passed : (limits : Limits) (k : ℕ) (l : StreamLog) → FitsLog limits l → FitsLog limits record { done = l.done + k; kept = drop k l.kept }
 FitsLog-passed limits k l h =
     let size = length-drop k l.kept in
@@ -109,6 +118,7 @@ KeepsRanges-pass_kept limits n s k node within h =
     let passed = KeepsRanges-after_passing limits n ks (All-take (FitsKept limits) k (log n s).kept (h.logs s).kept) h in
     KeepsRanges-with_log limits (after_passing n ks) s record { done = (log n s).done + k; kept = drop k (log n s).kept } node within (FitsLog-passed limits k (log n s) (h.logs s)) passed
 
+-- and one that was raised
 pub FitsLog-raised : (limits : Limits) (d : ℕ) (l : StreamLog) → l.done < d → FitsLog limits l → FitsLog limits record { done = d; kept = drop (d - l.done) l.kept }
 FitsLog-raised limits d l less h =
     let size = length-drop (d - l.done) l.kept in
@@ -143,14 +153,17 @@ pub record InvParts (limits : Limits) (r : RInv) : Type 0 where
   pub writes : list_all (write_fits limits) r.writes ≡ true
   pub once : are_once r.writes ≡ true
 
+-- a stream that fits is of a node
 pub stream_fits-node : (limits : Limits) (s : Stream) → stream_fits limits s ≡ true → s.node < limits.nodes
 unfolding stream_fits
 stream_fits-node limits s h = ltb-true s.node limits.nodes (and_parts (nat_lt s.node limits.nodes) (nat_lt s.slot limits.slots) h).0
 
+-- and of a slot
 pub stream_fits-slot : (limits : Limits) (s : Stream) → stream_fits limits s ≡ true → s.slot < limits.slots
 unfolding stream_fits
 stream_fits-slot limits s h = ltb-true s.slot limits.slots (and_parts (nat_lt s.node limits.nodes) (nat_lt s.slot limits.slots) h).1
 
+-- the parts of the letter of an entry that fits
 pub inv_fits-parts : (limits : Limits) (r : RInv) → inv_fits limits r ≡ true → InvParts limits r
 unfolding inv_fits writes_fit
 inv_fits-parts limits r h =

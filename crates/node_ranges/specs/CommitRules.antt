@@ -28,6 +28,7 @@ use Rattle.node_ranges.specs.Places.{AllFit-one}
 use Rattle.node_ranges.specs.Ranges.{AllFit, FitsKept, KeepsRanges, KeepsAndFits}
 use Rattle.node_ranges.specs.SlotChanges.{acked_slot, acked_log, KeepsRanges-acked_pending, KeepsRanges-acked_kept, KeepsRanges-heard}
 
+-- a stream of a node and a slot fits
 pub stream_fits-from : (limits : Limits) (s : Stream) → s.node < limits.nodes → s.slot < limits.slots → stream_fits limits s ≡ true
 unfolding stream_fits
 stream_fits-from limits s node within = and_from (nat_lt s.node limits.nodes) (nat_lt s.slot limits.slots) (lt-ltb s.node limits.nodes node) (lt-ltb s.slot limits.slots within)
@@ -104,6 +105,7 @@ stored_rinv-keeps limits n from r less fit k =
       sent = ack;
     })))
 
+-- R-INV
 pub on_rinv-keeps : (limits : Limits) (n : Node) (from : ℕ) (r : RInv) → from < limits.nodes → inv_fits limits r ≡ true → KeepsRanges limits n → KeepsAndFits limits (on_rinv n from r).node (on_rinv n from r).sent
 unfolding on_rinv
 on_rinv-keeps limits n from r less fit k =
@@ -144,6 +146,7 @@ on_kept_rack-keeps limits n from s number fit k =
     (within-place number (log n s).done (length (log n s).kept) (and_parts stands new counts).0) k))
     (λ _. KeepsAndFits-still limits n k)
 
+-- R-ACK, for own streams and for foreign ones
 pub on_rack-keeps : (limits : Limits) (n : Node) (from : ℕ) (s : Stream) (number : ℕ) → stream_fits limits s ≡ true → KeepsRanges limits n → KeepsAndFits limits (on_rack n from s number).node (on_rack n from s number).sent
 unfolding on_rack
 on_rack-keeps limits n from s number fit k =
@@ -197,6 +200,7 @@ streams_outside-fit limits members slots i (suc k) most h =
 pub outside-fit : (limits : Limits) (n : Node) → KeepsRanges limits n → All (λ s. stream_fits limits s ≡ true) (outside n)
 outside-fit limits n k = streams_outside-fit limits n.members (length n.slots) 0 (length n.logs) (omega (arith, k.sizes.slots)) (omega (arith, k.sizes.nodes))
 
+-- a node that reports keeps its ranges
 pub report-keeps : (limits : Limits) → Keeping limits report
 unfolding report body_fits
 report-keeps limits n k =

@@ -32,7 +32,7 @@ use Rattle.object_table.specs.Entries.{AreEntriesWithin}
 use Rattle.object_table.specs.Table.{AreWithin}
 use Rattle.follower_log.specs.Streams.{IsStreamOf}
 use Rattle.reliable_commit.specs.Following.{IsFollowed}
-use Rattle.node_ranges.specs.CommitChanges.{write_fits-object, writes_of-fit, inv_fits-parts}
+use Rattle.node_ranges.specs.CommitChanges.{write_fits-object, writes_of-fit, inv_fits-parts, stream_fits-node, stream_fits-slot}
 use Rattle.node_ranges.specs.Ranges.{limits_of, FitsHeld, FitsEntry, FitsGather, FitsKept, FitsPending, OpFits, FitsCurrent, FitsSlot, FitsLog, KeepsRanges}
 
 -- ---- what the parts ask for
@@ -68,6 +68,10 @@ stream-there limits n s k node within =
       slot = let row : length (nth [] n.logs s.node) ≡ limits.slots = k.sizes.streams s.node node in omega arith;
     }
 
+-- each stream that fits is there
+pub stream-at : (limits : Limits) (n : Node) (s : Stream) → KeepsRanges limits n → stream_fits limits s ≡ true → IsStreamOf n.logs s
+stream-at limits n s k fit = stream-there limits n s k (stream_fits-node limits s fit) (stream_fits-slot limits s fit)
+
 -- and its stored entries are of objects that there are
 pub stream-followed : (limits : Limits) (n : Node) (s : Stream) → KeepsRanges limits n → s.node < limits.nodes → s.slot < limits.slots → IsFollowed (length n.copies) n.logs s
 stream-followed limits n s k node within =
@@ -82,6 +86,7 @@ stream-followed limits n s k node within =
 abbrev pub with_texts : Limits → Limits
 with_texts limits = record { version = 2; nodes = limits.nodes; slots = limits.slots; objects = limits.objects }
 
+-- a value that fits does so where there are texts too
 pub value_fits-texts : (limits : Limits) (v : Value) → value_fits limits v ≡ true → value_fits (with_texts limits) v ≡ true
 unfolding value_fits
 value_fits-texts limits (Num n) h = refl

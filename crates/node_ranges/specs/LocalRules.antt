@@ -45,6 +45,7 @@ unfolding begin_free FitsCurrent
 begin_free-keeps limits n s c (Some other) within fit k = KeepsAndFits-still limits n k
 begin_free-keeps limits n s c None within fit k = KeepsAndFits-still limits (with_current n s (Some c)) (KeepsRanges-with_current limits n s (Some c) within fit k)
 
+-- a transaction that fits is begun
 pub begin-keeps : (limits : Limits) (n : Node) (s id : ℕ) (tx : List Op) → s < limits.slots → FitsTx limits tx → KeepsRanges limits n → KeepsAndFits limits (begin n s id tx).node (begin n s id tx).sent
 unfolding begin
 begin-keeps limits n s id tx within fit k =
@@ -84,6 +85,7 @@ ask-fit limits n want (x ∷ xs) (Some d) k all h =
 pub requests-fit : (limits : Limits) (n : Node) (want : Want) (xs : List ℕ) → KeepsRanges limits n → All (λ x. x < limits.objects) xs → AllFit limits (requests n want xs)
 requests-fit limits n want xs k all = ask-fit limits n want xs (driver n) k all (λ d is. driver-fits limits n d k is)
 
+-- what holds of each object holds of those that the node does not own
 pub not_owned-within : (P : ℕ → Type 0) (n : Node) (xs : List ℕ) → All P xs → All P (not_owned n xs)
 unfolding not_owned
 not_owned-within P n [] all = all
@@ -91,6 +93,7 @@ not_owned-within P n (x ∷ xs) all =
     let rest = not_owned-within P n xs (All-tail P x xs all) in
     cond_both (owns n x) (not_owned n xs) (x ∷ not_owned n xs) (λ ys. All P ys) (λ _. rest) (λ _. All-cons P x (not_owned n xs) (All-head P x xs all) rest)
 
+-- and of those that it has no copy of
 pub not_copied-within : (P : ℕ → Type 0) (n : Node) (xs : List ℕ) → All P xs → All P (not_copied n xs)
 unfolding not_copied
 not_copied-within P n [] all = all
@@ -240,6 +243,7 @@ try_current-keeps limits n s (Some c) within fit k =
     cond_both (is_write c.tx) (write_row n s c (write_cause n s c.tx)) (read_row n s c (hindrance n c.tx)) (λ (d : Did Tried). KeepsAndFits limits d.node d.sent)
     (λ _. write_row-keeps limits n s c (write_cause n s c.tx) refl within fit k) (λ _. read_row-keeps limits n s c (hindrance n c.tx) within fit k)
 
+-- a slot of the node is tried
 pub try_slot-keeps : (limits : Limits) (n : Node) (s : ℕ) → s < limits.slots → KeepsRanges limits n → KeepsAndFits limits (try_slot n s).node (try_slot n s).sent
 unfolding try_slot
 try_slot-keeps limits n s within k =

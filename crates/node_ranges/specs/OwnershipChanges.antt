@@ -31,6 +31,7 @@ unfolding FitsGather gather_above where_true
 FitsGather-above limits stamp None h = tt
 FitsGather-above limits stamp (Some g) h = cond_both (is_below stamp g.proposal.stamp) (Some g) None (λ o. FitsGather limits o) (λ _. h) (λ _. tt)
 
+-- an entry fits after a stamp and a placement that fit were settled
 pub FitsEntry-settled : (limits : Limits) (e : Entry) (stamp : Stamp) (place : Place) → stamp_fits limits stamp ≡ true → place_fits limits place ≡ true → FitsEntry limits e → FitsEntry limits (settled_entry e stamp place)
 FitsEntry-settled limits e stamp place s p h = record { stamp = s; place = p; proposal = FitsHeld-above limits stamp e.proposal h.proposal }
 

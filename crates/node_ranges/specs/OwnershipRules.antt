@@ -83,7 +83,8 @@ want_fits-asked Own requester place h = refl
 want_fits-asked Read requester place h = refl
 want_fits-asked Leave requester place h = leave_fits (place.owner == requester) (has requester place.replicas) (where_true-none _ _ h)
 
-request-wants : (n : Node) (x requester : ℕ) (want : Want) → request_cause n x requester want ≡ None → want_cause want requester (entry n x).place ≡ None
+-- a request that nothing stands against has a wish that the settled placement allows
+pub request-wants : (n : Node) (x requester : ℕ) (want : Want) → request_cause n x requester want ≡ None → want_cause want requester (entry n x).place ≡ None
 unfolding request_cause drive_cause
 request-wants n x requester want h =
     let one = or_else-none _ _ (or_else-none _ _ h).0 in
@@ -91,7 +92,7 @@ request-wants n x requester want h =
     (or_else-none _ _ two.1).0
 
 -- what a node drives of a request of a node fits
-driven-fits : (limits : Limits) (n : Node) (x requester : ℕ) (want : Want) → x < limits.objects → requester < limits.nodes → want_cause want requester (entry n x).place ≡ None → KeepsRanges limits n → proposal_fits limits (driven n x requester want) ≡ true
+pub driven-fits : (limits : Limits) (n : Node) (x requester : ℕ) (want : Want) → x < limits.objects → requester < limits.nodes → want_cause want requester (entry n x).place ≡ None → KeepsRanges limits n → proposal_fits limits (driven n x requester want) ≡ true
 driven-fits limits n x requester want within less none k =
     let e = k.entries x within in
     proposal_fits-from limits (driven n x requester want) (record {
@@ -135,6 +136,7 @@ advice-fits limits n x p cause within fit c k =
     cond_both (has p.requester n.members) (letter n p.requester (ONack x p.stamp cause) ∷ []) [] (λ ls. AllFit limits ls)
     (λ _. nack-fits limits n p.requester x p.stamp cause parts.requester within parts.stamp c k) (λ _. AllFit-none limits)
 
+-- the collector is a node
 pub collector-within : (limits : Limits) (n : Node) (p : Proposal) (other : ℕ) → proposal_fits limits p ≡ true → other < limits.nodes → collector n p other < limits.nodes
 unfolding collector
 collector-within limits n p other fit less =
@@ -191,6 +193,7 @@ decide_gathered-keeps limits n x (Some g) within is k =
     cond_both (is_decidable n g) (decide_on n x g.proposal g.content) (still n) (λ (a : Act). KeepsAndFits limits a.node a.sent)
     (λ _. decide_on-keeps limits n x g.proposal g.content within fit.proposal fit.content k) (λ _. KeepsAndFits-still limits n k)
 
+-- a node decides what it has gathered
 pub decide-keeps : (limits : Limits) (x : ℕ) → x < limits.objects → Keeping limits (decide x)
 decide-keeps limits x within n k = decide_gathered-keeps limits n x (gather n x) within refl k
 

@@ -23,6 +23,7 @@ nth-put P d xs i v here there j =
       | inr other ↦ rw (nth-put_other d xs i j v other) (there j)
     ]
 
+-- what it knows of the placement of an object
 pub KeepsRanges-with_entry : (limits : Limits) (n : Node) (x : ℕ) (e : Entry) → x < limits.objects → FitsEntry limits e → KeepsRanges limits n → KeepsRanges limits (with_entry n x e)
 KeepsRanges-with_entry limits n x e less fit k =
     record {
@@ -43,6 +44,7 @@ KeepsRanges-with_entry limits n x e less fit k =
       logs = k.logs;
     }
 
+-- its copies
 pub KeepsRanges-with_copies : (limits : Limits) (n : Node) (copies : List (Option Copy)) → length copies ≡ limits.objects → ((x : ℕ) → value_fits limits (value_of (nth None copies x)) ≡ true) → KeepsRanges limits n → KeepsRanges limits (with_copies n copies)
 KeepsRanges-with_copies limits n copies size fit k =
     record {
@@ -63,11 +65,13 @@ KeepsRanges-with_copies limits n copies size fit k =
       logs = k.logs;
     }
 
+-- its copy of an object
 pub KeepsRanges-with_copy : (limits : Limits) (n : Node) (x : ℕ) (c : Option Copy) → x < limits.objects → value_fits limits (value_of c) ≡ true → KeepsRanges limits n → KeepsRanges limits (with_copy n x c)
 KeepsRanges-with_copy limits n x c less fit k =
     KeepsRanges-with_copies limits n (put None n.copies x c) (length-put None n.copies x c (omega (arith, k.sizes.copies)) ∙ k.sizes.copies)
     (nth-put (λ (_ : ℕ) (d : Option Copy). value_fits limits (value_of d) ≡ true) None n.copies x c fit k.copies) k
 
+-- what it has gathered for an object
 pub KeepsRanges-with_gather : (limits : Limits) (n : Node) (x : ℕ) (g : Option Gather) → x < limits.objects → FitsGather limits g → KeepsRanges limits n → KeepsRanges limits (with_gather n x g)
 KeepsRanges-with_gather limits n x g less fit k =
     record {
@@ -88,6 +92,7 @@ KeepsRanges-with_gather limits n x g less fit k =
       logs = k.logs;
     }
 
+-- an own slot
 pub KeepsRanges-with_slot : (limits : Limits) (n : Node) (s : ℕ) (l : Slot) → s < limits.slots → FitsSlot limits n.me l → KeepsRanges limits n → KeepsRanges limits (with_slot n s l)
 KeepsRanges-with_slot limits n s l less fit k =
     record {
@@ -112,6 +117,7 @@ KeepsRanges-with_slot limits n s l less fit k =
 abbrev row_after : Node → Stream → StreamLog → List StreamLog
 row_after n s l = put no_log (nth [] n.logs s.node) s.slot l
 
+-- a foreign stream
 pub KeepsRanges-with_log : (limits : Limits) (n : Node) (s : Stream) (l : StreamLog) → s.node < limits.nodes → s.slot < limits.slots → FitsLog limits l → KeepsRanges limits n → KeepsRanges limits (with_log n s l)
 KeepsRanges-with_log limits n s l node slot fit k =
     let row : length (nth [] n.logs s.node) ≡ limits.slots = k.sizes.streams s.node node in

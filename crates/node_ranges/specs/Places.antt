@@ -24,6 +24,7 @@ pub record PlaceParts (limits : Limits) (place : Place) : Type 0 where
   pub replicas : nodes_fit limits place.replicas ≡ true
   pub own_copy : has place.owner place.replicas ≡ true
 
+-- a placement that fits has these parts
 pub place_fits-parts : (limits : Limits) (place : Place) → place_fits limits place ≡ true → PlaceParts limits place
 unfolding place_fits
 place_fits-parts limits place h =
@@ -31,24 +32,29 @@ place_fits-parts limits place h =
     let two = and_parts (nat_lt place.owner limits.nodes) (nodes_fit limits place.replicas) one.0 in
     record { owner = ltb-true place.owner limits.nodes two.0; replicas = two.1; own_copy = one.1 }
 
+-- and one that has them fits
 pub place_fits-from : (limits : Limits) (place : Place) → PlaceParts limits place → place_fits limits place ≡ true
 unfolding place_fits
 place_fits-from limits place p =
     and_from (nat_lt place.owner limits.nodes && nodes_fit limits place.replicas) (has place.owner place.replicas)
     (and_from (nat_lt place.owner limits.nodes) (nodes_fit limits place.replicas) (lt-ltb place.owner limits.nodes p.owner) p.replicas) p.own_copy
 
+-- the driver of a stamp that fits is a node
 pub stamp_fits-driver : (limits : Limits) (stamp : Stamp) → stamp_fits limits stamp ≡ true → stamp.driver < limits.nodes
 unfolding stamp_fits
 stamp_fits-driver limits stamp h = ltb-true stamp.driver limits.nodes h
 
+-- and a stamp of a node fits
 pub stamp_fits-from : (limits : Limits) (stamp : Stamp) → stamp.driver < limits.nodes → stamp_fits limits stamp ≡ true
 unfolding stamp_fits
 stamp_fits-from limits stamp h = lt-ltb stamp.driver limits.nodes h
 
+-- an object that fits is one that there is
 pub object_fits-less : (limits : Limits) (x : ℕ) → object_fits limits x ≡ true → x < limits.objects
 unfolding object_fits
 object_fits-less limits x h = ltb-true x limits.objects h
 
+-- and one that there is fits
 pub object_fits-from : (limits : Limits) (x : ℕ) → x < limits.objects → object_fits limits x ≡ true
 unfolding object_fits
 object_fits-from limits x h = lt-ltb x limits.objects h
@@ -60,6 +66,7 @@ pub record ProposalParts (limits : Limits) (p : Proposal) : Type 0 where
   pub place : place_fits limits p.base_place ≡ true
   pub want : want_fits p.want p.requester p.base_place ≡ true
 
+-- a proposal that fits has these parts
 pub proposal_fits-parts : (limits : Limits) (p : Proposal) → proposal_fits limits p ≡ true → ProposalParts limits p
 unfolding proposal_fits
 proposal_fits-parts limits p h =
@@ -74,6 +81,7 @@ proposal_fits-parts limits p h =
     let four = and_parts a b three.0 in
     record { stamp = four.0; requester = ltb-true p.requester limits.nodes four.1; base = three.1; place = two.1; want = one.1 }
 
+-- and one that has them fits
 pub proposal_fits-from : (limits : Limits) (p : Proposal) → ProposalParts limits p → proposal_fits limits p ≡ true
 unfolding proposal_fits
 proposal_fits-from limits p parts =
@@ -121,6 +129,7 @@ new_place-fits limits p h =
 
 -- ---- sources and arbiters
 
+-- the source of a placement is a node
 pub source-fits : (limits : Limits) (place : Place) (members : List ℕ) (n : ℕ) → nodes_fit limits members ≡ true → source place members ≡ Some n → n < limits.nodes
 unfolding source
 source-fits limits place members n h =
@@ -133,6 +142,7 @@ unfolding with_optional
 with_optional-fits limits None ns h g = g
 with_optional-fits limits (Some n) ns h g = nodes_fit-with_node limits n ns (h n refl) g
 
+-- so is each of its arbiters
 pub arbiters-fit : (limits : Limits) (place : Place) (members directory : List ℕ) → nodes_fit limits members ≡ true → nodes_fit limits (arbiters place members directory) ≡ true
 unfolding arbiters
 arbiters-fit limits place members directory h =
@@ -140,21 +150,26 @@ arbiters-fit limits place members directory h =
 
 -- ---- letters
 
+-- no letter is none that does not fit
 pub AllFit-none : (limits : Limits) → AllFit limits []
 unfolding AllFit
 AllFit-none limits = All-nil (λ (l : Letter). fits l limits ≡ true)
 
+-- one more letter that fits
 pub AllFit-cons : (limits : Limits) (l : Letter) (ls : List Letter) → fits l limits ≡ true → AllFit limits ls → AllFit limits (l ∷ ls)
 unfolding AllFit
 AllFit-cons limits l ls h hs = All-cons (λ (k : Letter). fits k limits ≡ true) l ls h hs
 
+-- one letter that fits
 pub AllFit-one : (limits : Limits) (l : Letter) → fits l limits ≡ true → AllFit limits (l ∷ [])
 AllFit-one limits l h = AllFit-cons limits l [] h (AllFit-none limits)
 
+-- the letters of two lists
 pub AllFit-append : (limits : Limits) (ks ls : List Letter) → AllFit limits ks → AllFit limits ls → AllFit limits (ks ++ ls)
 unfolding AllFit
 AllFit-append limits ks ls h g = All-append (λ (k : Letter). fits k limits ≡ true) ks ls h g
 
+-- the first of letters that fit
 pub AllFit-take : (limits : Limits) (n : ℕ) (ls : List Letter) → AllFit limits ls → AllFit limits (take n ls)
 unfolding AllFit
 AllFit-take limits n ls h = All-take (λ (k : Letter). fits k limits ≡ true) n ls h
@@ -183,6 +198,7 @@ fits-sender limits l h =
     let two = and_parts (a && b) c one.0 in
     ltb-true l.from limits.nodes (and_parts a b two.0).0
 
+-- what a letter says fits where the letter does
 pub fits-body : (limits : Limits) (l : Letter) → fits l limits ≡ true → body_fits limits l.body ≡ true
 unfolding fits
 fits-body limits l h =

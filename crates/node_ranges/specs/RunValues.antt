@@ -110,6 +110,7 @@ All-mentions P (n ∷ ns) x all h =
       | inr later ↦ All-mentions P ns x (All-tail P n ns all) later
     ]
 
+-- there are as many writes with versions as without
 pub length-new_writes : (n : Node) (ws : List (ℕ × Value)) → length (new_writes n ws) ≡ length ws
 unfolding new_writes
 length-new_writes n [] = refl

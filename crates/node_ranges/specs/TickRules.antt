@@ -43,6 +43,7 @@ use Rattle.node_ranges.specs.Ranges.{AllFit, FitsHeld, FitsKept, FitsCurrent, Ke
 
 -- ---- views and stops
 
+-- a view of nodes that there are is installed
 pub install-keeps : (limits : Limits) (n : Node) (v : View) → 1 ≤ v.epoch → nodes_fit limits v.members ≡ true → KeepsRanges limits n → KeepsAndFits limits (install n v).node (install n v).sent
 unfolding install
 install-keeps limits n v first fit k =
@@ -55,6 +56,7 @@ install-keeps limits n v first fit k =
     (λ _. KeepsAndFits-did_then limits taken finish (KeepsAndFits-still limits m (KeepsRanges-view limits n v.epoch v.members first fit k)) (finish-keeps limits))
     (λ _. KeepsAndFits-still limits n k))
 
+-- a node stops
 pub stop-keeps : (limits : Limits) (n : Node) → KeepsRanges limits n → KeepsAndFits limits (stop n).node (stop n).sent
 unfolding stop
 stop-keeps limits n k =
@@ -183,6 +185,7 @@ leave-fits limits n x within k =
 
 -- ---- a tick
 
+-- all that a running node sends fits
 pub repeats-fit : (limits : Limits) (n : Node) → KeepsRanges limits n → AllFit limits (repeats n)
 unfolding repeats
 repeats-fit limits n k =
@@ -202,6 +205,7 @@ repeats-fit limits n k =
     let six = AllFit-append limits _ (letters_of (repeat_done n) slots) five done_fits in
     AllFit-append limits _ (letters_of (repeat_leave n) objects) six leaves_fit
 
+-- the timer fires
 pub tick-keeps : (limits : Limits) (n : Node) → KeepsRanges limits n → KeepsAndFits limits (tick n).node (tick n).sent
 unfolding tick
 tick-keeps limits n k =

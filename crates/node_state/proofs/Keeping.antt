@@ -1,5 +1,5 @@
 -- What always holds of a node's state holds after a change of it.
-use Rattle.std.proofs.Common.{ℕ, ◌≡◌, List, Option, length, refl, sym, ap, ◌∙◌}
+use Rattle.std.proofs.Common.{◌≡◌, List, Option, length, sym, ap, ◌∙◌}
 use Rattle.zeus_model.specs.State.{Node, Slot, no_slot}
 use Rattle.zeus_model.specs.Tables.{nth}
 use Rattle.object_table.specs.declared.hold.Hold.{Hold}

@@ -1,6 +1,10 @@
-pub mod Adding
-pub mod Cut
 pub mod Keeping
 pub mod Owning
+pub mod Committing
 pub mod Searching
 pub mod Starting
+pub mod SlotTrying
+pub mod Slots
+pub mod Requesting
+pub mod Wanting
+pub mod Passing

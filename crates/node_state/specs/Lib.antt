@@ -1,4 +1,9 @@
 pub mod Effect
 pub mod Done
+pub mod EffectLaws
 pub mod Changes
 pub mod Shown
+pub mod SlotTries
+pub mod Requests
+pub mod SlotTryLaws
+pub mod LetterLaws

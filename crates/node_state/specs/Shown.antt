@@ -1,5 +1,5 @@
 -- The state of a node as the rules see it, and what always holds of it.
-use Rattle.std.specs.Prelude.{ℕ, ◌≡◌, length}
+use Rattle.std.specs.Prelude.{◌≡◌, length}
 use Rattle.zeus_model.specs.State.{Node}
 use Rattle.object_table.specs.Holding.{AreHeld}
 use Rattle.node_ranges.specs.Ranges.{KeepsRanges, limits_of}

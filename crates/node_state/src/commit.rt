@@ -62,6 +62,7 @@ impl NodeState {
         ensures after { self.new ≡ (advance_own self.old slot).node }
         ensures letters { (advance_own self.old slot).sent ≡ to_each self.old result.tell (RVal (own_stream self.old slot) result.after) }
         ensures passed { (advance_own self.old slot).passed ≡ passed_by (own_stream self.old slot) result }
+        ensures limits { limits_of self.new ≡ limits_of self.old }
     {
         let slot = &mut self.slots[slot.place()];
         reliable_commit::advance_own(&mut self.copies, &mut slot.pipe, self.me, self.members)
@@ -73,8 +74,30 @@ impl NodeState {
         ensures after { self.new ≡ (advance_kept self.old s).node }
         ensures letters { (advance_kept self.old s).sent ≡ to_each self.old result.tell (RVal s result.after) }
         ensures passed { (advance_kept self.old s).passed ≡ passed_by s result }
+        ensures limits { limits_of self.new ≡ limits_of self.old }
     {
         reliable_commit::advance_kept(&mut self.copies, &mut self.logs, s, self.me, self.members)
+    }
+
+    /// Whether no entry of a non-member's stream is stored, so that nothing is to be replayed.
+    pub fn is_recovered(&self) -> bool
+        ensures { result ≡ none_stored self.now (outside self.now) }
+    {
+        crash_replay::is_recovered(&self.logs, self.node_count, self.slot_count, self.members)
+    }
+
+    /// The first stream after the given one, or of all, in the order of node and slot, whose node is no member and of
+    /// which entries are stored. `None` exactly if there is no such stream.
+    pub fn next_replay(&self, after: Option<Stream>) -> Option<Stream>
+        ensures { result ≡ next_stored self.now after }
+    {
+        crash_replay::next_replay(
+            &self.logs,
+            self.node_count,
+            self.slot_count,
+            self.members,
+            after,
+        )
     }
 
     /// Notes that the node has reported in this epoch. True exactly where it had not.

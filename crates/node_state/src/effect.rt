@@ -1,5 +1,5 @@
 //! What a call of a node sends and passes.
-ghost use Rattle.std.specs.Prelude.{◌≡◌, ◌<◌, ◌≤◌, [], ◌∷◌, ◌++◌, length, take, IfOk};
+ghost use Rattle.std.specs.Prelude.{◌≡◌, ◌<◌, ◌≤◌, [], ◌∷◌, ◌++◌, length, nat_le, take, IfOk};
 ghost use Rattle.node_state.specs.Effect.{IsCleared};
 
 use std::alloc::Global;
@@ -7,8 +7,11 @@ use std::marker::Model;
 use zeus_base::{NoMemory, Passed};
 use zeus_packet::Letter;
 
-/// How many letters, and how many passes, one call leaves at most.
+/// How many letters one call leaves at most.
 const ROOM: usize = 64;
+
+/// How many passes one call leaves at most: one for each of 8 own slots and for each stream of 8 nodes.
+const PASSES: usize = 72;
 
 /// The letters of one call in the order of sending, seen as a list; the first 64 of them.
 #[derive(Debug, Drop)]
@@ -50,6 +53,14 @@ impl Letters {
         self.items.len()
     }
 
+    /// Whether no further letter is kept.
+    pub fn is_full(&self) -> bool
+        ensures full { result ≡ nat_le 64 (length self.now) }
+        ensures most { length self.now ≤ 64 }
+    {
+        self.items.len() >= ROOM
+    }
+
     fn clear(&mut self)
         ensures { self.new ≡ [] }
     {
@@ -73,21 +84,21 @@ pub struct PassedList {
 }
 
 impl Model for PassedList {
-    ghost use Rattle.std.specs.Prelude.{List, ◌≤◌, vec_capacity};
+    ghost use Rattle.std.specs.Prelude.{List, ◌≤◌, length, vec_capacity};
     ghost use Rattle.zeus_base.specs.declared.step.Passed.{Passed};
 
     ghost Value = { List Passed };
 
     ghost view = { λ l. l.items.items };
 
-    ghost invariant = { λ l. 64 ≤ vec_capacity l.items };
+    ghost invariant = { λ l. (72 ≤ vec_capacity l.items) × (length l.items.items ≤ 72) };
 }
 
 impl PassedList {
     fn new(alloc: Global) -> Result<PassedList, NoMemory>
         ensures { IfOk result (λ passes. passes ≡ []) }
     {
-        let items = Vec::with_capacity(alloc, ROOM).map_err(|_| NoMemory)?;
+        let items = Vec::with_capacity(alloc, PASSES).map_err(|_| NoMemory)?;
         Ok(PassedList { items })
     }
 
@@ -98,9 +109,10 @@ impl PassedList {
         self.items.as_slice()
     }
 
-    /// How many there are.
+    /// How many there are; at most 72.
     pub fn len(&self) -> usize
-        ensures { result ≡ length self.now }
+        ensures count { result ≡ length self.now }
+        ensures most { result ≤ 72 }
     {
         self.items.len()
     }
@@ -112,8 +124,8 @@ impl PassedList {
     }
 
     /// Adds a pass, for which there is room.
-    pub(crate) fn push(&mut self, passed: Passed)
-        requires { length self.old < 64 }
+    pub fn push(&mut self, passed: Passed)
+        requires { length self.old < 72 }
         ensures { self.new ≡ self.old ++ passed ∷ [] }
     {
         self.items.push_reserved(passed);
@@ -130,7 +142,7 @@ pub struct Effect {
 }
 
 impl Effect {
-    /// An effect with room for 64 letters and 64 passes, and nothing in it; `NoMemory` where that room is not there.
+    /// An effect with room for 64 letters and 72 passes, and nothing in it; `NoMemory` where that room is not there.
     pub fn new(alloc: Global) -> Result<Effect, NoMemory>
         ensures { IfOk result IsCleared }
     {

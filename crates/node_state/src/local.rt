@@ -1,18 +1,18 @@
-//! The transactions of a node's slots: begun, tried on the copies, and committed into the pipe.
-ghost use Rattle.std.specs.Prelude.{◌≡◌, ◌<◌, None, Some, IfSome, length};
-ghost use Rattle.zeus_model.specs.Local.{hindrance, run_here, with_current, write_cause, write_row};
-ghost use Rattle.zeus_model.specs.State.{slot as slot_of};
-ghost use Rattle.zeus_model.specs.declared.state.Current.{Current};
-ghost use Rattle.local_txn.specs.Tries.{after_try, tried_as};
-ghost use Rattle.replica_reads.specs.Reads.{read_told};
+//! The transactions of a node's slots: set, tried, and looked through.
+ghost use Rattle.std.specs.Prelude.{◌≡◌, ◌<◌, length};
+ghost use Rattle.zeus_model.specs.Local.{with_current};
+ghost use Rattle.std.specs.List.{list_any};
+ghost use Rattle.zeus_model.specs.Membership.{is_wanted, names_it};
 ghost use Rattle.node_ranges.specs.Ranges.{FitsCurrent, limits_of};
+ghost use Rattle.zeus_model.specs.State.{own_stream, slot as slot_of};
+ghost use Rattle.node_state.specs.SlotTries.{IsTried, newest_of};
 
+use crate::attempt::SlotTry;
+use crate::slot::Slot;
 use crate::state::NodeState;
-use local_txn::WriteTry;
-use replica_reads::ReadTry;
-use zeus_base::SlotId;
+use zeus_base::{ObjId, SlotId, Stream};
 use zeus_model::Current;
-use zeus_txn::Tx;
+use zeus_packet::RInv;
 
 impl NodeState {
     /// The slot has this current transaction, or none.
@@ -21,40 +21,45 @@ impl NodeState {
         requires fits { FitsCurrent (limits_of self.old) current }
         ensures { self.new ≡ with_current self.old slot current }
     {
-        let slot = &mut self.slots[slot.place()];
-        slot.current = current;
+        let own = &mut self.slots[slot.place()];
+        own.set_current(current);
     }
 
-    /// What hinders the transaction to read, or its reply on the node's copies.
-    pub fn try_read(&self, tx: &Tx) -> ReadTry
-        ensures { result ≡ read_told (hindrance self.now tx.now) (run_here self.now tx.now).reply }
-    {
-        replica_reads::try_read(&self.copies, tx)
-    }
-
-    /// Tries to commit the slot's current transaction: the first cause against it, or its commit, by which the slot is
-    /// free and the entry stands in its pipe. None where the slot has no current transaction.
-    pub fn try_write(&mut self, slot: SlotId) -> Option<WriteTry>
+    /// Tries the slot's current transaction on what the node has. A read leaves all as it was. A write transaction that
+    /// nothing stands against is committed: its writes stand in the copies, its entry at the end of the slot's pipe, and
+    /// the slot is free. Takes no memory.
+    pub fn try_current(&mut self, slot: SlotId) -> SlotTry
         requires { slot < length self.old.slots }
-        ensures none { (slot_of self.old slot).current ≡ None → (result ≡ None) × (self.new ≡ self.old) }
-        ensures answer { (c : Current) → (slot_of self.old slot).current ≡ Some c → IfSome result (λ t. tried_as c.id t ≡ (write_row self.old slot c (write_cause self.old slot c.tx)).answer) }
-        ensures after { (c : Current) → (slot_of self.old slot).current ≡ Some c → self.new ≡ after_try self.old slot c (write_cause self.old slot c.tx) }
+        ensures { IsTried self.old slot result self.new }
     {
-        let me = self.me;
-        let place = &mut self.slots[slot.place()];
-        let current = place.current.as_ref()?;
-        let answer = local_txn::try_write(
-            &mut self.copies,
-            &self.dir,
-            &mut place.pipe,
-            me,
-            slot,
-            current.id,
-            &current.tx,
-        );
-        if let WriteTry::Committed(_, _) = &answer {
-            place.current = None;
-        }
-        Some(answer)
+        let own = &mut self.slots[slot.place()];
+        own.try_current(&mut self.copies, &self.dir, self.me, slot)
     }
+
+    /// The last pending entry of the slot, as its stream sends it; none where nothing is pending.
+    pub fn newest(&self, slot: SlotId) -> Option<RInv>
+        requires { slot < length self.now.slots }
+        ensures { result ≡ newest_of (own_stream self.now slot) (slot_of self.now slot) }
+    {
+        let stream = Stream {
+            node: self.me,
+            slot,
+        };
+        let own = &self.slots[slot.place()];
+        own.newest(&stream)
+    }
+
+    /// Whether a current transaction of the node names the object.
+    pub fn is_wanted(&self, obj: ObjId) -> bool
+        ensures { result ≡ is_wanted self.now obj }
+    {
+        is_wanted_by(&self.slots, obj)
+    }
+}
+
+/// Whether the current transaction of one of the slots names the object.
+fn is_wanted_by(slots: &[Slot], obj: ObjId) -> bool
+    ensures { result ≡ list_any (λ l. names_it obj l.current) slots.now }
+{
+    slots.iter().any(|slot| slot.wants(obj))
 }

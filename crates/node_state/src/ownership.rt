@@ -1,12 +1,12 @@
 //! Ownership at a node: what becomes of its entries, its gathers and its copies, and what it gives as a source.
-ghost use Rattle.std.specs.Prelude.{◌≡◌, ◌<◌, true, length, option_copied};
+ghost use Rattle.std.specs.Prelude.{◌≡◌, ◌<◌, not, true, length};
 ghost use Rattle.zeus_packet.specs.Fits.{content_fits, place_fits, proposal_fits, stamp_fits};
-ghost use Rattle.zeus_model.specs.Ownership.{bring, drive_cause, driven, holding, is_source, keeper, own_content, settle, source_cause, takes_over, unready_cause};
-ghost use Rattle.zeus_model.specs.State.{gather, with_gather};
+ghost use Rattle.zeus_model.specs.Ownership.{bring, drive_cause, driven, holding, is_held, is_source, keeper, own_content, settle, source_cause, takes_over, unready_cause};
+ghost use Rattle.zeus_model.specs.State.{entry, gather, with_gather};
 ghost use Rattle.arbitration.specs.Gathering.{ack_at, decision_of, gathered};
 ghost use Rattle.arbitration.specs.Giving.{told_cause};
 ghost use Rattle.directory.specs.Driving.{answered};
-ghost use Rattle.node_ranges.specs.Ranges.{limits_of};
+ghost use Rattle.node_ranges.specs.Ranges.{KeepsRanges, limits_of};
 
 use crate::state::NodeState;
 use arbitration::{Ack, Decision, GiveUp, give_up};
@@ -29,13 +29,15 @@ impl NodeState {
         }
     }
 
-    /// Holds the proposal for the object, whatever its stamp, in place of one that is held.
-    pub fn hold(&mut self, obj: ObjId, p: &Proposal)
+    /// Holds the proposal for the object in place of any other, whatever their stamps. True exactly where this one was
+    /// not held.
+    pub fn hold(&mut self, obj: ObjId, p: &Proposal) -> bool
         requires object { obj < length self.old.entries }
         requires proposal { proposal_fits (limits_of self.old) p.now ≡ true }
-        ensures { self.new ≡ holding self.old obj p.now }
+        ensures new { result ≡ not (is_held p.now (entry self.old obj).proposal) }
+        ensures after { self.new ≡ holding self.old obj p.now }
     {
-        let _ = self.dir.hold(obj, p);
+        self.dir.hold(obj, p)
     }
 
     /// Whether the placement would make the node the owner of the object, which its settled placement does not name.
@@ -47,12 +49,12 @@ impl NodeState {
         place.owner == self.me && self.entry(obj).place.owner != self.me
     }
 
-    /// Whether the node may drive the wish of the requester for the object, as a directory node that has the content
-    /// or not: the first cause against it, or the proposal of the next version. What a source has against it is asked
-    /// by `source_cause`.
+    /// Whether the node may drive the wish of the requester for the object: the first cause against it, or the
+    /// proposal of the next version. What a source has against it is asked by `source_cause`.
     pub fn may_drive(&self, obj: ObjId, requester: NodeId, want: Want) -> Drive
         requires { obj < length self.now.entries }
-        ensures { result ≡ answered (drive_cause self.now obj requester want) (driven self.now obj requester want) }
+        ensures answer { result ≡ answered (drive_cause self.now obj requester want) (driven self.now obj requester want) }
+        ensures ranges { KeepsRanges (limits_of self.now) self.now }
     {
         self.dir
             .may_drive(obj, requester, self.me, self.members, want)
@@ -127,13 +129,15 @@ impl NodeState {
         requires proposal { proposal_fits (limits_of self.old) p.now ≡ true }
         ensures answer { result ≡ ack_at (gather self.old obj) from p.now content }
         ensures after { self.new ≡ with_gather self.old obj (gathered (gather self.old obj) from p.now content) }
+        ensures ranges { KeepsRanges (limits_of self.old) self.old }
     {
         self.gathers.take_ack(obj, from, p, content)
     }
 
     /// What the node decides of the object, if it can: the gathered proposal and its content.
     pub fn decided(&self, obj: ObjId) -> Option<Decision>
-        ensures { result ≡ decision_of self.now (gather self.now obj) }
+        ensures decision { result ≡ decision_of self.now (gather self.now obj) }
+        ensures ranges { KeepsRanges (limits_of self.now) self.now }
     {
         self.gathers.decided(obj, self.members, self.dir.nodes())
     }

@@ -1,5 +1,6 @@
 //! An own slot: its current transaction, and the entries of its stream that wait.
 ghost use Rattle.std.specs.Prelude.{◌≡◌, IfOk, replicate};
+ghost use Rattle.zeus_model.specs.Membership.{names_it};
 ghost use Rattle.zeus_model.specs.Ownership.{keeps};
 ghost use Rattle.zeus_model.specs.State.{no_slot};
 ghost use Rattle.zeus_txn.specs.Ops.{mentions, named};
@@ -46,6 +47,17 @@ impl Slot {
         match &self.current {
             None => false,
             Some(current) => current.tx.is_write() && names(&current.tx, obj),
+        }
+    }
+
+    /// Whether the slot's current transaction names the object.
+    #[tactic(auto, unfolding(zeus_model::specs::Membership::names_it))]
+    pub(crate) fn wants(&self, obj: ObjId) -> bool
+        ensures { result ≡ names_it obj self.now.current }
+    {
+        match &self.current {
+            None => false,
+            Some(current) => names(&current.tx, obj),
         }
     }
 }

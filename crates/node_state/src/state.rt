@@ -80,7 +80,8 @@ impl NodeState {
 
     /// The node's number.
     pub fn me(&self) -> NodeId
-        ensures { result ≡ self.now.me }
+        ensures number { result ≡ self.now.me }
+        ensures there { result < length self.now.logs }
     {
         self.me
     }

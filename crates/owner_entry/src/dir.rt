@@ -64,6 +64,13 @@ impl Dir {
         self.degree
     }
 
+    /// How many objects there are.
+    pub fn object_count(&self) -> usize
+        ensures { result ≡ length self.now.entries }
+    {
+        self.entries.len()
+    }
+
     /// What the node knows of the object's placement.
     pub fn entry(&self, obj: ObjId) -> &Entry
         requires { obj < length self.now.entries }

@@ -1,8 +1,9 @@
-//! A stand-in of a node: its contracts alone.
+//! A node of the cluster: what it does with a transaction, a try, a letter, a timer, a view and a stop.
 #![tactic(auto)]
 
-mod effect;
 mod node;
+mod receiving;
 
-pub use effect::{Effect, Letters, PassedList};
 pub use node::Node;
+pub use node_state::{Effect, Letters, PassedList};
+pub use zeus_model::{Begin, Copy, Entry, Install, Outcome, Stop, Ticked, Tried};

@@ -4,18 +4,18 @@ use Rattle.crash_replay.proofs.replay.next_of.Goals as goal
 
 pub returns-then-is_next : goal.returns-then-is_next
 returns-then-is_next c =
-    sym (from_slot-found c.args.log.now c.args.after.now c.args.node c.args.config.now.slots c.loop-slot.slot _ c.loop-slot-test.true refl (sym c.is_next.ensures ∙ c.if-is_next.true))
+    sym (from_slot-found c.args.log.now c.args.after.now c.args.node c.args.slots c.loop-slot.slot _ c.loop-slot-test.true refl (sym c.is_next.ensures ∙ c.if-is_next.true))
     ∙ c.loop-slot.invariant
 
 pub loop-slot-preserved : goal.loop-slot-preserved
 loop-slot-preserved c =
-    from_slot-passed c.args.log.now c.args.after.now c.args.node c.args.config.now.slots c.loop-slot.slot _ c.loop-slot-test.true refl (sym c.is_next.ensures ∙ c.if-is_next.false)
+    from_slot-passed c.args.log.now c.args.after.now c.args.node c.args.slots c.loop-slot.slot _ c.loop-slot-test.true refl (sym c.is_next.ensures ∙ c.if-is_next.false)
     ∙ c.loop-slot.invariant
 
 pub returns : goal.returns
 returns c =
-    sym (from_slot-none c.args.log.now c.args.after.now c.args.node c.args.config.now.slots c.loop-slot.slot c.loop-slot-test.false)
+    sym (from_slot-none c.args.log.now c.args.after.now c.args.node c.args.slots c.loop-slot.slot c.loop-slot-test.false)
     ∙ c.loop-slot.invariant
 
 pub is_next-requires : goal.is_next-requires
-is_next-requires c = c.requires.streams _ c.requires.node c.loop-slot-test.true
+is_next-requires c = c.requires.streams _ c.loop-slot-test.true

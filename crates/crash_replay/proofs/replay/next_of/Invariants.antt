@@ -8,4 +8,4 @@ use Rattle.crash_replay.proofs.replay.next_of.Given as goal
 -- the slots that are left have the same stream
 abbrev pub invariant-loop-slot : goal.invariant-loop-slot
 invariant-loop-slot l =
-    from_slot l.log l.after l.node l.config.slots l.slot ≡ next_in l.log l.after (streams_of l.node (below l.config.slots))
+    from_slot l.log l.after l.node l.slots l.slot ≡ next_in l.log l.after (streams_of l.node (below l.slots))

@@ -8,5 +8,5 @@ use Rattle.crash_replay.proofs.replay.next_replay.Given as goal
 -- the nodes that are left have the same stream
 abbrev pub invariant-loop-node : goal.invariant-loop-node
 invariant-loop-node l =
-    from_node l.log l.after l.members (below l.config.slots) l.config.nodes l.node
-    ≡ next_in l.log l.after (streams_outside l.members (below l.config.slots) (below l.config.nodes))
+    from_node l.log l.after l.members (below l.slots) l.nodes l.node
+    ≡ next_in l.log l.after (streams_outside l.members (below l.slots) (below l.nodes))

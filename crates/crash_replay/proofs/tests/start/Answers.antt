@@ -1,5 +1,5 @@
-use Rattle.crash_replay.specs.ReplayLaws.{HasStreams-new}
+use Rattle.crash_replay.specs.ReplayLaws.{HasStreams-start}
 use Rattle.crash_replay.proofs.tests.start.Goals as goal
 
 pub returns : goal.returns
-returns c = HasStreams-new c.args.config.now _ c.in_ok-log.ensures
+returns c = rw c.in_ok-log.ensures (HasStreams-start c.args.config.now.nodes c.args.config.now.slots)

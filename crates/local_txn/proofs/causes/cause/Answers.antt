@@ -11,19 +11,19 @@ returns-then-len-eq-WINDOW_DEPTH-clause-first c = λ n id is.
 
 pub returns-in-Some-clause-first : goal.returns-in-Some-clause-first
 returns-in-Some-clause-first c = λ n id is.
-    against_owner _ _ _ _ _ n is c.args.tx.now id c.in-Some.object (λ e. c.if-len-eq-WINDOW_DEPTH.false (c.len.ensures.count ∙ e)) c.in-Some.ensures
+    against_owner _ _ _ _ _ n is c.args.tx.now id c.in-Some.object (λ e. c.if-len-eq-WINDOW_DEPTH.false (c.len.ensures.count ∙ e)) (rw (c.as_slice-objects.ensures.list ∙ c.named-named.ensures) at c.in-Some.ensures)
 
 pub returns-in-Some-first_held-clause-first : goal.returns-in-Some-first_held-clause-first
 returns-in-Some-first_held-clause-first c = λ n id is.
-    against_holder _ _ _ _ _ n is c.args.tx.now id c.in-Some-first_held.held (λ e. c.if-len-eq-WINDOW_DEPTH.false (c.len.ensures.count ∙ e)) c.in_default.ensures c.in-Some-first_held.ensures
+    against_holder _ _ _ _ _ n is c.args.tx.now id c.in-Some-first_held.held (λ e. c.if-len-eq-WINDOW_DEPTH.false (c.len.ensures.count ∙ e)) (rw (c.as_slice-objects.ensures.list ∙ c.named-named.ensures) at c.in_default.ensures) (rw (c.as_slice-objects.ensures.list ∙ c.named-named.ensures) at c.in-Some-first_held.ensures)
 
 pub returns-then-is_worn-clause-first : goal.returns-then-is_worn-clause-first
 returns-then-is_worn-clause-first c = λ n id is.
-    against_worn _ _ _ _ _ n is c.args.tx.now id _ (λ e. c.if-len-eq-WINDOW_DEPTH.false (c.len.ensures.count ∙ e)) c.in_default.ensures c.in_default-first_held.ensures c.is_worn.ensures c.if-is_worn.true
+    against_worn _ _ _ _ _ n is c.args.tx.now id _ (λ e. c.if-len-eq-WINDOW_DEPTH.false (c.len.ensures.count ∙ e)) (rw (c.as_slice-objects.ensures.list ∙ c.named-named.ensures) at c.in_default.ensures) (rw (c.as_slice-objects.ensures.list ∙ c.named-named.ensures) at c.in_default-first_held.ensures) c.is_worn.ensures c.if-is_worn.true
 
 pub returns-clause-first : goal.returns-clause-first
 returns-clause-first c = λ n id is.
-    against_none _ _ _ _ _ n is c.args.tx.now id _ (λ e. c.if-len-eq-WINDOW_DEPTH.false (c.len.ensures.count ∙ e)) c.in_default.ensures c.in_default-first_held.ensures c.is_worn.ensures c.if-is_worn.false
+    against_none _ _ _ _ _ n is c.args.tx.now id _ (λ e. c.if-len-eq-WINDOW_DEPTH.false (c.len.ensures.count ∙ e)) (rw (c.as_slice-objects.ensures.list ∙ c.named-named.ensures) at c.in_default.ensures) (rw (c.as_slice-objects.ensures.list ∙ c.named-named.ensures) at c.in_default-first_held.ensures) c.is_worn.ensures c.if-is_worn.false
 
 pub returns-clause-clear : goal.returns-clause-clear
 unfolding told_held
@@ -33,6 +33,6 @@ returns-clause-clear c =
     record {
       room = omega arith;
       numbered = omega arith;
-      free = c.in_default-first_held.ensures;
+      free = rw (c.as_slice-objects.ensures.list ∙ c.named-named.ensures) at c.in_default-first_held.ensures;
       unworn = parts.1;
     }

@@ -1,5 +1,4 @@
 use Rattle.std.proofs.Common.{◌≡◌, drop}
-use Rattle.zeus_txn.specs.Ops.{named}
 use Rattle.zeus_model.specs.Tables.{first_of}
 use Rattle.local_txn.specs.Tries.{held_at}
 use Rattle.local_txn.proofs.causes.first_held.Given as goal
@@ -7,4 +6,4 @@ use Rattle.local_txn.proofs.causes.first_held.Given as goal
 -- the objects that are left have the same first one
 abbrev pub invariant-loop-object : goal.invariant-loop-object
 invariant-loop-object l =
-    first_of (held_at l.slot l.copies.holds) (drop l.object-index (named l.tx)) ≡ first_of (held_at l.slot l.copies.holds) (named l.tx)
+    first_of (held_at l.slot l.copies.holds) (drop l.object-index l.objects) ≡ first_of (held_at l.slot l.copies.holds) l.objects

@@ -1,5 +1,5 @@
 use Rattle.std.proofs.Common.{length, arith, ap, ◌∙◌}
-use Rattle.node_state.proofs.Cut.{cut_room, cut_full}
+use Rattle.node_state.specs.EffectLaws.{cut_room, cut_full}
 use Rattle.node_state.proofs.effect.Letters.push.Goals as goal
 
 pub returns-then-len-lt-ROOM : goal.returns-then-len-lt-ROOM

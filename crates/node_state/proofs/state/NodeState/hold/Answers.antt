@@ -14,7 +14,7 @@ invariant_of-self c =
     (KeepsRanges-holding _ n c.args.obj c.args.p.now (rw (← c.self.view_is) at c.requires.object) (rw (← c.self.view_is) at c.requires.proposal) c.self.invariant.ranges)
     refl refl
 
-pub returns : goal.returns
-returns c =
+pub returns-clause-after : goal.returns-clause-after
+returns-clause-after c =
     rw (← c.self.view_is)
     (holding-by (shown c.self.inside) c.hold.new.self c.args.obj c.hold.ensures.nodes c.hold.ensures.degree c.args.p.now (c.hold.ensures.after (shown c.self.inside) refl))

@@ -1,5 +1,5 @@
 use Rattle.std.proofs.Common.{◌∙◌}
-use Rattle.node_state.proofs.Adding.{adds_passes, adds_room, sent_step, sent_end}
+use Rattle.node_state.specs.EffectLaws.{adds_passes, adds_room, sent_step, sent_end}
 use Rattle.node_state.proofs.state.NodeState.send_each.Goals as goal
 
 pub loop-receiver-preserved : goal.loop-receiver-preserved

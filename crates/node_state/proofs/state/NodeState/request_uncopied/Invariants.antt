@@ -1,0 +1,12 @@
+use Rattle.std.proofs.Common.{◌≡◌, ◌≤◌, ◌++◌, length, drop, take}
+use Rattle.zeus_packet.specs.declared.place.Want.TheVariants.{Read}
+use Rattle.zeus_model.specs.Local.{not_copied, requests}
+use Rattle.node_state.proofs.state.NodeState.request_uncopied.Given as goal
+
+-- the requests for the objects that are left make the same end
+abbrev pub invariant-loop-object : goal.invariant-loop-object
+invariant-loop-object l = record {
+  letters : take 64 (l.out.sent ++ requests l.self Read (not_copied l.self (drop l.object-index l.object-items))) ≡ take 64 (l.initial.out.sent ++ requests l.self Read (not_copied l.self l.objects));
+  passes : l.out.passed ≡ l.initial.out.passed;
+  room : length l.out.sent ≤ 64;
+}

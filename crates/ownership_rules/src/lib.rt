@@ -1,0 +1,12 @@
+//! The rules of ownership at a node: requests, proposals, their acknowledgements, and decided placements.
+#![tactic(auto)]
+
+mod decide;
+mod gather;
+mod propose;
+mod request;
+mod tell;
+
+pub use gather::on_oack;
+pub use propose::{on_oinv, on_oval};
+pub use request::on_oreq;

@@ -1,0 +1,6 @@
+pub mod Saying
+pub mod Telling
+pub mod Leaving
+pub mod Driving
+pub mod Repeating
+pub mod TestConfig

@@ -1,0 +1,10 @@
+use Rattle.std.proofs.Common.{length, arith}
+use Rattle.zeus_model.specs.Membership.{repeat_own}
+use Rattle.tick_rules.proofs.Saying.{each-end, each-step}
+use Rattle.tick_rules.proofs.entries.repeat_own.Goals as goal
+
+pub loop-slot-preserved : goal.loop-slot-preserved
+loop-slot-preserved c = each-step (repeat_own c.args.node.now) (length c.args.node.now.slots) _ c.loop-slot.slot _ _ _ (omega arith) c.loop-slot.invariant c.repeat_slot.ensures
+
+pub returns : goal.returns
+returns c = each-end (repeat_own c.args.node.now) (length c.args.node.now.slots) _ c.loop-slot.slot _ _ (omega arith) c.loop-slot.invariant

@@ -1,0 +1,13 @@
+use Rattle.std.proofs.Common.{◌-◌, length}
+use Rattle.zeus_model.specs.State.{log}
+use Rattle.tick_rules.proofs.Repeating.{of_entries}
+use Rattle.tick_rules.proofs.Saying.{StillSends}
+use Rattle.tick_rules.proofs.entries.repeat_stream.Given as goal
+
+-- the entries from this place on are left
+abbrev pub invariant-loop-entry : goal.invariant-loop-entry
+invariant-loop-entry l =
+    StillSends (of_entries l.node l.stream l.done (log l.node l.stream).kept 0) (of_entries l.node l.stream l.done (log l.node l.stream).kept l.place) l.initial.out l.out
+
+abbrev pub decreases-loop-entry : goal.decreases-loop-entry
+decreases-loop-entry l = length (log l.node l.stream).kept - l.place

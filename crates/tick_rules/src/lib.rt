@@ -1,0 +1,11 @@
+//! What a node says again when its timer fires, since every letter may have been lost on its way.
+#![tactic(auto)]
+
+mod entries;
+mod leaves;
+mod proposals;
+#[cfg(test)]
+mod tests;
+mod timer;
+
+pub use timer::tick;
