@@ -7,3 +7,4 @@ pub mod Starting
 pub mod Settling
 pub mod Stepping
 pub mod Viewing
+pub mod Sorting

@@ -1,4 +1,5 @@
 pub mod Links
+pub mod Order
 pub mod Packets
 pub mod Posting
 pub mod Refusals

@@ -47,7 +47,8 @@ impl<'a> World<'a> {
         report.answer = Answer::Try(tried);
         settle(
             at,
-            &mut self.effect,
+            &self.effect,
+            &mut self.passes,
             &mut self.book,
             &mut self.links,
             report,
@@ -85,7 +86,8 @@ impl<'a> World<'a> {
         report.answer = Answer::Receive(node.receive(letter, &mut self.effect));
         settle(
             to,
-            &mut self.effect,
+            &self.effect,
+            &mut self.passes,
             &mut self.book,
             &mut self.links,
             report,
@@ -112,7 +114,8 @@ impl<'a> World<'a> {
         report.answer = Answer::Tick(node.tick(&mut self.effect));
         settle(
             at,
-            &mut self.effect,
+            &self.effect,
+            &mut self.passes,
             &mut self.book,
             &mut self.links,
             report,
@@ -149,7 +152,8 @@ impl<'a> World<'a> {
         report.answer = Answer::Install(node.install(&view, &mut self.effect));
         settle(
             at,
-            &mut self.effect,
+            &self.effect,
+            &mut self.passes,
             &mut self.book,
             &mut self.links,
             report,

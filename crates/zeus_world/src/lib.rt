@@ -4,6 +4,7 @@
 mod acts;
 mod alone;
 mod links;
+mod order;
 mod posting;
 mod readers;
 mod report;

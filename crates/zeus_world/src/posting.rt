@@ -6,6 +6,7 @@ ghost use Rattle.zeus_world.specs.Posting.{CanPost};
 ghost use Rattle.zeus_world.specs.Settling.{CanSettle, IsSettled};
 
 use crate::links::Links;
+use crate::order::Passes;
 use crate::report::{Packets, Report};
 use history_book::Book;
 use zeus_base::NodeId;
@@ -32,18 +33,19 @@ fn post_all(links: &mut Links, batch: &[Letter], sent: &mut Packets)
 /// their links, and the step is over.
 pub(crate) fn settle(
     at: NodeId,
-    effect: &mut Effect,
+    effect: &Effect,
+    passes: &mut Passes,
     book: &mut Book,
     links: &mut Links,
     report: &mut Report,
 )
-    requires { CanSettle book.old links.old effect.old.sent report.old }
-    ensures { IsSettled at effect.old.sent effect.old.passed book.old book.new links.old links.new report.old report.new }
+    requires { CanSettle book.old links.old effect.now.sent report.old }
+    ensures { IsSettled at effect.now.sent effect.now.passed book.old book.new links.old links.new report.old report.new }
 {
-    effect.passed.sort();
+    passes.fill(effect.passed.as_slice());
     book.pass_each(
         at,
-        effect.passed.as_slice(),
+        passes.as_slice(),
         &mut report.points,
         &mut report.acked,
     );

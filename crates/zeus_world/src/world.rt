@@ -9,6 +9,7 @@ ghost use Rattle.zeus_world.specs.Refusals.{IsNoRefusal};
 ghost use Rattle.zeus_world.specs.Reports.{Reports};
 
 use crate::links::Links;
+use crate::order::Passes;
 use crate::report::Report;
 use history_book::Book;
 use membership::Service;
@@ -20,7 +21,7 @@ use zeus_node::{Effect, Node};
 use zeus_txn::TxList;
 
 /// The world of a run: what the steps so far have led to, seen as the world of the machine. It is sound at every moment.
-#[derive(Debug, Drop)]
+#[derive(Drop)]
 pub struct World<'a> {
     pub(crate) config: &'a Config,
     pub(crate) txs: &'a TxList,
@@ -30,6 +31,8 @@ pub struct World<'a> {
     pub(crate) book: Book,
     /// What the last call of a node sent and passed.
     pub(crate) effect: Effect,
+    /// The same passes in the order of their streams.
+    pub(crate) passes: Passes,
 }
 
 impl<'a> Model for World<'a> {
@@ -64,6 +67,7 @@ impl<'a> World<'a> {
             views: Service::new(alloc, config.nodes)?,
             book: Book::new(alloc, config, txs.len() as u32)?,
             effect: Effect::new(alloc)?,
+            passes: Passes::new(alloc)?,
         })
     }
 
