@@ -1,9 +1,9 @@
--- What reading says of scripts of the first range.
+-- What reading says of bytes.
 use Rattle.std.proofs.Common.{ℕ, ◌≡◌, ◌<◌, false, true, nat_lt, List, length, Ok, Err, ap, refl, arith}
 use Rattle.std.proofs.lemmas.Bool.Decides.{nat_tests}
 use Rattle.script_lang.specs.Live.{FitsLive}
-use Rattle.script_lang.specs.Reading.{ReadsScript, fault_at, script_read}
-use Rattle.zeus_cli.specs.Top.{IsNoFirstScript, longest}
+use Rattle.script_lang.specs.Reading.{fault_at, script_read}
+use Rattle.zeus_cli.specs.Top.{IsNoScript, longest}
 use Rattle.zeus_model.specs.declared.fault.Kind.TheVariants.{Size}
 use Rattle.zeus_model.specs.declared.script.Script.{Script}
 
@@ -11,15 +11,11 @@ use Rattle.zeus_model.specs.declared.script.Script.{Script}
 pub fits_no_live : (s : Script) → FitsLive false s
 fits_no_live s = record { txs = λ e. cc e; steps = λ e. cc e }
 
--- what is read where this script is to be read is this script
-pub same_script : (s t : Script) → ReadsScript (Ok t) (Ok s) → s ≡ t
-same_script s t h = let e : Ok s ≡ Ok t = h in cc e
-
 -- more bytes than a script has are the text of none
-pub no_script_longer : (bytes : List ℕ) → longest < length bytes → IsNoFirstScript bytes
+pub no_script_longer : (bytes : List ℕ) → longest < length bytes → IsNoScript bytes
 no_script_longer bytes longer s h =
-    let few = h.spelled.script.few_bytes in
-    let same = ap length h.spelled.spelled in
+    let few = h.script.few_bytes in
+    let same = ap length h.spelled in
     omega arith
 
 -- and are read as that

@@ -5,13 +5,13 @@ ghost use Rattle.std.specs.Vec.Iter.{into_iter_items};
 ghost use Rattle.zeus_io.specs.Bytes.{AppendsFront};
 ghost use Rattle.zeus_io.specs.Faults.{Rose};
 ghost use Rattle.zeus_io.specs.Status.{exit_status};
-ghost use Rattle.zeus_report.specs.FirstRange.{IsFirstRange};
 ghost use Rattle.zeus_model.specs.ReportText.{start_of};
 ghost use Rattle.zeus_model.specs.Scripts.{IsScript};
 ghost use Rattle.zeus_model.specs.Sound.{Sound};
 ghost use Rattle.zeus_model.specs.Spelling.{spelling};
 ghost use Rattle.zeus_model.specs.World.{run};
 ghost use Rattle.zeus_model.specs.declared.script.Script.{Script as ScriptData};
+ghost use Rattle.soundness.specs.Promise.{KeepsPromise};
 ghost use Rattle.zeus_cli.specs.Top.{TakesScript, IsRefusal, IsReport, Writes, WritesFront, usage_line};
 ghost use Rattle.zeus_cli.specs.Command.{AsksRunBy, IsDueBy};
 
@@ -56,6 +56,7 @@ pub fn answer_command<S: Source, K: Sink>(
 ) -> u8
     ensures done { result ≡ exit_status Status.Done → AsksRunBy args × Writes (K.held sink.old) (K.held sink.new) (IsReport (S.left source.old) (S.left source.new)) }
     ensures sound { result ≡ exit_status Status.Done → (s : ScriptData) → TakesScript (S.left source.old) (S.left source.new) s → (k : ℕ) → Sound (run (start_of s) (take k s.steps)) }
+    ensures promise { result ≡ exit_status Status.Done → (s : ScriptData) → TakesScript (S.left source.old) (S.left source.new) s → (k : ℕ) → KeepsPromise (start_of s) (take k s.steps) }
 
     // Other bytes and other words.
     ensures script { result ≡ exit_status Status.Script → AsksRunBy args × Writes (K.held sink.old) (K.held sink.new) (IsRefusal (S.left source.old) (S.left source.new)) }
@@ -72,7 +73,7 @@ pub fn answer_command<S: Source, K: Sink>(
 
     // Other words leave the source alone; a script is answered by its report.
     ensures other_words { ¬ AsksRunBy args → source.new ≡ source.old }
-    ensures complete { (s : ScriptData) → AsksRunBy args → S.left source.old ≡ Some (spelling s) → IsScript s → IsFirstRange s → ¬ Rose (S.faults source.old) (S.faults source.new) → ¬ Rose (K.faults sink.old) (K.faults sink.new) → (result ≡ exit_status Status.Done) ⊎ (result ≡ exit_status Status.OutOfMemory) }
+    ensures complete { (s : ScriptData) → AsksRunBy args → S.left source.old ≡ Some (spelling s) → IsScript s → ¬ Rose (S.faults source.old) (S.faults source.new) → ¬ Rose (K.faults sink.old) (K.faults sink.new) → (result ≡ exit_status Status.Done) ⊎ (result ≡ exit_status Status.OutOfMemory) }
 {
     let status = match args {
         Ok(args) => match words_of(alloc, args) {

@@ -3,7 +3,6 @@
 
 mod command;
 mod fault;
-mod first_range;
 mod output;
 mod top;
 

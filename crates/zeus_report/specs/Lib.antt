@@ -1,3 +1,1 @@
 pub mod Lines
-pub mod Machines
-pub mod FirstRange

@@ -3,11 +3,12 @@
 
 mod answers;
 mod letters;
-mod machine;
 mod runs;
 mod standing;
 mod steps;
 mod words;
 
-pub use machine::{Machine, Report};
 pub use runs::report;
+pub use zeus_base::NoMemory;
+pub use zeus_model::Script;
+pub use zeus_world::World;

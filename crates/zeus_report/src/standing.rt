@@ -7,53 +7,53 @@ ghost use Rattle.zeus_model.specs.Tables.{below};
 ghost use Rattle.zeus_report.specs.Lines.{tx_state_line, live_copy, point_at};
 
 use crate::answers::tx_state_text;
-use crate::machine::Machine;
 use crate::words::{state_text, write_nodes, write_optional_node};
 use zeus_base::{NoMemory, NodeId, NodeSet, ObjId, TxId};
 use zeus_model::{Copy, Name};
 use zeus_text::{append, write_line_end, write_number, write_object, write_value, write_word};
+use zeus_world::{Book, World};
 
-fn write_point_id<M: Machine>(out: &mut Vec<u8>, machine: &M, place: u32) -> Result<(), NoMemory>
-    requires { place < length (M.world machine.now).book.points }
-    ensures { OnOk result (out.new.items ≡ out.old.items ++ number (point_at (M.world machine.now).book.points place).id) }
+fn write_point_id(out: &mut Vec<u8>, book: &Book, place: u32) -> Result<(), NoMemory>
+    requires { place < length book.now.book.points }
+    ensures { OnOk result (out.new.items ≡ out.old.items ++ number (point_at book.now.book.points place).id) }
 {
-    match machine.point(place) {
+    match book.point(place) {
         Some((id, _)) => write_number(out, u64::from(id.0)),
         None => Ok(()),
     }
 }
 
-fn write_point_ids<M: Machine>(out: &mut Vec<u8>, machine: &M) -> Result<(), NoMemory>
-    ensures { OnOk result (out.new.items ≡ out.old.items ++ points_text (M.world machine.now).book.points) }
+fn write_point_ids(out: &mut Vec<u8>, book: &Book) -> Result<(), NoMemory>
+    ensures { OnOk result (out.new.items ≡ out.old.items ++ points_text book.now.book.points) }
 {
-    for place in 0..machine.points() {
-        write_point_id(out, machine, place)?;
+    for place in 0..book.len() {
+        write_point_id(out, book, place)?;
     }
     Ok(())
 }
 
-fn write_history<M: Machine>(out: &mut Vec<u8>, machine: &M) -> Result<(), NoMemory>
-    ensures { OnOk result (out.new.items ≡ out.old.items ++ history_line (M.world machine.now).book) }
+fn write_history(out: &mut Vec<u8>, book: &Book) -> Result<(), NoMemory>
+    ensures { OnOk result (out.new.items ≡ out.old.items ++ history_line book.now.book) }
 {
     append(out, b"history")?;
-    write_point_ids(out, machine)?;
+    write_point_ids(out, book)?;
     write_line_end(out)
 }
 
-fn write_tx_state<M: Machine>(out: &mut Vec<u8>, machine: &M, id: TxId) -> Result<(), NoMemory>
-    ensures { OnOk result (out.new.items ≡ out.old.items ++ tx_state_line (M.world machine.now) id) }
+fn write_tx_state(out: &mut Vec<u8>, world: &World, id: TxId) -> Result<(), NoMemory>
+    ensures { OnOk result (out.new.items ≡ out.old.items ++ tx_state_line world.now id) }
 {
     append(out, b"tx")?;
     write_number(out, u64::from(id.0))?;
-    write_word(out, tx_state_text(machine.tx_state(id)))?;
+    write_word(out, tx_state_text(world.tx_state(id)))?;
     write_line_end(out)
 }
 
-fn write_tx_states<M: Machine>(out: &mut Vec<u8>, machine: &M, count: u32) -> Result<(), NoMemory>
-    ensures { OnOk result (out.new.items ≡ out.old.items ++ tx_state_lines (M.world machine.now) (below count)) }
+fn write_tx_states(out: &mut Vec<u8>, world: &World, count: u32) -> Result<(), NoMemory>
+    ensures { OnOk result (out.new.items ≡ out.old.items ++ tx_state_lines world.now (below count)) }
 {
     for k in 0..count {
-        write_tx_state(out, machine, TxId(k))?;
+        write_tx_state(out, world, TxId(k))?;
     }
     Ok(())
 }
@@ -78,17 +78,17 @@ fn write_copy(
     write_line_end(out)
 }
 
-fn write_live_copy<M: Machine>(
+fn write_live_copy(
     out: &mut Vec<u8>,
     names: &[Name],
-    machine: &M,
+    world: &World,
     obj: ObjId,
     at: NodeId,
 ) -> Result<(), NoMemory>
-    ensures { OnOk result (out.new.items ≡ out.old.items ++ live_copy names.now (M.world machine.now) obj at) }
+    ensures { OnOk result (out.new.items ≡ out.old.items ++ live_copy names.now world.now obj at) }
 {
-    if machine.is_live(at) {
-        write_copy(out, names, obj, at, &machine.copy(at, obj))
+    if world.is_live(at) {
+        write_copy(out, names, obj, at, &world.copy(at, obj))
     } else {
         Ok(())
     }
@@ -96,85 +96,85 @@ fn write_live_copy<M: Machine>(
 
 // The copies at the live ones of the nodes.
 #[tactic(auto, using(crate::proofs::Copies::live_copies_split), unfolding(zeus_model::specs::ReportText::copy_lines, zeus_model::specs::Readers::live_among))]
-fn write_copies<M: Machine>(
+fn write_copies(
     out: &mut Vec<u8>,
     names: &[Name],
-    machine: &M,
+    world: &World,
     obj: ObjId,
     nodes: NodeSet,
 ) -> Result<(), NoMemory>
-    ensures { OnOk result (out.new.items ≡ out.old.items ++ copy_lines names.now (M.world machine.now) obj (live_among (M.world machine.now) nodes)) }
+    ensures { OnOk result (out.new.items ≡ out.old.items ++ copy_lines names.now world.now obj (live_among world.now nodes)) }
 {
     for node in nodes {
-        write_live_copy(out, names, machine, obj, node)?;
+        write_live_copy(out, names, world, obj, node)?;
     }
     Ok(())
 }
 
 #[tactic(auto, unfolding(zeus_model::specs::ReportText::holders_text))]
-fn write_holders<M: Machine>(
+fn write_holders(
     out: &mut Vec<u8>,
     names: &[Name],
-    machine: &M,
+    world: &World,
     obj: ObjId,
 ) -> Result<(), NoMemory>
-    ensures { OnOk result (out.new.items ≡ out.old.items ++ holders_text names.now (M.world machine.now) obj) }
+    ensures { OnOk result (out.new.items ≡ out.old.items ++ holders_text names.now world.now obj) }
 {
-    if machine.is_lost(obj) {
+    if world.is_lost(obj) {
         append(out, b"lost")?;
         write_object(out, names, obj)?;
         write_line_end(out)
     } else {
-        write_copies(out, names, machine, obj, machine.latest_place(obj).replicas)
+        write_copies(out, names, world, obj, world.latest_place(obj).replicas)
     }
 }
 
-fn write_standing<M: Machine>(
+fn write_standing(
     out: &mut Vec<u8>,
     names: &[Name],
-    machine: &M,
+    world: &World,
     obj: ObjId,
 ) -> Result<(), NoMemory>
-    ensures { OnOk result (out.new.items ≡ out.old.items ++ object_text names.now (M.world machine.now) obj) }
+    ensures { OnOk result (out.new.items ≡ out.old.items ++ object_text names.now world.now obj) }
 {
     append(out, b"object")?;
     write_object(out, names, obj)?;
-    write_optional_node(out, machine.owner(obj))?;
-    write_nodes(out, machine.latest_place(obj).replicas)?;
+    write_optional_node(out, world.owner(obj))?;
+    write_nodes(out, world.latest_place(obj).replicas)?;
     write_line_end(out)?;
-    write_holders(out, names, machine, obj)
+    write_holders(out, names, world, obj)
 }
 
-fn write_objects<M: Machine>(
+fn write_objects(
     out: &mut Vec<u8>,
     names: &[Name],
-    machine: &M,
+    world: &World,
     count: u16,
 ) -> Result<(), NoMemory>
     requires { count ≤ 256 }
-    ensures { OnOk result (out.new.items ≡ out.old.items ++ objects_text names.now (M.world machine.now) (below count)) }
+    ensures { OnOk result (out.new.items ≡ out.old.items ++ objects_text names.now world.now (below count)) }
 {
     for x in 0..count {
-        write_standing(out, names, machine, ObjId(x))?;
+        write_standing(out, names, world, ObjId(x))?;
     }
     Ok(())
 }
 
 /// Writes how the world stands; it has so many transactions and objects.
-pub(crate) fn write_final<M: Machine>(
+pub(crate) fn write_final(
     out: &mut Vec<u8>,
     names: &[Name],
-    machine: &M,
+    world: &World,
     txs: u32,
     objects: u16,
 ) -> Result<(), NoMemory>
-    requires txs { txs ≡ length (M.world machine.now).txs }
-    requires objects { objects ≡ length (M.world machine.now).config.objects }
+    requires txs { txs ≡ length world.now.txs }
+    requires objects { objects ≡ length world.now.config.objects }
     requires few_objects { objects ≤ 256 }
-    ensures { OnOk result (out.new.items ≡ out.old.items ++ final_text names.now (M.world machine.now)) }
+    ensures { OnOk result (out.new.items ≡ out.old.items ++ final_text names.now world.now) }
 {
-    write_history(out, machine)?;
-    write_tx_states(out, machine, txs)?;
-    write_objects(out, names, machine, objects)?;
+    write_history(out, world.book())?;
+    write_tx_states(out, world, txs)?;
+    write_objects(out, names, world, objects)?;
     append(out, b"end\n")
 }

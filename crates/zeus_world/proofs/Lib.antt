@@ -1,16 +1,10 @@
-mod AtStart
-mod Batches
-mod Finding
-mod FirstLinks
-mod FirstNodes
-mod Noting
-mod Passes
-mod Passing
-mod Reaching
-mod Recording
-mod Sending
-mod Standing
-mod Starting
-mod Trying
-mod TwoNodes
-mod Worlds
+pub mod Batches
+pub mod Keeping
+pub mod Refusing
+pub mod Sending
+pub mod Standing
+pub mod Starting
+pub mod Settling
+pub mod Stepping
+pub mod Viewing
+pub mod Sorting

@@ -1,10 +1,9 @@
-pub mod Books
-pub mod FirstRun
-pub mod FirstWorld
 pub mod Links
+pub mod Order
+pub mod Packets
 pub mod Posting
-pub mod Reached
+pub mod Refusals
+pub mod Reports
+pub mod Settling
 pub mod Shown
-pub mod Steps
-pub mod Tries
-pub mod TwoNodes
+pub mod Taken

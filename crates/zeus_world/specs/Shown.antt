@@ -1,15 +1,24 @@
--- The world that a cluster holds.
+-- The world that a run holds.
+use Rattle.std.specs.Prelude.{◌≡◌}
 use Rattle.zeus_model.specs.World.{World}
-use Rattle.zeus_world.specs.declared.cluster.Cluster.TheInside.{Inside}
+use Rattle.history_book.specs.Books.{BookState}
 use Rattle.zeus_world.specs.Links.{letters}
+use Rattle.reached_worlds.specs.Reached.{IsReached}
+use Rattle.zeus_world.specs.declared.world.World.TheInside.{Inside}
 
 abbrev pub shown : Inside → World
-shown c =
+shown w =
     record {
-      config = c.config.now;
-      txs = c.txs.now;
-      nodes = c.nodes.items;
-      links = letters c.links;
-      views = c.views.items;
-      book = c.book.book;
+      config = w.config.now;
+      txs = w.txs.now;
+      nodes = w.nodes.items;
+      links = letters w.links;
+      views = w.views;
+      book = w.book.book;
     }
+
+-- some steps lead to the world, and the book is one of its configuration
+pub record IsKept (w : World) (b : BookState) : Type 0 where
+  pub reached : IsReached w
+  pub nodes : b.nodes ≡ w.config.nodes
+  pub slots : b.slots ≡ w.config.slots

@@ -1,17 +1,23 @@
-//! A run of the machine: its nodes, the letters on its links, and its book of transactions.
+//! A run of the machine: its nodes, the letters on its links, its views, and its book of transactions.
 #![tactic(auto)]
 
-mod book;
-mod cluster;
-mod ids;
+mod acts;
+mod alone;
 mod links;
-mod made;
+mod order;
 mod posting;
-#[cfg(test)]
-mod tests;
+mod readers;
+mod report;
+mod steps;
 mod world;
 
-pub use book::Book;
-pub use ids::IdList;
+pub use history_book::{Book, IdList};
 pub use links::Links;
+pub use membership::Service;
+pub use report::{Packets, Report};
 pub use world::World;
+pub use zeus_base::{Config, NoMemory, NodeId, ObjId, Step, TxId};
+pub use zeus_model::{Answer, Copy, TxState};
+pub use zeus_node::Node;
+pub use zeus_packet::{Letter, Packet, Place};
+pub use zeus_txn::{Reply, TxList};

@@ -12,6 +12,9 @@ use zeus_packet::Letter;
 /// How many letters a link has at most, so that each has its number.
 const MOST: usize = 0xffff_ffff;
 
+/// How many letters a step sends at most.
+const MOST_LETTERS: usize = 64;
+
 /// One link, seen as its letters and the room for more.
 #[derive(Debug, Drop)]
 struct Link {
@@ -50,14 +53,14 @@ impl Link {
     }
 
     /// Adds a letter, for which there is room; answers its number.
-    fn push(&mut self, letter: Letter) -> u32
+    fn push(&mut self, letter: &Letter) -> u32
         requires { 0 < self.old.room }
-        ensures letters { self.new.letters ≡ self.old.letters ++ letter ∷ [] }
+        ensures letters { self.new.letters ≡ self.old.letters ++ letter.now ∷ [] }
         ensures room { self.new.room + 1 ≡ self.old.room }
         ensures number { result ≡ length self.old.letters }
     {
         let number = self.letters.len() as u32;
-        self.letters.push_reserved(letter);
+        self.letters.push_reserved(letter.duplicate());
         number
     }
 
@@ -128,13 +131,13 @@ impl Row {
         Ok(())
     }
 
-    fn push(&mut self, letter: Letter) -> u32
-        requires to { letter.to < length self.old }
-        requires room { 0 < (nth no_link self.old letter.to).room }
-        ensures letters { row_letters self.new ≡ put [] (row_letters self.old) letter.to (nth [] (row_letters self.old) letter.to ++ letter ∷ []) }
+    fn push(&mut self, letter: &Letter) -> u32
+        requires to { letter.now.to < length self.old }
+        requires room { 0 < (nth no_link self.old letter.now.to).room }
+        ensures letters { row_letters self.new ≡ put [] (row_letters self.old) letter.now.to (nth [] (row_letters self.old) letter.now.to ++ letter.now ∷ []) }
         ensures room { (k : ℕ) → (nth no_link self.old k).room ≤ (nth no_link self.new k).room + 1 }
         ensures size { length self.new ≡ length self.old }
-        ensures number { result ≡ length (nth [] (row_letters self.old) letter.to) }
+        ensures number { result ≡ length (nth [] (row_letters self.old) letter.now.to) }
     {
         let link = &mut self.links[letter.to.place()];
         link.push(letter)
@@ -189,26 +192,26 @@ impl Links {
         row.count(to)
     }
 
-    /// Room for so many letters more on each link of the sender; the letters stay, whatever the result.
+    /// Room for the letters of a step on each link of the sender: 64 more on each; the letters stay, whatever the result.
     ///
     /// # Errors
-    /// `NoMemory` where the room is not there, or a link would have letters without a number of 32 bits.
-    pub fn reserve(&mut self, from: NodeId, count: usize) -> Result<(), NoMemory>
+    /// `NoMemory` if the room is not there, or if a link would have letters without a number of 32 bits.
+    pub fn reserve(&mut self, from: NodeId) -> Result<(), NoMemory>
         requires { from < length self.old }
         ensures letters { letters self.new ≡ letters self.old }
-        ensures room { OnOk result (HasRoom count (nth [] self.new from)) }
+        ensures room { OnOk result (HasRoom 64 (nth [] self.new from)) }
     {
         let row = &mut self.rows[from.place()];
-        row.reserve(count)
+        row.reserve(MOST_LETTERS)
     }
 
     /// Adds a letter to the end of its link, which has room; answers its number.
-    pub fn send(&mut self, letter: Letter) -> u32
-        requires there { IsLink self.old letter.from letter.to }
-        requires room { 0 < room self.old letter.from letter.to }
-        ensures letters { letters self.new ≡ posted (letters self.old) letter }
+    pub fn send(&mut self, letter: &Letter) -> u32
+        requires there { IsLink self.old letter.now.from letter.now.to }
+        requires room { 0 < room self.old letter.now.from letter.now.to }
+        ensures letters { letters self.new ≡ posted (letters self.old) letter.now }
         ensures room { (from to : ℕ) → room self.old from to ≤ room self.new from to + 1 }
-        ensures number { result ≡ length (link (letters self.old) letter.from letter.to) }
+        ensures number { result ≡ length (link (letters self.old) letter.now.from letter.now.to) }
     {
         let row = &mut self.rows[letter.from.place()];
         row.push(letter)

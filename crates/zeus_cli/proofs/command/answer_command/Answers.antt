@@ -17,6 +17,18 @@ returns-clause-sound g c = λ e s t k.
       | in-Err+in_default w ↦ absurd (no_memory_done (sym w.status-is ∙ done))
     ]
 
+pub returns-clause-promise : goal.returns-clause-promise
+returns-clause-promise g c = λ e s t k.
+    let done : c.match-args.status ≡ Done = is_done c.match-args.status (sym c.number.ensures ∙ e) in
+    elim c.match-args.branch [
+      | in-Ok+in-Ok-words_of w ↦
+          let taken = subst (λ source. TakesScript (g.S.Source.left c.args.source.now) (g.S.Source.left source) s) w.source-is t in
+          w.zeus_top.ensures.promise (sym w.status-is ∙ done) s taken k
+      | in-Ok+in-Err-words_of w ↦ absurd (no_memory_done (sym w.status-is ∙ done))
+      | in-Err+in-InvalidData w ↦ absurd (refused_done w.refuse.result w.refuse.ensures.ends (sym w.status-is ∙ done))
+      | in-Err+in_default w ↦ absurd (no_memory_done (sym w.status-is ∙ done))
+    ]
+
 pub returns-clause-write_fault : goal.returns-clause-write_fault
 unfolding IsDueIf
 returns-clause-write_fault g c = λ e.

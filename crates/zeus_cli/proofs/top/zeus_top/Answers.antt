@@ -13,3 +13,8 @@ returns-in-Ok-clause-write_fault g c = λ failed.
 
 pub returns-in-Ok-clause-write_told : goal.returns-in-Ok-clause-write_told
 returns-in-Ok-clause-write_told g c = λ rose. elim c.write.ensures [ inl w ↦ absurd (omega (arith, w.1, rose)) | inr w ↦ w.0 ]
+
+pub returns-in-Ok-clause-promise : goal.returns-in-Ok-clause-promise
+returns-in-Ok-clause-promise g c = λ done s taken k.
+    let fits = taken.taken.holds.script.fits in
+    c.every_run_keeps_its_promise.ensures s.config s.txs s.steps fits.config fits.txs fits.steps k

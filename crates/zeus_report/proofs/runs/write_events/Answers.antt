@@ -1,36 +1,28 @@
 use Rattle.std.proofs.Common.{refl, ap, ◌∙◌}
 use Rattle.std.proofs.lemmas.List.Recursion.{and_at}
-use Rattle.zeus_report.specs.FirstRange.{is_first_step, are_first_steps}
+use Rattle.zeus_model.specs.FirstRange.{is_first_step, are_first_steps}
 use Rattle.zeus_report.proofs.RunSteps.{step_keeps, run_more, run_done, text_more, text_done}
 use Rattle.zeus_report.proofs.runs.write_events.Goals as goal
 
-pub write_event-requires-clause-first : goal.write_event-requires-clause-first
-unfolding are_first_steps
-write_event-requires-clause-first g c =
-    let step = c.index-steps-place.result in
-    let first = and_at are_first_steps is_first_step refl (λ s ss. refl) c.args.steps.now c.loop-place.place step c.loop-place-test.true c.requires.first in
-    let here = c.index-steps-place.is in
-    cc (first, here)
-
 pub loop-place-preserved : goal.loop-place-preserved
-loop-place-preserved g c =
+loop-place-preserved c =
     let steps = c.args.steps.now in
     let step = c.index-steps-place.result in
-    let before = g.M.Machine.world c.loop-place.machine in
+    let before = c.loop-place.world in
     let taken = c.in_ok-write_event.ensures.world in
     let kept = step_keeps before step in
     record {
       text =
-          text_more c.args.names.now before (g.M.Machine.world c.write_event.new.machine) steps c.loop-place.place step c.loop-place.out.items
+          text_more c.args.names.now before c.write_event.new.world steps c.loop-place.place step c.loop-place.out.items
           c.write_event.new.out.items _ c.loop-place-test.true c.index-steps-place.is taken c.loop-place.invariant.text
           c.in_ok-write_event.ensures.text;
-      world = run_more before (g.M.Machine.world c.write_event.new.machine) _ steps c.loop-place.place step c.loop-place-test.true c.index-steps-place.is taken c.loop-place.invariant.world;
+      world = run_more before c.write_event.new.world _ steps c.loop-place.place step c.loop-place-test.true c.index-steps-place.is taken c.loop-place.invariant.world;
       config = ap (λ w. w.config) taken ∙ kept.config ∙ c.loop-place.invariant.config;
       txs = ap (λ w. w.txs) taken ∙ kept.txs ∙ c.loop-place.invariant.txs;
     }
 
 pub returns-clause-text : goal.returns-clause-text
-returns-clause-text g c = text_done c.args.names.now (g.M.Machine.world c.loop-place.machine) c.args.steps.now c.loop-place.place c.loop-place.out.items _ c.loop-place-test.false c.loop-place.invariant.text
+returns-clause-text c = text_done c.args.names.now c.loop-place.world c.args.steps.now c.loop-place.place c.loop-place.out.items _ c.loop-place-test.false c.loop-place.invariant.text
 
 pub returns-clause-world : goal.returns-clause-world
-returns-clause-world g c = run_done (g.M.Machine.world c.loop-place.machine) _ c.args.steps.now c.loop-place.place c.loop-place-test.false c.loop-place.invariant.world
+returns-clause-world c = run_done c.loop-place.world _ c.args.steps.now c.loop-place.place c.loop-place-test.false c.loop-place.invariant.world

@@ -5,10 +5,10 @@ use Rattle.zeus_model.specs.World.{run}
 use Rattle.zeus_report.proofs.runs.write_events.Given as goal
 
 abbrev pub invariant-loop-place : goal.invariant-loop-place
-invariant-loop-place g l =
+invariant-loop-place l =
     record {
-      text : l.out.items ++ steps_text l.names (g.M.Machine.world l.machine) l.place (drop l.place l.steps) ≡ l.fn.out.items ++ steps_text l.names (g.M.Machine.world l.fn.machine) 0 l.steps;
-      world : run (g.M.Machine.world l.machine) (drop l.place l.steps) ≡ run (g.M.Machine.world l.fn.machine) l.steps;
-      config : (g.M.Machine.world l.machine).config ≡ (g.M.Machine.world l.fn.machine).config;
-      txs : (g.M.Machine.world l.machine).txs ≡ (g.M.Machine.world l.fn.machine).txs;
+      text : l.out.items ++ steps_text l.names l.world l.place (drop l.place l.steps) ≡ l.fn.out.items ++ steps_text l.names l.fn.world 0 l.steps;
+      world : run l.world (drop l.place l.steps) ≡ run l.fn.world l.steps;
+      config : l.world.config ≡ l.fn.world.config;
+      txs : l.world.txs ≡ l.fn.world.txs;
     }

@@ -5,6 +5,6 @@ use Rattle.zeus_model.specs.Readers.{live_among}
 use Rattle.zeus_report.proofs.standing.write_copies.Given as goal
 
 abbrev pub invariant-loop-node : goal.invariant-loop-node
-invariant-loop-node g l =
-    l.out.items ++ copy_lines l.names (g.M.Machine.world l.machine) l.obj (live_among (g.M.Machine.world l.machine) l.node-iterator)
-    ≡ l.fn.out.items ++ copy_lines l.names (g.M.Machine.world l.machine) l.obj (live_among (g.M.Machine.world l.machine) l.fn.nodes)
+invariant-loop-node l =
+    l.out.items ++ copy_lines l.names l.world l.obj (live_among l.world l.node-iterator)
+    ≡ l.fn.out.items ++ copy_lines l.names l.world l.obj (live_among l.world l.fn.nodes)

@@ -6,8 +6,8 @@ use Rattle.zeus_report.specs.Lines.{point_at}
 use Rattle.zeus_report.proofs.standing.write_point_id.Goals as goal
 
 pub returns-in-Some : goal.returns-in-Some
-returns-in-Some g c =
-    let points = (g.M.Machine.world c.args.machine.now).book.points in
+returns-in-Some c =
+    let points = c.args.book.now.book.points in
     let here = nth_found record { id = 0; reply = no_reply } points c.args.place _ (sym c.in-Some.ensures) in
     let id_here = ap (λ p. p.id) here in
     let view = c.id.view_is in

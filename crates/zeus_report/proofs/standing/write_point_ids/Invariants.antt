@@ -4,5 +4,5 @@ use Rattle.zeus_model.specs.ReportText.{points_text}
 use Rattle.zeus_report.proofs.standing.write_point_ids.Given as goal
 
 abbrev pub invariant-loop-place : goal.invariant-loop-place
-invariant-loop-place g l =
-    l.out.items ++ points_text (drop l.place (g.M.Machine.world l.machine).book.points) ≡ l.fn.out.items ++ points_text (g.M.Machine.world l.machine).book.points
+invariant-loop-place l =
+    l.out.items ++ points_text (drop l.place l.book.book.points) ≡ l.fn.out.items ++ points_text l.book.book.points

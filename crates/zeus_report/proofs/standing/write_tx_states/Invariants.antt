@@ -5,4 +5,4 @@ use Rattle.zeus_model.specs.Tables.{numbers_from}
 use Rattle.zeus_report.proofs.standing.write_tx_states.Given as goal
 
 abbrev pub invariant-loop-k : goal.invariant-loop-k
-invariant-loop-k g l = l.out.items ++ tx_state_lines (g.M.Machine.world l.machine) (numbers_from l.k (l.count - l.k)) ≡ l.fn.out.items ++ tx_state_lines (g.M.Machine.world l.machine) (numbers_from 0 l.count)
+invariant-loop-k l = l.out.items ++ tx_state_lines l.world (numbers_from l.k (l.count - l.k)) ≡ l.fn.out.items ++ tx_state_lines l.world (numbers_from 0 l.count)

@@ -7,30 +7,30 @@ use Rattle.zeus_world.proofs.posting.post_all.Goals as goal
 pub send-number-requires-clause-there : goal.send-number-requires-clause-there
 send-number-requires-clause-there c =
     let rest = drop-here _ _ _ c.loop-letter-test.true c.letter-item.is in
-    rw (c.duplicate.ensures) (first_link _ _ _ (rw rest at c.loop-letter.invariant.can))
+    (first_link _ _ _ (rw rest at c.loop-letter.invariant.can))
 
 pub send-number-requires-clause-room : goal.send-number-requires-clause-room
 send-number-requires-clause-room c =
     let rest = drop-here _ _ _ c.loop-letter-test.true c.letter-item.is in
-    rw (c.duplicate.ensures) (first_room _ _ _ (rw rest at c.loop-letter.invariant.can))
+    (first_room _ _ _ (rw rest at c.loop-letter.invariant.can))
 
 pub loop-letter-preserved : goal.loop-letter-preserved
 loop-letter-preserved c =
     let i = c.loop-letter.letter-index in
     let left = drop (i + 1) c.args.batch.now in
     let rest = drop-here _ _ _ c.loop-letter-test.true c.letter-item.is in
-    let sent = rw (c.duplicate.ensures) at c.send-number.ensures.letters in
-    let number = rw (c.duplicate.ensures) at c.send-number.ensures.number in
+    let sent = c.send-number.ensures.letters in
+    let number = c.send-number.ensures.number in
     let room = rw rest at c.loop-letter.invariant.room in
     record {
       can = later_post _ _ _ _ (rw rest at c.loop-letter.invariant.can) sent c.send-number.ensures.room;
-      room = rw (c.push_reserved.ensures.len, c.push_reserved.ensures.capacity) (omega arith);
+      room = omega arith;
       links =
           ap (λ links. all_posted links left) sent ∙ posted_first (letters c.loop-letter.links) c.letter-item.result left
           ∙ (rw rest at c.loop-letter.invariant.links);
       packets =
-          rw (c.push_reserved.ensures.items, c.duplicate-in-loop-letter.ensures, sent)
-          (noted_first c.loop-letter.sent.items (letters c.loop-letter.links) c.letter-item.result left _ number ∙ (rw rest at c.loop-letter.invariant.packets));
+          rw (c.push.ensures.packets, c.duplicate.ensures, sent)
+          (noted_first c.loop-letter.sent.packets (letters c.loop-letter.links) c.letter-item.result left _ number ∙ (rw rest at c.loop-letter.invariant.packets));
     }
 
 pub returns-clause-links : goal.returns-clause-links
@@ -41,4 +41,4 @@ returns-clause-links c =
 pub returns-clause-packets : goal.returns-clause-packets
 returns-clause-packets c =
     let none = drop-end c.args.batch.now c.loop-letter.letter-index (omega arith) in
-    noted_none c.loop-letter.sent.items (letters c.loop-letter.links) ∙ (rw none at c.loop-letter.invariant.packets)
+    noted_none c.loop-letter.sent.packets (letters c.loop-letter.links) ∙ (rw none at c.loop-letter.invariant.packets)

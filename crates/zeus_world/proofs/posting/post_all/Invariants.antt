@@ -1,4 +1,4 @@
-use Rattle.std.proofs.Common.{◌≡◌, ◌≤◌, ◌+◌, ◌++◌, drop, length, vec_capacity, vec_len}
+use Rattle.std.proofs.Common.{◌≡◌, ◌≤◌, ◌+◌, ◌++◌, drop, length}
 use Rattle.zeus_model.specs.World.{all_posted, packets}
 use Rattle.zeus_world.specs.Links.{letters}
 use Rattle.zeus_world.specs.Posting.{CanPost}
@@ -8,7 +8,7 @@ use Rattle.zeus_world.proofs.posting.post_all.Given as goal
 abbrev pub invariant-loop-letter : goal.invariant-loop-letter
 invariant-loop-letter l = record {
   can : CanPost l.links (drop l.letter-index l.batch);
-  room : vec_len l.sent + length (drop l.letter-index l.batch) ≤ vec_capacity l.sent;
+  room : length (drop l.letter-index l.batch) ≤ l.sent.room;
   links : all_posted (letters l.links) (drop l.letter-index l.batch) ≡ all_posted (letters l.initial.links) l.batch;
-  packets : l.sent.items ++ packets (letters l.links) (drop l.letter-index l.batch) ≡ l.initial.sent.items ++ packets (letters l.initial.links) l.batch;
+  packets : l.sent.packets ++ packets (letters l.links) (drop l.letter-index l.batch) ≡ l.initial.sent.packets ++ packets (letters l.initial.links) l.batch;
 }

@@ -10,30 +10,30 @@ push-requires-clause-to c =
     let row = rw c.place.ensures at c.index_mut-row.ensures.value in
     let from = rw (← c.self.view_is) at c.requires.there.from in
     let to = rw (← c.self.view_is) at c.requires.there.to in
-    rw (nth_read [] _ c.args.letter.from _ from row) at to
+    rw (nth_read [] _ c.args.letter.now.from _ from row) at to
 
 pub push-requires-clause-room : goal.push-requires-clause-room
 push-requires-clause-room c =
     let row = rw c.place.ensures at c.index_mut-row.ensures.value in
     let from = rw (← c.self.view_is) at c.requires.there.from in
     let room = rw (← c.self.view_is) at c.requires.room in
-    subst (λ (r : List LinkState). 0 < (nth no_link r c.args.letter.to).room) (nth_read [] _ c.args.letter.from _ from row) room
+    subst (λ (r : List LinkState). 0 < (nth no_link r c.args.letter.now.to).room) (nth_read [] _ c.args.letter.now.from _ from row) room
 
 pub returns-clause-letters : goal.returns-clause-letters
 returns-clause-letters c =
     let row = rw c.place.ensures at c.index_mut-row.ensures.value in
     let from = rw (← c.self.view_is) at c.requires.there.from in
-    rw (← c.self.view_is, c.place.ensures, letters-nth c.self.inside.rows.items c.args.letter.from, nth_read [] _ c.args.letter.from _ from row, ← c.push.ensures.letters)
-    (letters-set _ c.args.letter.from c.push.new.self from)
+    rw (← c.self.view_is, c.place.ensures, letters-nth c.self.inside.rows.items c.args.letter.now.from, nth_read [] _ c.args.letter.now.from _ from row, ← c.push.ensures.letters)
+    (letters-set _ c.args.letter.now.from c.push.new.self from)
 
 pub returns-clause-room : goal.returns-clause-room
 returns-clause-room c =
     let row = rw c.place.ensures at c.index_mut-row.ensures.value in
     let from = rw (← c.self.view_is) at c.requires.there.from in
-    rw (← c.self.view_is, c.place.ensures) (rows_room _ c.args.letter.from _ c.push.new.self from row c.push.ensures.room)
+    rw (← c.self.view_is, c.place.ensures) (rows_room _ c.args.letter.now.from _ c.push.new.self from row c.push.ensures.room)
 
 pub returns-clause-number : goal.returns-clause-number
 returns-clause-number c =
     let row = rw c.place.ensures at c.index_mut-row.ensures.value in
     let from = rw (← c.self.view_is) at c.requires.there.from in
-    rw (← c.self.view_is, letters-nth c.self.inside.rows.items c.args.letter.from, nth_read [] _ c.args.letter.from _ from row) c.push.ensures.number
+    rw (← c.self.view_is, letters-nth c.self.inside.rows.items c.args.letter.now.from, nth_read [] _ c.args.letter.now.from _ from row) c.push.ensures.number

@@ -8,23 +8,23 @@ push-requires c =
     let link = rw c.place.ensures at c.index_mut-link.ensures.value in
     let to = rw (← c.self.view_is) at c.requires.to in
     let room = rw (← c.self.view_is) at c.requires.room in
-    rw (nth_read no_link _ c.args.letter.to _ to link) at room
+    rw (nth_read no_link _ c.args.letter.now.to _ to link) at room
 
 pub returns-clause-letters : goal.returns-clause-letters
 returns-clause-letters c =
     let link = rw c.place.ensures at c.index_mut-link.ensures.value in
     let to = rw (← c.self.view_is) at c.requires.to in
-    rw (← c.self.view_is, c.place.ensures, row_letters-nth c.self.inside.links.items c.args.letter.to, nth_read no_link _ c.args.letter.to _ to link, ← c.push.ensures.letters)
-    (row_letters-set _ c.args.letter.to c.push.new.self to)
+    rw (← c.self.view_is, c.place.ensures, row_letters-nth c.self.inside.links.items c.args.letter.now.to, nth_read no_link _ c.args.letter.now.to _ to link, ← c.push.ensures.letters)
+    (row_letters-set _ c.args.letter.now.to c.push.new.self to)
 
 pub returns-clause-room : goal.returns-clause-room
 returns-clause-room c =
     let link = rw c.place.ensures at c.index_mut-link.ensures.value in
     let to = rw (← c.self.view_is) at c.requires.to in
-    rw (← c.self.view_is, c.place.ensures) (row_room _ c.args.letter.to _ c.push.new.self to link c.push.ensures.room)
+    rw (← c.self.view_is, c.place.ensures) (row_room _ c.args.letter.now.to _ c.push.new.self to link c.push.ensures.room)
 
 pub returns-clause-number : goal.returns-clause-number
 returns-clause-number c =
     let link = rw c.place.ensures at c.index_mut-link.ensures.value in
     let to = rw (← c.self.view_is) at c.requires.to in
-    rw (← c.self.view_is, row_letters-nth c.self.inside.links.items c.args.letter.to, nth_read no_link _ c.args.letter.to _ to link) c.push.ensures.number
+    rw (← c.self.view_is, row_letters-nth c.self.inside.links.items c.args.letter.now.to, nth_read no_link _ c.args.letter.now.to _ to link) c.push.ensures.number

@@ -1,0 +1,18 @@
+use Rattle.std.proofs.Common.{Some, true}
+use Rattle.zeus_model.specs.Book.{TxRecord}
+use Rattle.history_book.proofs.Keeping.{kept_marked, mark_begun, seen_marked}
+use Rattle.history_book.proofs.book.Book.begin.Goals as goal
+
+pub invariant_of-self : goal.invariant_of-self
+invariant_of-self c =
+    let there = rw (← c.self.view_is) at c.requires in
+    let found = rw c.place.ensures at c.index_mut-record.ensures.value in
+    rw c.place.ensures
+    (kept_marked (λ (r : TxRecord). record r { begun = Some c.self.inside.steps }) _ c.args.id _ c.begin.new.self _ _ _ _ (mark_begun c.self.inside.steps) c.self.invariant there found c.begin.ensures)
+
+pub returns : goal.returns
+returns c =
+    let there = rw (← c.self.view_is) at c.requires in
+    let found = rw c.place.ensures at c.index_mut-record.ensures.value in
+    rw (← c.self.view_is, c.place.ensures)
+    (seen_marked (λ (r : TxRecord). record r { begun = Some c.self.inside.steps }) _ _ _ _ _ c.args.id _ c.begin.new.self (mark_begun c.self.inside.steps) c.self.invariant.pointed there found c.begin.ensures)

@@ -1,0 +1,20 @@
+use Rattle.std.proofs.Common.{Some}
+use Rattle.zeus_model.specs.Book.{TxRecord}
+use Rattle.history_book.proofs.Keeping.{kept_replied, seen_unpointed}
+use Rattle.history_book.proofs.book.Book.set_reply.Goals as goal
+
+pub invariant_of-self : goal.invariant_of-self
+invariant_of-self c =
+    let there = rw (← c.self.view_is) at c.requires.there in
+    let none = rw (← c.self.view_is) at c.requires.first in
+    let found = rw c.place.ensures at c.index_mut-record.ensures.value in
+    rw c.place.ensures
+    (kept_replied c.args.reply _ c.args.id _ c.set_reply.new.self _ _ _ _ c.self.invariant none there found c.set_reply.ensures)
+
+pub returns : goal.returns
+returns c =
+    let there = rw (← c.self.view_is) at c.requires.there in
+    let none = rw (← c.self.view_is) at c.requires.first in
+    let found = rw c.place.ensures at c.index_mut-record.ensures.value in
+    rw (← c.self.view_is, c.place.ensures)
+    (seen_unpointed (λ (r : TxRecord). record r { reply = Some c.args.reply }) _ _ _ _ _ c.args.id _ c.set_reply.new.self c.self.invariant.pointed none there found c.set_reply.ensures)

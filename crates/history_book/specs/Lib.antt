@@ -1,0 +1,4 @@
+pub mod Books
+pub mod Entries
+pub mod Ids
+pub mod Tries

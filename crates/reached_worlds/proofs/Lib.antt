@@ -1,0 +1,5 @@
+pub mod Passes
+pub mod Ranging
+pub mod Signed
+pub mod Telling
+pub mod Reaching

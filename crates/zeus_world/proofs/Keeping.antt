@@ -1,0 +1,93 @@
+-- What is known of the world that a run holds, and that each step keeps it.
+use Rattle.std.proofs.Common.{ℕ, zero, suc, ◌≡◌, ◌<◌, ◌++◌, List, [], ◌∷◌, length, take, refl, sym, ap, ◌∙◌, subst, arith}
+use Rattle.std.specs.List.{All}
+use Rattle.std.proofs.lemmas.List.Elements.{All-append, All-cons, All-nil}
+use Rattle.std.proofs.Math.Seq.{take-length}
+use Rattle.zeus_base.specs.Limits.{KeepsLimits}
+use Rattle.zeus_base.specs.declared.config.Config.{Config}
+use Rattle.zeus_base.specs.declared.step.Step.{Step}
+use Rattle.zeus_txn.specs.declared.tx.TxDecl.{TxDecl}
+use Rattle.zeus_model.specs.Scripts.{FitsStep, FitsTxs}
+use Rattle.zeus_model.specs.Sound.{Sound}
+use Rattle.zeus_model.specs.World.{World, happens, run, start, stepped}
+use Rattle.history_book.specs.Books.{BookState}
+use Rattle.reached_worlds.specs.Reached.{IsReached}
+use Rattle.reached_worlds.proofs.Reaching.{IsKnown, reached_known, reached_same}
+use Rattle.std.specs.Prelude.{Result, Ok, Err, IfOk, OnErr}
+use Rattle.zeus_base.specs.declared.step.NoMemory.{NoMemory}
+use Rattle.zeus_world.specs.Shown.{IsKept}
+use Rattle.zeus_world.specs.Taken.{IsTaken}
+use Rattle.zeus_world.specs.declared.report.Report.{Report}
+
+pub known : (w : World) (b : BookState) → IsKept w b → IsKnown w
+known w b k = reached_known w k.reached
+
+run-append : (w : World) (ss : List Step) (s : Step) → run w (ss ++ s ∷ []) ≡ stepped (run w ss) s
+unfolding run
+run-append w [] s = refl
+run-append w (x ∷ ss) s = run-append (stepped w x) ss s
+
+-- no step leads to the start
+pub reached_start : (c : Config) (txs : List TxDecl) → KeepsLimits c → FitsTxs c txs → IsReached (start c txs)
+unfolding run start
+reached_start c txs l f = record {
+  config = c;
+  txs = txs;
+  steps = [];
+  limits = l;
+  fit_txs = f;
+  fit_steps = All-nil (FitsStep c (length txs));
+  leads = refl;
+  same_config = refl;
+  same_txs = refl;
+}
+
+-- one step more leads to the world after it
+pub reached_step : (w : World) (s : Step) → IsReached w → FitsStep w.config (length w.txs) s → IsReached (stepped w s)
+reached_step w s r f =
+    let same = reached_same w s r f in
+    let fits : FitsStep r.config (length r.txs) s = rw (r.same_config, r.same_txs) at f in
+    record {
+      config = r.config;
+      txs = r.txs;
+      steps = r.steps ++ s ∷ [];
+      limits = r.limits;
+      fit_txs = r.fit_txs;
+      fit_steps = All-append (FitsStep r.config (length r.txs)) r.steps (s ∷ []) r.fit_steps (All-cons (FitsStep r.config (length r.txs)) s [] fits (All-nil (FitsStep r.config (length r.txs))));
+      leads = ap (λ v. stepped v s) r.leads ∙ sym (run-append (start r.config r.txs) r.steps s);
+      same_config = same.config ∙ r.same_config;
+      same_txs = same.txs ∙ r.same_txs;
+    }
+
+-- a world that is reached is sound, as every run is
+pub reached_sound : (w : World) → IsReached w → ((c : Config) (txs : List TxDecl) (steps : List Step) → KeepsLimits c → FitsTxs c txs → All (FitsStep c (length txs)) steps → (k : ℕ) → Sound (run (start c txs) (take k steps))) → Sound w
+reached_sound w r sound =
+    let all = sound r.config r.txs r.steps r.limits r.fit_txs r.fit_steps (length r.steps) in
+    rw (r.leads) (rw (take-length r.steps) at all)
+
+-- a step that fits keeps the world reached, and the book one of its configuration
+pub kept_after : (w v : World) (s : Step) (b c : BookState) → IsKept w b → FitsStep w.config (length w.txs) s → v ≡ stepped w s → c.nodes ≡ b.nodes → c.slots ≡ b.slots → IsKept v c
+kept_after w v s b c k f e nodes slots =
+    let same = reached_same w s k.reached f in
+    let config : v.config ≡ w.config = ap (λ (u : World). u.config) e ∙ same.config in
+    record {
+      reached = rw e (reached_step w s k.reached f);
+      nodes = nodes ∙ k.nodes ∙ sym (ap (λ (x : Config). x.nodes) config);
+      slots = slots ∙ k.slots ∙ sym (ap (λ (x : Config). x.slots) config);
+    }
+
+-- ---- what a step ensures
+
+-- the theorem that every run is sound
+abbrev pub EveryRunIsSound : Type 0
+EveryRunIsSound = (c : Config) (txs : List TxDecl) (steps : List Step) → KeepsLimits c → FitsTxs c txs → All (FitsStep c (length txs)) steps → (k : ℕ) → Sound (run (start c txs) (take k steps))
+
+pub sound_stepped : (w v : World) (s t : Step) → IsReached w → FitsStep w.config (length w.txs) s → EveryRunIsSound → s ≡ t → v ≡ (happens w t).world → Sound v
+sound_stepped w v s t r f sound is e =
+    let after : v ≡ stepped w s = e ∙ ap (λ (u : Step). stepped w u) (sym is) in
+    rw after (reached_sound (stepped w s) (reached_step w s r f) sound)
+
+pub sound_after : (w v : World) (s t : Step) (report : Report) (r : Result (Unit {0}) NoMemory) → IsReached w → FitsStep w.config (length w.txs) s → EveryRunIsSound → s ≡ t
+    → IfOk r (λ u. IsTaken report v (happens w t)) → OnErr r (v ≡ w) → Sound v
+sound_after w v s t report (Ok u) r f sound is ok err = sound_stepped w v s t r f sound is ok.becomes
+sound_after w v s t report (Err e) r f sound is ok err = rw err (reached_sound w r sound)

@@ -1,0 +1,301 @@
+-- What happens in each step, by what its node did.
+use Rattle.std.proofs.Common.{ℕ, zero, suc, ◌≡◌, ◌<◌, ◌≤◌, ◌+◌, ◌-◌, ◌^◌, ◌++◌, Bool, true, false, not, List, [], ◌∷◌, Option, Some, None, length, take, refl, sym, ap, ◌∙◌, subst, arith}
+use Rattle.std.specs.Prelude.{nat_lt, if◌then◌else◌, is_none}
+use Rattle.std.proofs.Math.ListN.{get_or, set}
+use Rattle.std.proofs.Common.{◌⊎◌, inl, inr}
+use Rattle.std.proofs.lemmas.Bool.{cases_lt}
+use Rattle.std.proofs.lemmas.Bool.Decides.{nat_tests}
+use Rattle.zeus_base.specs.Limits.{limits_of}
+use Rattle.zeus_base.specs.NodeLaws.{IsBelow}
+use Rattle.zeus_base.specs.TableLaws.{nth_read}
+use Rattle.zeus_base.specs.declared.config.Config.{Config}
+use Rattle.zeus_base.specs.declared.order.Stream.{Stream}
+use Rattle.zeus_base.specs.declared.step.Passed.{Passed}
+use Rattle.zeus_base.specs.declared.step.Step.{Step}
+use Rattle.zeus_base.specs.declared.step.Step.TheVariants.{Begin, Try, Deliver, Tick, Stop, View, Install}
+use Rattle.zeus_packet.specs.declared.letter.Letter.{Letter}
+use Rattle.zeus_packet.specs.declared.place.View.{View as ViewOf}
+use Rattle.zeus_txn.specs.declared.tx.TxDecl.{TxDecl}
+use Rattle.zeus_model.specs.Act.{Did}
+use Rattle.zeus_model.specs.Book.{Book, BookChange, book_passes, book_tried, change_then, changed, counted, in_stream_order, unchanged}
+use Rattle.zeus_model.specs.Local.{begin, try_slot}
+use Rattle.zeus_model.specs.Membership.{install, stop, tick}
+use Rattle.zeus_model.specs.Receive.{receive}
+use Rattle.zeus_model.specs.Scripts.{FitsStep}
+use Rattle.zeus_model.specs.State.{Node}
+use Rattle.zeus_model.specs.Tables.{nth}
+use Rattle.zeus_model.specs.World.{World, Event, acted, begin_or_not, begin_refused, begun_at, book_begun, cut, deliver_or_not, happens, installed_at, link, no_node, no_tx, node, nth_letter, received_at, refuse_step, step_begin, step_install, stopped_at, ticked_at, tried_at, tx_decl}
+use Rattle.zeus_model.specs.declared.answer.Answer.{Answer}
+use Rattle.zeus_model.specs.declared.answer.Begin.{Begin as BeginOutcome}
+use Rattle.zeus_model.specs.declared.answer.Begin.TheVariants.{Begun, Busy, Stopped as BeginStopped}
+use Rattle.zeus_model.specs.declared.answer.Install.{Install as Installing}
+use Rattle.zeus_model.specs.declared.answer.Outcome.{Outcome as Receiving}
+use Rattle.zeus_model.specs.declared.answer.Stop.{Stop as Stopping}
+use Rattle.zeus_model.specs.declared.answer.Ticked.{Ticked as Ticking}
+use Rattle.zeus_model.specs.declared.answer.Tried.{Tried}
+use Rattle.zeus_model.specs.declared.answer.Answer.TheVariants.{Begin as BeginAnswer, Try as TryAnswer, Receive as ReceiveAnswer, Tick as TickAnswer, Stop as StopAnswer, Install as InstallAnswer, NoPacket, NoView}
+use Rattle.zeus_base.specs.declared.config.Limits.{Limits}
+use Rattle.zeus_packet.specs.Fits.{nodes_fit}
+use Rattle.node_ranges.specs.Ranges.{AllFit, KeepsRanges, limits_of as node_limits}
+use Rattle.history_book.specs.Books.{BookState, HasLists}
+use Rattle.history_book.specs.Ids.{IdsState}
+use Rattle.history_book.specs.Tries.{CanNote}
+use Rattle.reached_worlds.specs.Ranged.{IsRanged}
+use Rattle.reached_worlds.proofs.Passes.{IsOfBelow, book_tried-sized}
+use Rattle.reached_worlds.proofs.Reaching.{IsKnown}
+use Rattle.reached_worlds.proofs.Telling.{can_note, try_of_below}
+use Rattle.reached_worlds.proofs.Signed.{AreBy, tick-passed}
+use Rattle.zeus_world.specs.Links.{LinkState, HasRoom, letters}
+use Rattle.zeus_world.specs.Settling.{CanSettle, IsSettled}
+use Rattle.zeus_world.specs.Taken.{IsAlone, IsTaken}
+use Rattle.zeus_world.specs.declared.report.Report.{Report}
+use Rattle.zeus_world.proofs.Settling.{IsMade, can_post, few_letters, quiet_taken, settled_taken, world_with}
+
+-- ---- a node of the world
+
+pub record IsNodeAt (w : World) (n : ℕ) (k : Node) : Type 0 where
+  pub there : n < w.config.nodes
+  pub place : n < length w.nodes
+  pub same : node w n ≡ k
+  pub number : k.me ≡ n
+  pub keeps : KeepsRanges (limits_of w.config) k
+
+pub node_at : (w : World) (n : ℕ) (k : Node) → IsRanged w → n < w.config.nodes → k ≡ get_or w.nodes n k → IsNodeAt w n k
+node_at w n k r h e =
+    let place : n < length w.nodes = rw r.count h in
+    let same : node w n ≡ k = nth_read no_node w.nodes n k place e in
+    record {
+      there = h;
+      place = place;
+      same = same;
+      number = subst (λ (m : Node). m.me ≡ n) same (r.numbers n h);
+      keeps = subst (KeepsRanges (limits_of w.config)) same (r.ranges n h);
+    }
+
+pub place_there : (w : World) (n : ℕ) → IsRanged w → n < w.config.nodes → n < length w.nodes
+place_there w n r h = rw r.count h
+
+-- ---- a node has acted
+
+pub record HasActed {A : Type 0} (d : Did A) (answer : A) (after : Node) (said : List Letter) (passed : List Passed) : Type 0 where
+  pub says : answer ≡ d.answer
+  pub becomes : after ≡ d.node
+  pub sends : said ≡ take 64 d.sent
+  pub passes : passed ≡ d.passed
+
+pub can_settle : (w : World) (n : ℕ) (all said : List Letter) (b : BookState) (L : List (List LinkState)) (r : Report) → said ≡ take 64 all → IsRanged w → n < w.config.nodes → letters L ≡ w.links
+    → AreBy n all → AllFit (limits_of w.config) all → HasRoom 64 (nth [] L n) → b.book.steps + 1 < 2 ^ 64 → HasLists b.book r.points r.acked → 64 ≤ r.sent.room → CanSettle b L said r
+can_settle w n all said b L r is ranged h e by fit room steps lists most =
+    let few = few_letters said all is in
+    record { counts = steps; post = can_post w n all said L is ranged h e by fit room; lists = lists; packets = omega arith }
+
+pub settled_as : {A : Type 0} (w : World) (n : ℕ) (wrap : A → Answer) (d : Did A) (answer : A) (after : Node) (said : List Letter) (passed : List Passed) (c : BookChange) (b b' : BookState) (L L' : List (List LinkState)) (r s : Report)
+    → HasActed d answer after said passed → n < length w.nodes → letters L ≡ w.links → IsMade c b r.points r.acked → r.sent.packets ≡ [] → r.answer ≡ wrap answer → IsSettled n said passed b b' L L' r s
+    → IsTaken s (world_with w (set w.nodes n after) (letters L') b'.book) (acted w n d.node (wrap d.answer) (take 64 d.sent) (change_then c (λ e. book_passes e n (in_stream_order d.passed))))
+settled_as w n wrap d answer after said passed c b b' L L' r s did h e m none says settled =
+    rw (← did.says, ← did.becomes, ← did.sends, ← did.passes) (settled_taken w n after (wrap answer) said passed c b b' L L' r s h e m none says settled)
+
+-- ---- what happens
+
+no_passes : (w : World) (n : ℕ) (ps : List Passed) → ps ≡ [] → unchanged w.book ≡ change_then (unchanged w.book) (λ e. book_passes e n (in_stream_order ps))
+unfolding book_passes in_stream_order
+no_passes w n ps h = rw h refl
+
+pub tick_happens : (w : World) (n : ℕ) (k : Node) → IsNodeAt w n k
+    → happens w (Tick n) ≡ acted w n (tick k).node (TickAnswer (tick k).answer) (take 64 (tick k).sent) (change_then (unchanged w.book) (λ e. book_passes e n (in_stream_order (tick k).passed)))
+unfolding happens ticked_at
+tick_happens w n k at =
+    ap (λ (m : Node). ticked_at w n (tick m)) at.same ∙ ap (λ (c : BookChange). acted w n (tick k).node (TickAnswer (tick k).answer) (take 64 (tick k).sent) c) (no_passes w n (tick k).passed (tick-passed k))
+
+pub try_happens : (w : World) (n s : ℕ) (k : Node) → IsNodeAt w n k
+    → happens w (Try n s) ≡ acted w n (try_slot k s).node (TryAnswer (try_slot k s).answer) (take 64 (try_slot k s).sent)
+    (change_then (book_tried w.book record { node = n; slot = s } w.config.degree (try_slot k s).answer) (λ e. book_passes e n (in_stream_order (try_slot k s).passed)))
+unfolding happens tried_at
+try_happens w n s k at = ap (λ (m : Node). tried_at w n s (try_slot m s)) at.same
+
+pub deliver_happens : (w : World) (from to i : ℕ) (l : Letter) (k : Node) → IsNodeAt w to k → nth_letter (link w.links from to) i ≡ Some l
+    → happens w (Deliver from to i) ≡ acted w to (receive k l).node (ReceiveAnswer (receive k l).answer) (take 64 (receive k l).sent) (change_then (unchanged w.book) (λ e. book_passes e to (in_stream_order (receive k l).passed)))
+unfolding happens deliver_or_not received_at
+deliver_happens w from to i l k at is = ap (deliver_or_not w from to) is ∙ ap (λ (m : Node). received_at w to (receive m l)) at.same
+
+pub deliver_none : (w : World) (from to i : ℕ) → nth_letter (link w.links from to) i ≡ None → happens w (Deliver from to i) ≡ refuse_step w (NoPacket (length (link w.links from to)))
+unfolding happens deliver_or_not
+deliver_none w from to i is = ap (deliver_or_not w from to) is
+
+either_false : {A : Type 0} (test : Bool) (a b : A) → test ≡ false → (if test then a else b) ≡ b
+either_false test a b h = rw h refl
+
+either_true : {A : Type 0} (test : Bool) (a b : A) → test ≡ true → (if test then a else b) ≡ a
+either_true test a b h = rw h refl
+
+pub install_happens : (w : World) (n e : ℕ) (v : ViewOf) (k : Node) → IsNodeAt w n k → e ≤ length w.views → v ≡ record { epoch = e; members = nth [] w.views (e - 1) }
+    → happens w (Install n e) ≡ acted w n (install k v).node (InstallAnswer (install k v).answer) (take 64 (install k v).sent) (change_then (unchanged w.book) (λ d. book_passes d n (in_stream_order (install k v).passed)))
+unfolding happens step_install installed_at
+install_happens w n e v k at h is =
+    let test : nat_lt (length w.views) e ≡ false = grind (arith, nat_tests) in
+    either_false (nat_lt (length w.views) e) (refuse_step w (NoView (length w.views))) _ test
+    ∙ ap (λ (u : ViewOf). installed_at w n (install (node w n) u)) (sym is) ∙ ap (λ (m : Node). installed_at w n (install m v)) at.same
+
+pub install_none : (w : World) (n e : ℕ) → length w.views < e → happens w (Install n e) ≡ refuse_step w (NoView (length w.views))
+unfolding happens step_install
+install_none w n e h =
+    let test : nat_lt (length w.views) e ≡ true = grind (arith, nat_tests) in
+    either_true (nat_lt (length w.views) e) (refuse_step w (NoView (length w.views))) _ test
+
+pub stop_happens : (w : World) (n : ℕ) (k : Node) → IsNodeAt w n k → happens w (Stop n) ≡ acted w n (stop k).node (StopAnswer (stop k).answer) [] (unchanged w.book)
+unfolding happens stopped_at
+stop_happens w n k at = ap (λ (m : Node). stopped_at w n (stop m)) at.same
+
+pub begin_happens : (w : World) (k : ℕ) (n : Node) → IsNodeAt w (tx_decl w k).node n → None ≡ begin_refused w k
+    → happens w (Begin k) ≡ acted w (tx_decl w k).node (begin n (tx_decl w k).slot k (tx_decl w k).tx).node (BeginAnswer (begin n (tx_decl w k).slot k (tx_decl w k).tx).answer) [] (book_begun w.book k (begin n (tx_decl w k).slot k (tx_decl w k).tx).answer)
+unfolding happens step_begin begin_or_not
+begin_happens w k n at is =
+    ap (begin_or_not w k) (sym is) ∙ ap (λ (m : Node). begun_at w k (tx_decl w k).node (begin m (tx_decl w k).slot k (tx_decl w k).tx)) at.same
+
+pub begin_none : (w : World) (k : ℕ) (a : Answer) → Some a ≡ begin_refused w k → happens w (Begin k) ≡ refuse_step w a
+unfolding happens step_begin begin_or_not
+begin_none w k a is = ap (begin_or_not w k) (sym is)
+
+-- ---- what fits
+
+pub fits_begin : (c : Config) (txs k : ℕ) → k < txs → FitsStep c txs (Begin k)
+unfolding FitsStep
+fits_begin c txs k h = h
+
+pub fits_stop : (c : Config) (txs n : ℕ) → n < c.nodes → FitsStep c txs (Stop n)
+unfolding FitsStep
+fits_stop c txs n h = h
+
+pub tick_fits : (c : Config) (txs n : ℕ) → FitsStep c txs (Tick n) → n < c.nodes
+unfolding FitsStep
+tick_fits c txs n h = h
+
+pub record HasPlaces (c : Config) (n s : ℕ) : Type 0 where
+  pub node : n < c.nodes
+  pub slot : s < c.slots
+
+pub try_fits : (c : Config) (txs n s : ℕ) → FitsStep c txs (Try n s) → HasPlaces c n s
+unfolding FitsStep
+try_fits c txs n s h = record { node = h.0; slot = h.1 }
+
+pub record HasNodes (c : Config) (from to : ℕ) : Type 0 where
+  pub sender : from < c.nodes
+  pub receiver : to < c.nodes
+
+pub deliver_fits : (c : Config) (txs from to i : ℕ) → FitsStep c txs (Deliver from to i) → HasNodes c from to
+unfolding FitsStep
+deliver_fits c txs from to i h = record { sender = h.0; receiver = h.1 }
+
+pub record HasEpoch (c : Config) (n e : ℕ) : Type 0 where
+  pub node : n < c.nodes
+  pub first : 1 ≤ e
+
+pub install_fits : (c : Config) (txs n e : ℕ) → FitsStep c txs (Install n e) → HasEpoch c n e
+unfolding FitsStep
+install_fits c txs n e h = record { node = h.0; first = h.1 }
+
+-- ---- what is taken
+
+pub stop_taken : (w : World) (n : ℕ) (k after : Node) (t : Stopping) (links : List (List (List Letter))) (b : Book) (r : Report) → IsNodeAt w n k → t ≡ (stop k).answer → after ≡ (stop k).node
+    → links ≡ w.links → b ≡ counted w.book → IsAlone (StopAnswer t) r → IsTaken r (world_with w (set w.nodes n after) links b) (happens w (Stop n))
+stop_taken w n k after t links b r at says becomes e f alone =
+    rw (stop_happens w n k at, ← says, ← becomes) (quiet_taken w n after (StopAnswer t) (unchanged w.book) links b r at.place e f refl refl alone)
+
+-- a change in which nothing has its point and nothing is acknowledged
+record IsQuietly (c : BookChange) : Type 0 where
+  points : c.points ≡ []
+  acks : c.acked ≡ []
+
+begun_quiet : (b : Book) (k : ℕ) (a : BeginOutcome) → IsQuietly (book_begun b k a)
+unfolding book_begun
+begun_quiet b k Begun = record { points = refl; acks = refl }
+begun_quiet b k (Busy id) = record { points = refl; acks = refl }
+begun_quiet b k BeginStopped = record { points = refl; acks = refl }
+
+pub begin_taken : (w : World) (k : ℕ) (n after : Node) (t : BeginOutcome) (links : List (List (List Letter))) (b : Book) (r : Report) → IsNodeAt w (tx_decl w k).node n → None ≡ begin_refused w k
+    → t ≡ (begin n (tx_decl w k).slot k (tx_decl w k).tx).answer → after ≡ (begin n (tx_decl w k).slot k (tx_decl w k).tx).node
+    → links ≡ w.links → b ≡ counted (book_begun w.book k t).book → IsAlone (BeginAnswer t) r → IsTaken r (world_with w (set w.nodes (tx_decl w k).node after) links b) (happens w (Begin k))
+begin_taken w k n after t links b r at is says becomes e f alone =
+    let quiet = begun_quiet w.book k t in
+    rw (begin_happens w k n at is, ← says, ← becomes)
+    (quiet_taken w (tx_decl w k).node after (BeginAnswer t) (book_begun w.book k t) links b r at.place e f quiet.points quiet.acks alone)
+
+pub tick_taken : (w : World) (n : ℕ) (k after : Node) (t : Ticking) (said : List Letter) (passed : List Passed) (b b' : BookState) (L L' : List (List LinkState)) (r s : Report) → IsNodeAt w n k
+    → HasActed (tick k) t after said passed → letters L ≡ w.links → b.book ≡ w.book → IsAlone (TickAnswer t) r → IsSettled n said passed b b' L L' r s
+    → IsTaken s (world_with w (set w.nodes n after) (letters L') b'.book) (happens w (Tick n))
+tick_taken w n k after t said passed b b' L L' r s at did e f alone settled =
+    rw (tick_happens w n k at)
+    (settled_as w n TickAnswer (tick k) t after said passed (unchanged w.book) b b' L L' r s did at.place e (record { book = f; points = alone.points; acks = alone.acked }) alone.sent alone.says settled)
+
+pub deliver_taken : (w : World) (from to i : ℕ) (l : Letter) (k after : Node) (t : Receiving) (said : List Letter) (passed : List Passed) (b b' : BookState) (L L' : List (List LinkState)) (r s : Report) → IsNodeAt w to k
+    → nth_letter (link w.links from to) i ≡ Some l
+    → HasActed (receive k l) t after said passed → letters L ≡ w.links → b.book ≡ w.book → IsAlone (ReceiveAnswer t) r → IsSettled to said passed b b' L L' r s
+    → IsTaken s (world_with w (set w.nodes to after) (letters L') b'.book) (happens w (Deliver from to i))
+deliver_taken w from to i l k after t said passed b b' L L' r s at is did e f alone settled =
+    rw (deliver_happens w from to i l k at is)
+    (settled_as w to ReceiveAnswer (receive k l) t after said passed (unchanged w.book) b b' L L' r s did at.place e (record { book = f; points = alone.points; acks = alone.acked }) alone.sent alone.says settled)
+
+pub install_taken : (w : World) (n e : ℕ) (v : ViewOf) (k after : Node) (t : Installing) (said : List Letter) (passed : List Passed) (b b' : BookState) (L L' : List (List LinkState)) (r s : Report) → IsNodeAt w n k
+    → e ≤ length w.views → v ≡ record { epoch = e; members = nth [] w.views (e - 1) }
+    → HasActed (install k v) t after said passed → letters L ≡ w.links → b.book ≡ w.book → IsAlone (InstallAnswer t) r → IsSettled n said passed b b' L L' r s
+    → IsTaken s (world_with w (set w.nodes n after) (letters L') b'.book) (happens w (Install n e))
+install_taken w n e v k after t said passed b b' L L' r s at less is did f g alone settled =
+    rw (install_happens w n e v k at less is)
+    (settled_as w n InstallAnswer (install k v) t after said passed (unchanged w.book) b b' L L' r s did at.place f (record { book = g; points = alone.points; acks = alone.acked }) alone.sent alone.says settled)
+
+pub try_taken : (w : World) (n slot : ℕ) (k after : Node) (t : Tried) (said : List Letter) (passed : List Passed) (b b' : BookState) (L L' : List (List LinkState)) (r s : Report) → IsNodeAt w n k
+    → HasActed (try_slot k slot) t after said passed → letters L ≡ w.links → IsMade (book_tried w.book record { node = n; slot = slot } w.config.degree t) b r.points r.acked → r.sent.packets ≡ [] → r.answer ≡ TryAnswer t
+    → IsSettled n said passed b b' L L' r s
+    → IsTaken s (world_with w (set w.nodes n after) (letters L') b'.book) (happens w (Try n slot))
+try_taken w n slot k after t said passed b b' L L' r s at did e m none says settled =
+    rw (try_happens w n slot k at, ← did.says)
+    (rw (← did.says) at (settled_as w n TryAnswer (try_slot k slot) t after said passed (book_tried w.book record { node = n; slot = slot } w.config.degree t) b b' L L' r s did at.place e m none says settled))
+
+-- ---- what the nodes' calls and the book ask
+
+pub members_fit : (limits : Limits) (n : Node) (ms : List ℕ) → KeepsRanges limits n → nodes_fit limits ms ≡ true → nodes_fit (node_limits n) ms ≡ true
+unfolding nodes_fit
+members_fit limits n ms k h = rw k.sizes.nodes h
+
+pub can_try : (w : World) (n s : ℕ) (k : Node) (t : Tried) (b : BookState) → IsKnown w → IsNodeAt w n k → b.book ≡ w.book → b.nodes ≡ w.config.nodes → b.slots ≡ w.config.slots → s < w.config.slots → t ≡ (try_slot k s).answer
+    → CanNote b (record { node = n; slot = s }) t
+can_try w n s k t b known at book nodes slots h e =
+    let can = can_note w known.faithful.truth n s b book (rw nodes at.there) (rw slots h) known.faithful.faithful in
+    rw (e, ← at.same) can
+
+-- a try leaves the count of steps
+pub tried_counted : (w : World) (n s : ℕ) (k : Node) (t : Tried) (b1 : BookState) (p q : IdsState) → IsKnown w → IsNodeAt w n k → t ≡ (try_slot k s).answer
+    → IsMade (book_tried w.book record { node = n; slot = s } w.config.degree t) b1 p q → w.book.steps + 1 < 2 ^ 64 → b1.book.steps + 1 < 2 ^ 64
+tried_counted w n s k t b1 p q known at e m h =
+    let there : IsOfBelow (length w.book.records) t = rw (e, ← at.same) (try_of_below w known.faithful.truth n s known.faithful.faithful) in
+    let sized = book_tried-sized w.book record { node = n; slot = s } w.config.degree t there in
+    let same : b1.book.steps ≡ w.book.steps = ap (λ (d : Book). d.steps) m.book ∙ sized.steps in
+    rw same h
+
+-- an epoch of which there is a view, or none
+pub epoch_past : (n e : ℕ) → (e ≡ 0) ⊎ (n < e) → 1 ≤ e → n < e
+epoch_past n e (inl nought) h = absurd (omega arith)
+epoch_past n e (inr past) h = past
+
+pub epoch_there : (n e : ℕ) → ((e ≡ 0) ⊎ (n < e) → true ≡ false) → e ≤ n
+epoch_there n e h = elim (cases_lt n e) [ inl past ↦ let no : true ≡ false = h (inr past) in absurd (cc) | inr there ↦ there ]
+
+-- a begin leaves the count of steps
+begun_steps : (b : Book) (k : ℕ) (a : BeginOutcome) → (book_begun b k a).book.steps ≡ b.steps
+unfolding book_begun
+begun_steps b k Begun = refl
+begun_steps b k (Busy id) = refl
+begun_steps b k BeginStopped = refl
+
+pub begun_counted : (b : Book) (k : ℕ) (a : BeginOutcome) (d : Book) → d ≡ (book_begun b k a).book → b.steps + 1 < 2 ^ 64 → d.steps + 1 < 2 ^ 64
+begun_counted b k a d e h =
+    let same : d.steps ≡ b.steps = ap (λ (x : Book). x.steps) e ∙ begun_steps b k a in
+    rw same h
+
+pub begin_there : (c : Config) (txs k : ℕ) → FitsStep c txs (Begin k) → k < txs
+unfolding FitsStep
+begin_there c txs k h = h
+
+pub stop_there : (c : Config) (txs n : ℕ) → FitsStep c txs (Stop n) → n < c.nodes
+unfolding FitsStep
+stop_there c txs n h = h

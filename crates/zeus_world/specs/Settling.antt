@@ -1,0 +1,26 @@
+-- What is written down when a node has acted.
+use Rattle.std.specs.Prelude.{ℕ, ◌≡◌, ◌++◌, ◌≤◌, ◌<◌, ◌+◌, ◌^◌, List, length}
+use Rattle.zeus_base.specs.declared.step.Passed.{Passed}
+use Rattle.zeus_packet.specs.declared.letter.Letter.{Letter}
+use Rattle.zeus_model.specs.Book.{BookChange, book_passes, counted, in_stream_order}
+use Rattle.zeus_model.specs.World.{all_posted, packets}
+use Rattle.history_book.specs.Books.{BookState, HasLists, with_book}
+use Rattle.zeus_world.specs.Links.{LinkState, letters}
+use Rattle.zeus_world.specs.Posting.{CanPost}
+use Rattle.zeus_world.specs.declared.report.Report.{Report}
+
+-- the step can be counted, its letters can be put on their links, and the report has room for all
+pub record CanSettle (book : BookState) (links : List (List LinkState)) (said : List Letter) (r : Report) : Type 0 where
+  pub counts : book.book.steps + 1 < 2 ^ 64
+  pub post : CanPost links said
+  pub lists : HasLists book.book r.points r.acked
+  pub packets : length said ≤ r.sent.room
+
+-- the passes of the node are in the book, the step is counted, and the letters are on their links; the report tells of it
+pub record IsSettled (at : ℕ) (said : List Letter) (passed : List Passed) (before after : BookState) (old new : List (List LinkState)) (r s : Report) : Type 0 where
+  pub book : after ≡ with_book before (counted (book_passes before.book at (in_stream_order passed)).book)
+  pub points : s.points.ids ≡ r.points.ids ++ (book_passes before.book at (in_stream_order passed)).points
+  pub acked : s.acked.ids ≡ r.acked.ids ++ (book_passes before.book at (in_stream_order passed)).acked
+  pub links : letters new ≡ all_posted (letters old) said
+  pub sent : s.sent.packets ≡ r.sent.packets ++ packets (letters old) said
+  pub answer : s.answer ≡ r.answer

@@ -1,0 +1,133 @@
+//! What a step reports: its answer, the points and acknowledgements in it, and the packets that it sends.
+ghost use Rattle.std.specs.Prelude.{◌≡◌, ◌≤◌, ◌<◌, ◌+◌, ◌++◌, ◌∷◌, [], IfOk, OnOk, length};
+ghost use Rattle.zeus_world.specs.Reports.{HasSpace, SaysSame};
+
+use history_book::IdList;
+use std::alloc::Global;
+use std::marker::Model;
+use zeus_base::NoMemory;
+use zeus_model::Answer;
+use zeus_packet::Packet;
+
+/// How many packets a step sends at most.
+pub(crate) const MOST_PACKETS: usize = 64;
+
+/// Packets in order, seen as their list and the room for more.
+#[derive(Debug, Drop)]
+pub struct Packets {
+    items: Vec<Packet>,
+}
+
+impl Model for Packets {
+    ghost use Rattle.std.specs.Prelude.{◌-◌, vec_capacity, vec_len};
+    ghost use Rattle.zeus_world.specs.Packets.{PacketsState};
+
+    ghost Value = { PacketsState };
+
+    ghost view = { λ p. record { packets = p.items.items; room = vec_capacity p.items - vec_len p.items } };
+}
+
+impl Packets {
+    /// No packets, and no room.
+    pub fn new(alloc: Global) -> Packets
+        ensures { result.packets ≡ [] }
+    {
+        Packets {
+            items: Vec::new(alloc),
+        }
+    }
+
+    /// The packets as a slice.
+    pub fn as_slice(&self) -> &[Packet]
+        ensures { result.now ≡ self.now.packets }
+    {
+        self.items.as_slice()
+    }
+
+    /// How many there are.
+    pub fn len(&self) -> usize
+        ensures { result ≡ length self.now.packets }
+    {
+        self.items.len()
+    }
+
+    /// Room for so many packets more; the packets stay, whatever the result.
+    ///
+    /// # Errors
+    /// `NoMemory` if the room is not there.
+    fn reserve(&mut self, count: usize) -> Result<(), NoMemory>
+        ensures packets { self.new.packets ≡ self.old.packets }
+        ensures room { OnOk result (count ≤ self.new.room) }
+    {
+        self.items.reserve(count).map_err(|_| NoMemory)
+    }
+
+    fn clear(&mut self)
+        ensures packets { self.new.packets ≡ [] }
+        ensures room { self.old.room ≤ self.new.room }
+    {
+        self.items.clear();
+    }
+
+    /// Adds a packet, for which there is room.
+    pub(crate) fn push(&mut self, packet: Packet)
+        requires { 0 < self.old.room }
+        ensures packets { self.new.packets ≡ self.old.packets ++ packet ∷ [] }
+        ensures room { self.new.room + 1 ≡ self.old.room }
+    {
+        self.items.push_reserved(packet);
+    }
+}
+
+/// What a step did: its answer, the transactions that have their points in it and those that it acknowledges, each in the
+/// history's order, and the packets that it sends. A report can be kept and filled again at the next step.
+#[derive(Debug, Drop)]
+pub struct Report {
+    pub answer: Answer,
+    pub points: IdList,
+    pub acked: IdList,
+    pub sent: Packets,
+}
+
+impl Report {
+    /// A report of nothing, to be filled at a step.
+    pub fn new(alloc: Global) -> Report
+        ensures points { result.points.ids ≡ [] }
+        ensures acked { result.acked.ids ≡ [] }
+        ensures sent { result.sent.packets ≡ [] }
+    {
+        Report {
+            answer: Answer::Twice,
+            points: IdList::new(alloc),
+            acked: IdList::new(alloc),
+            sent: Packets::new(alloc),
+        }
+    }
+
+    /// Room for so many transactions more in each list, and for the packets of a step; what the report says stays.
+    ///
+    /// # Errors
+    /// `NoMemory` if the room is not there.
+    pub(crate) fn reserve(&mut self, count: usize) -> Result<(), NoMemory>
+        ensures same { SaysSame self.old self.new }
+        ensures space { OnOk result (HasSpace count self.new) }
+    {
+        self.points.reserve(count)?;
+        self.acked.reserve(count)?;
+        self.sent.reserve(MOST_PACKETS)
+    }
+
+    /// The lists are empty, and keep their room.
+    pub(crate) fn clear(&mut self)
+        ensures points { self.new.points.ids ≡ [] }
+        ensures acked { self.new.acked.ids ≡ [] }
+        ensures sent { self.new.sent.packets ≡ [] }
+        ensures points_room { self.old.points.room ≤ self.new.points.room }
+        ensures acked_room { self.old.acked.room ≤ self.new.acked.room }
+        ensures sent_room { self.old.sent.room ≤ self.new.sent.room }
+    {
+        self.points.clear();
+        self.acked.clear();
+        self.sent.clear();
+    }
+}
