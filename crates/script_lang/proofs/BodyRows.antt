@@ -11,11 +11,10 @@ use Rattle.zeus_model.specs.declared.fault.Kind.{Kind}
 use Rattle.zeus_model.specs.declared.fault.Kind.TheVariants as kinds
 use Rattle.script_lang.specs.declared.keywords.StepWord.{StepWord}
 use Rattle.script_lang.specs.declared.keywords.StepWord.TheVariants as steps
-use Rattle.script_lang.specs.declared.opened.TheConstants.{READS_DEGREE}
 use Rattle.script_lang.specs.Drafts.{State, degree_taken, object_taken, tx_taken, run_taken, step_taken, tx_line_taken, object_line_taken, degree_line_taken, more, step_line_taken}
 use Rattle.script_lang.specs.Reads.{◌>>=◌, or_fault, ended}
 use Rattle.script_lang.specs.Steps.{step_word_of}
-use Rattle.script_lang.specs.Opened.{opening}
+use Rattle.script_lang.specs.Live.{opening}
 use Rattle.script_lang.proofs.FindLaws.{bytes_eq-true}
 use Rattle.script_lang.proofs.FirstWord.{Rows, next, first_fault, Tells, tells_bind, tells_ok, tells_err, row_of, stops, passes}
 use Rattle.script_lang.proofs.LineRows.{all_forms, line_rows, Any, said_of, object_told, tx_told, step_told}
@@ -121,8 +120,8 @@ object_among true = refl
 object_among false = refl
 
 -- the words that may come right behind the directory
-abbrev pub degree_words : Bool → List (List ℕ)
-degree_words reads = cond reads (codes "degree" ∷ codes "object" ∷ []) (codes "object" ∷ [])
+abbrev degree_words : List (List ℕ)
+degree_words = codes "degree" ∷ codes "object" ∷ []
 
 module _ (live : Bool) (words : List (List ℕ)) (s : State) (T : Option Kind) where
   abbrev R : Rows
@@ -184,16 +183,14 @@ module _ (live : Bool) (words : List (List ℕ)) (s : State) (T : Option Kind) w
         tells_bind T _ _ _ (ended_told (next (next R (codes "degree")) p.word) T n.1 p.so (λ u. refl)) (λ e q.
         tells_ok T _ _ tt))
 
-    degree_choice : (reads : Bool) → is_among w words ≡ is_among w (degree_words reads) → (length s.objects == 0) ≡ true → (b : Bool) → bytes_eq w (codes "degree") ≡ b
-        → Tells {A = State} T (cond (reads && b) (degree_taken s ws) (object_line_taken live s w ws)) Any
+    degree_choice : is_among w words ≡ is_among w degree_words → (length s.objects == 0) ≡ true → (b : Bool) → bytes_eq w (codes "degree") ≡ b → Tells {A = State} T (cond b (degree_taken s ws) (object_line_taken live s w ws)) Any
     unfolding is_among
-    degree_choice true may none true e = degree_taken_told (there (degree_words true) (codes "degree") may e refl) (at_word (codes "degree") e)
-    degree_choice true may none false e = object_line_told (may ∙ rw (none, e) refl)
-    degree_choice false may none b e = object_line_told (may ∙ rw none refl)
+    degree_choice may none true e = degree_taken_told (there degree_words (codes "degree") may e refl) (at_word (codes "degree") e)
+    degree_choice may none false e = object_line_told (may ∙ rw (none, e) refl)
 
-    pub degree_line_told : is_among w words ≡ is_among w (degree_words READS_DEGREE) → (length s.objects == 0) ≡ true → Tells T (degree_line_taken live s w ws) Any
+    pub degree_line_told : is_among w words ≡ is_among w degree_words → (length s.objects == 0) ≡ true → Tells T (degree_line_taken live s w ws) Any
     unfolding degree_line_taken
-    degree_line_told may none = degree_choice READS_DEGREE may none (bytes_eq w (codes "degree")) refl
+    degree_line_told may none = degree_choice may none (bytes_eq w (codes "degree")) refl
 
     step_taken_told : (k : StepWord) → is_among (step_text k) words ≡ true → (live ≡ true → (length s.steps == 50000) ≡ false) → first_fault R (step_text k ∷ ws) ≡ T → Tells T (step_taken live s k ws) Any
     unfolding step_taken place

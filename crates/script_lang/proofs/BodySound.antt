@@ -17,7 +17,6 @@ use Rattle.zeus_model.specs.Names.{IsName}
 use Rattle.zeus_model.specs.Scripts.{FitsValue, FitsTx, FitTxs, FitsStep}
 use Rattle.zeus_model.specs.Spelling.{head_lines, degree_lines, object_words, object_lines, tx_words, step_words}
 use Rattle.zeus_model.specs.declared.fault.Kind.{Kind}
-use Rattle.script_lang.specs.declared.opened.TheConstants.{READS_DEGREE}
 use Rattle.script_lang.specs.declared.keywords.StepWord.{StepWord}
 use Rattle.script_lang.specs.declared.stage.Stage.{Stage}
 use Rattle.script_lang.specs.declared.stage.Stage.TheVariants as stages
@@ -26,7 +25,6 @@ use Rattle.script_lang.specs.Reads.{◌>>=◌, word_at}
 use Rattle.script_lang.proofs.DraftFits.{config_of, HeadFits, AreObjects, BodyFits, Fits, declared_lines, lines_at, Adds}
 use Rattle.script_lang.proofs.DraftSound.{word_at-sound, version_taken-sound, nodes_taken-sound, slots_taken-sound, directory_taken-sound}
 use Rattle.script_lang.proofs.FindLaws.{bytes_eq-true, find-nowhere}
-use Rattle.script_lang.proofs.Naming.{and_true}
 use Rattle.script_lang.proofs.NumberLaws.{range_at-sound}
 use Rattle.script_lang.proofs.ObjectLaws.{IsObject, object_rest, object_at-sound}
 use Rattle.script_lang.proofs.StepLaws.{step_text, IsStepLine, ended-sound, step_word_of-sound, step_at-sound}
@@ -77,19 +75,19 @@ to_txs live s fits some =
       body = (fits.body.0, record { some = some; fit = rw none tt; few = rw none (omega arith); live_few = λ h. rw none (omega arith) }, fits.body.2);
     }
 
-degree_made : (live : Bool) (s : State) (ws ws1 : List (List ℕ)) (d : ℕ) → Fits live stages.Degree s → READS_DEGREE ≡ true → ws ≡ decimal d ∷ ws1 → 1 ≤ d → d < 9 → ws1 ≡ []
+degree_made : (live : Bool) (s : State) (ws ws1 : List (List ℕ)) (d : ℕ) → Fits live stages.Degree s → ws ≡ decimal d ∷ ws1 → 1 ≤ d → d < 9 → ws1 ≡ []
     → Adds live stages.Degree s (codes "degree" ∷ ws) (record s { stage = stages.Objects; head = record s.head { degree = Some d } })
 unfolding HeadFits BodyFits lines_at head_lines degree_lines object_lines
-degree_made live s ws ws1 d fits reads spelled low high end = record {
-  fits = record { head = (fits.head.0, fits.head.1, fits.head.2, fits.head.3, (reads, low, omega arith)); body = (no_objects s.head.version s.head.nodes s.names s.objects fits.body.names fits.body.objects, fits.body.txs, fits.body.steps) };
+degree_made live s ws ws1 d fits spelled low high end = record {
+  fits = record { head = (fits.head.0, fits.head.1, fits.head.2, fits.head.3, (low, omega arith)); body = (no_objects s.head.version s.head.nodes s.names s.objects fits.body.names fits.body.objects, fits.body.txs, fits.body.steps) };
   lines = rw (spelled, end, fits.head.4, fits.body.names, fits.body.txs) refl;
 }
 
-degree_taken-sound : (live : Bool) (s : State) (ws : List (List ℕ)) → Fits live stages.Degree s → READS_DEGREE ≡ true → IfRead (degree_taken s ws) (Adds live stages.Degree s (codes "degree" ∷ ws))
+degree_taken-sound : (live : Bool) (s : State) (ws : List (List ℕ)) → Fits live stages.Degree s → IfRead (degree_taken s ws) (Adds live stages.Degree s (codes "degree" ∷ ws))
 unfolding degree_taken
-degree_taken-sound live s ws fits reads =
+degree_taken-sound live s ws fits =
     read_bind _ _ _ (range_at-sound 1 9 ws) (λ d p. read_bind _ _ _ (ended-sound d.1) (λ _ e.
-    read_ok _ _ (degree_made live s ws d.1 d.0 fits reads p.0 p.2 p.3 e)))
+    read_ok _ _ (degree_made live s ws d.1 d.0 fits p.0 p.2 p.3 e)))
 
 -- ---- objects
 
@@ -237,9 +235,8 @@ object_line_taken-sound live s w ws fits =
 degree_line_taken-sound : (live : Bool) (s : State) (w : List ℕ) (ws : List (List ℕ)) → Fits live stages.Degree s → IfRead (degree_line_taken live s w ws) (Adds live stages.Degree s (w ∷ ws))
 unfolding degree_line_taken
 degree_line_taken-sound live s w ws fits =
-    read_cond (READS_DEGREE && bytes_eq w (codes "degree")) (degree_taken s ws) (object_line_taken live s w ws) (Adds live stages.Degree s (w ∷ ws))
-    (λ t. let both = and_true READS_DEGREE (bytes_eq w (codes "degree")) t in
-    rw (bytes_eq-true w (codes "degree") both.1) (degree_taken-sound live s ws fits both.0))
+    read_cond (bytes_eq w (codes "degree")) (degree_taken s ws) (object_line_taken live s w ws) (Adds live stages.Degree s (w ∷ ws))
+    (λ t. rw (bytes_eq-true w (codes "degree") t) (degree_taken-sound live s ws fits))
     (λ f. read_weaken _ _ (from_objects live s (w ∷ ws)) (object_line_taken-sound live s w ws (to_objects live s fits)))
 
 -- what a line does: it adds itself, or it is `end`

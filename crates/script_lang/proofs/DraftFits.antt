@@ -9,7 +9,6 @@ use Rattle.zeus_base.specs.declared.config.ObjectDecl.{ObjectDecl}
 use Rattle.zeus_model.specs.Names.{IsName}
 use Rattle.zeus_model.specs.Scripts.{FitsValue, FitTxs, FitsStep}
 use Rattle.zeus_model.specs.Spelling.{head_lines, object_lines, tx_words, step_words}
-use Rattle.script_lang.specs.declared.opened.TheConstants.{LATEST_VERSION, READS_DEGREE}
 use Rattle.script_lang.specs.declared.head.Head.{Head}
 use Rattle.script_lang.specs.declared.stage.Stage.{Stage}
 use Rattle.script_lang.specs.declared.stage.Stage.TheVariants as stages
@@ -28,7 +27,7 @@ config_of s = record {
 
 -- the version is read
 abbrev pub HasVersion : Head → Type 0
-HasVersion h = (1 ≤ h.version) × (h.version ≤ LATEST_VERSION)
+HasVersion h = (1 ≤ h.version) × (h.version ≤ 2)
 
 abbrev pub HasNodes : Head → Type 0
 HasNodes h = (1 ≤ h.nodes) × (h.nodes ≤ 8)
@@ -39,9 +38,9 @@ HasSlots h = (1 ≤ h.slots) × (h.slots ≤ 8)
 abbrev pub HasDirectory : Head → Type 0
 HasDirectory h = (h.directory ≢ []) × IsRising h.directory × IsBelow h.nodes h.directory
 
--- a degree only where it is read, and then from 1 to 8
+-- a degree, if one is given, is from 1 to 8
 abbrev pub HasDegree : Head → Type 0
-HasDegree h = IfSome h.degree (λ d. (READS_DEGREE ≡ true) × (1 ≤ d) × (d ≤ 8))
+HasDegree h = IfSome h.degree (λ d. (1 ≤ d) × (d ≤ 8))
 
 -- what the first lines say by each stage
 unfoldable pub HeadFits : Stage → Head → Type 0

@@ -1,18 +1,15 @@
 -- Each line that is taken adds itself, and keeps what a script keeps.
 use Rattle.std.proofs.Common.{◌≡◌, ◌≢◌, ℕ, ◌<◌, ◌≤◌, Bool, List, [], ◌∷◌, Option, Some, None, refl, sym, ap, ◌∙◌, arith}
-use Rattle.std.specs.Prelude.{codes, decimal, ◌&&◌, nat_le}
+use Rattle.std.specs.Prelude.{codes, decimal}
 use Rattle.std.specs.Str.{bytes_eq}
-use Rattle.std.proofs.lemmas.Bool.Decides.{nat_tests}
 use Rattle.std.proofs.lemmas.Fmt.{decimal_digit}
 use Rattle.zeus_model.specs.Spelling.{head_lines, degree_lines, object_lines}
-use Rattle.script_lang.specs.declared.opened.TheConstants.{LATEST_VERSION}
 use Rattle.script_lang.specs.declared.stage.Stage.{Stage}
 use Rattle.script_lang.specs.declared.stage.Stage.TheVariants as stages
 use Rattle.script_lang.specs.Drafts.{State, version_of, version_taken, nodes_taken, slots_taken, some_nodes, directory_taken}
 use Rattle.script_lang.specs.Reads.{word_at, keyword_at}
 use Rattle.script_lang.proofs.DraftFits.{HeadFits, IsBare, BodyFits, Fits, lines_at, Adds}
 use Rattle.script_lang.proofs.FindLaws.{bytes_eq-true}
-use Rattle.script_lang.proofs.Naming.{and_true}
 use Rattle.script_lang.proofs.NodeLaws.{IsListed, nodes_after-sound}
 use Rattle.script_lang.proofs.NumberLaws.{range_at-sound}
 use Rattle.script_lang.proofs.StepLaws.{ended-sound, none_below}
@@ -23,14 +20,13 @@ unfolding keyword_at word_at
 keyword_at-sound k [] = read_err _ _
 keyword_at-sound k (w ∷ ws) = read_cond (bytes_eq w k) _ _ _ (λ t. read_ok _ _ (ap (λ (v : List ℕ). v ∷ ws) (bytes_eq-true w k t))) (λ f. read_err _ _)
 
-version_of-sound : (w : List ℕ) → IfRead (version_of w) (λ v. (w ≡ decimal v) × (1 ≤ v) × (v ≤ LATEST_VERSION))
+version_of-sound : (w : List ℕ) → IfRead (version_of w) (λ v. (w ≡ decimal v) × (1 ≤ v) × (v ≤ 2))
 unfolding version_of
 version_of-sound w =
     read_cond (bytes_eq w (codes "1")) _ _ _
     (λ t. read_ok _ _ (bytes_eq-true w (codes "1") t ∙ sym (decimal_digit 1 (omega arith)), omega arith, omega arith))
-    (λ f. read_cond (bytes_eq w (codes "2") && nat_le 2 LATEST_VERSION) _ _ _
-    (λ t. let both = and_true (bytes_eq w (codes "2")) (nat_le 2 LATEST_VERSION) t in
-    read_ok _ _ (bytes_eq-true w (codes "2") both.0 ∙ sym (decimal_digit 2 (omega arith)), omega arith, grind (arith, nat_tests, both.1)))
+    (λ f. read_cond (bytes_eq w (codes "2")) _ _ _
+    (λ t. read_ok _ _ (bytes_eq-true w (codes "2") t ∙ sym (decimal_digit 2 (omega arith)), omega arith, omega arith))
     (λ g. read_err _ _))
 
 -- ---- the first lines
@@ -43,7 +39,7 @@ word_at-sound (w ∷ ws) = read_ok _ _ refl
 bare : (s : State) (stage : Stage) (version nodes slots : ℕ) (directory : List ℕ) (degree : Option ℕ) → IsBare s → IsBare (record s { stage = stage; head = record { version = version; nodes = nodes; slots = slots; directory = directory; degree = degree } })
 bare s stage version nodes slots directory degree body = record { names = body.names; objects = body.objects; txs = body.txs; steps = body.steps }
 
-version_made : (live : Bool) (s : State) (w : List ℕ) (ws1 ws : List (List ℕ)) (v : ℕ) → Fits live stages.Version s → ws ≡ codes "zeus" ∷ w ∷ ws1 → w ≡ decimal v → 1 ≤ v → v ≤ LATEST_VERSION → ws1 ≡ []
+version_made : (live : Bool) (s : State) (w : List ℕ) (ws1 ws : List (List ℕ)) (v : ℕ) → Fits live stages.Version s → ws ≡ codes "zeus" ∷ w ∷ ws1 → w ≡ decimal v → 1 ≤ v → v ≤ 2 → ws1 ≡ []
     → Adds live stages.Version s ws (record s { stage = stages.Nodes; head = record s.head { version = v } })
 unfolding HeadFits BodyFits lines_at
 version_made live s w ws1 ws v fits spelled is low high end = record {

@@ -2,16 +2,16 @@
 use Rattle.std.proofs.Common.{◌≡◌, ◌≢◌, ℕ, ◌<◌, ◌≤◌, Bool, true, false, cond, List, length, Result, Ok, Err, refl, sym, ap, ◌∙◌, arith, subst}
 use Rattle.std.specs.Prelude.{nat_lt, IsErrOf}
 use Rattle.std.proofs.lemmas.Bool.{ltb-true, ltb-false}
-use Rattle.zeus_model.specs.Faults.{IsWordFault, IsOfWord}
+use Rattle.zeus_model.specs.Faults.{IsOfWord}
 use Rattle.zeus_model.specs.declared.fault.Kind.TheVariants as kinds
 use Rattle.zeus_model.specs.declared.fault.ScriptFault.{ScriptFault}
 use Rattle.zeus_model.specs.declared.script.Script.{Script}
-use Rattle.zeus_model.specs.FirstFault.{IsFirstFault, IsKindOfLine, TellsSize}
+use Rattle.zeus_model.specs.FirstFault.{TellsSize}
 use Rattle.script_lang.specs.declared.reading.ReadScript.{ReadScript}
 use Rattle.script_lang.specs.declared.reading.ReadScript.TheVariants as errors
 use Rattle.script_lang.specs.Cut.{cut}
 use Rattle.script_lang.specs.Drafts.{State}
-use Rattle.script_lang.specs.Opened.{IsOpened, opening}
+use Rattle.script_lang.specs.OneFault.{IsFaultOf}
 use Rattle.script_lang.specs.Reading.{start, fault_at, lines_taken, scripted, script_read, ReadsScript}
 use Rattle.script_lang.proofs.FaultKinds.{kind_of_line, no_size}
 use Rattle.script_lang.proofs.FaultReached.{first_fault}
@@ -52,24 +52,19 @@ word_line : (bytes : List ℕ) (f : ScriptFault) → TellsSize bytes f → IsOfW
 unfolding IsOfWord
 word_line bytes f size word = λ zero. absurd (subst IsOfWord (size.kind.1 (size.line.0 zero)) word)
 
--- ---- what was returned
+-- what reading gives as a fault is the fault of the bytes
+pub told : (live : Bool) (bytes : List ℕ) (f : ScriptFault) → script_read live bytes ≡ Err f → IsFaultOf live bytes f
+told live bytes f read =
+    let size = told_size live bytes f read in
+    record {
+      size = size;
+      first = λ some. first_fault live bytes f (line_fault live bytes f read some);
+      kind = λ some. kind_of_line live bytes f (line_fault live bytes f read some);
+      word = λ word. word_fault live bytes f (line_fault live bytes f read (word_line bytes f size word)) word;
+    }
 
-returned : (r : Result Script ReadScript) (read : Result Script ScriptFault) (f : ScriptFault) → ReadsScript r read → IsErrOf r (errors.Fault f) → read ≡ Err f
-returned (Ok s) read f h e = absurd cc
-returned (Err (errors.Fault g)) read f h e = let same : g ≡ f = cc in h ∙ rw same refl
-returned (Err errors.NoMemory) read f h e = absurd cc
-
-module _ (live : Bool) (bytes : List ℕ) (r : Result Script ReadScript) (h : ReadsScript r (script_read live bytes)) (f : ScriptFault) (e : IsErrOf r (errors.Fault f)) where
-  pub returned_size : TellsSize bytes f
-  returned_size = told_size live bytes f (returned r (script_read live bytes) f h e)
-
-  pub returned_first : f.line ≢ 0 → IsFirstFault (IsOpened live) bytes f.line
-  returned_first some = first_fault live bytes f (line_fault live bytes f (returned r (script_read live bytes) f h e) some)
-
-  pub returned_kind : f.line ≢ 0 → IsKindOfLine (IsOpened live) bytes f.line f.kind
-  returned_kind some = kind_of_line live bytes f (line_fault live bytes f (returned r (script_read live bytes) f h e) some)
-
-  pub returned_word : IsOfWord f.kind → IsWordFault (opening live) bytes f.line f.kind
-  returned_word word =
-      let read = returned r (script_read live bytes) f h e in
-      word_fault live bytes f (line_fault live bytes f read (word_line bytes f (told_size live bytes f read) word)) word
+-- so of what was returned
+pub returned : (live : Bool) (bytes : List ℕ) (r : Result Script ReadScript) → ReadsScript r (script_read live bytes) → (f : ScriptFault) → IsErrOf r (errors.Fault f) → IsFaultOf live bytes f
+returned live bytes (Ok s) h f e = absurd cc
+returned live bytes (Err (errors.Fault g)) h f e = let same : g ≡ f = cc in told live bytes f (h ∙ rw same refl)
+returned live bytes (Err errors.NoMemory) h f e = absurd cc

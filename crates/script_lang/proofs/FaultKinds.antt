@@ -10,12 +10,12 @@ use Rattle.zeus_model.specs.Spelling.{lines_text, script_lines, spelling}
 use Rattle.zeus_model.specs.FirstFault.{first_lines, IsScriptText, lines_ended, IsKindOfLine}
 use Rattle.script_lang.specs.Cut.{with_byte, cut, joined}
 use Rattle.script_lang.specs.Reading.{start, unended, lines_taken, script_of}
-use Rattle.script_lang.specs.Opened.{IsOpened}
+use Rattle.script_lang.specs.Live.{FitsLive}
 use Rattle.script_lang.proofs.Cutting.{Lacks, first_part, other_parts, cut_some, cut_not_none, cut_front}
 use Rattle.script_lang.proofs.FaultReached.{KindAt, Wanted, Before, before_fault}
 use Rattle.script_lang.proofs.FirstLines.{shown, shown-front, first_lines-shown, parts_lack}
 use Rattle.script_lang.proofs.ReadComplete.{text_taken}
-use Rattle.script_lang.proofs.ReadSound.{start_fits, script_fits, script_opened, steps_fit, script_lines-lines, no_lines}
+use Rattle.script_lang.proofs.ReadSound.{start_fits, script_fits, script_live, steps_fit, script_lines-lines, no_lines}
 use Rattle.script_lang.proofs.TextLaws.{joined-cut}
 
 -- ---- how many lines are ended
@@ -59,19 +59,19 @@ same_behind (p ∷ front) xs ys e = let rest : front ++ xs ≡ front ++ ys = cc 
 
 -- the kind of the fault of line n, with m lines before it
 record KindBehind (live : Bool) (bytes : List ℕ) (m n : ℕ) (kind : Kind) : Type 0 where
-  extra : (kind ≡ kinds.Extra) ↔ IsScriptText (IsOpened live) (first_lines m bytes)
+  extra : (kind ≡ kinds.Extra) ↔ IsScriptText (FitsLive live) (first_lines m bytes)
   missing : (kind ≡ kinds.Missing) ↔ (first_lines m bytes ≡ bytes)
-  line_end : (kind ≡ kinds.LineEnd) ↔ ((¬ IsScriptText (IsOpened live) (first_lines m bytes)) × (first_lines m bytes ≢ bytes) × (lines_ended bytes < n))
+  line_end : (kind ≡ kinds.LineEnd) ↔ ((¬ IsScriptText (FitsLive live) (first_lines m bytes)) × (first_lines m bytes ≢ bytes) × (lines_ended bytes < n))
 
-behind : (live : Bool) (bytes : List ℕ) (m n : ℕ) (kind : Kind) → m ≡ n - 1 → KindBehind live bytes m n kind → IsKindOfLine (IsOpened live) bytes n kind
+behind : (live : Bool) (bytes : List ℕ) (m n : ℕ) (kind : Kind) → m ≡ n - 1 → KindBehind live bytes m n kind → IsKindOfLine (FitsLive live) bytes n kind
 behind live bytes m n kind is k = record { extra = rw (← is) k.extra; missing = rw (← is) k.missing; line_end = rw (← is) k.line_end }
 
-module _ (live : Bool) (bytes : List ℕ) (n : ℕ) (kind : Kind) (front : List (List ℕ)) (line : length front + 1 ≡ n) (no_text : IsScriptText (IsOpened live) (first_lines (length front) bytes) → ⊥) where
+module _ (live : Bool) (bytes : List ℕ) (n : ℕ) (kind : Kind) (front : List (List ℕ)) (line : length front + 1 ≡ n) (no_text : IsScriptText (FitsLive live) (first_lines (length front) bytes) → ⊥) where
   place : length front ≡ n - 1
   place = omega (arith, line)
 
   -- nothing stands there
-  nothing : cut 10 bytes ≡ front ++ [] ∷ [] → kind ≡ kinds.Missing → IsKindOfLine (IsOpened live) bytes n kind
+  nothing : cut 10 bytes ≡ front ++ [] ∷ [] → kind ≡ kinds.Missing → IsKindOfLine (FitsLive live) bytes n kind
   nothing is missing =
       let whole : first_lines (length front) bytes ≡ bytes = sym (joined-cut 10 (first_lines (length front) bytes)) ∙ ap (joined 10) (cut-first_lines bytes front [] [] is ∙ sym is) ∙ joined-cut 10 bytes in
       behind live bytes (length front) n kind place record {
@@ -90,7 +90,7 @@ module _ (live : Bool) (bytes : List ℕ) (n : ℕ) (kind : Kind) (front : List 
       omega (arith, all, sum)
 
   -- bytes stand there that are not ended
-  not_ended : (b : ℕ) (bs : List ℕ) → cut 10 bytes ≡ front ++ (b ∷ bs) ∷ [] → kind ≡ kinds.LineEnd → IsKindOfLine (IsOpened live) bytes n kind
+  not_ended : (b : ℕ) (bs : List ℕ) → cut 10 bytes ≡ front ++ (b ∷ bs) ∷ [] → kind ≡ kinds.LineEnd → IsKindOfLine (FitsLive live) bytes n kind
   not_ended b bs is line_end =
       let part : first_lines (length front) bytes ≡ bytes → ⊥ = λ h. let none = not_whole (b ∷ bs) [] is h in cc in
       let count = ended_count (b ∷ bs) [] is in
@@ -101,7 +101,7 @@ module _ (live : Bool) (bytes : List ℕ) (n : ℕ) (kind : Kind) (front : List 
       }
 
   -- a word is to blame
-  by_word : (last q : List ℕ) (ps : List (List ℕ)) → cut 10 bytes ≡ front ++ last ∷ q ∷ ps → IsOfWord kind → IsKindOfLine (IsOpened live) bytes n kind
+  by_word : (last q : List ℕ) (ps : List (List ℕ)) → cut 10 bytes ≡ front ++ last ∷ q ∷ ps → IsOfWord kind → IsKindOfLine (FitsLive live) bytes n kind
   unfolding IsOfWord
   by_word last q ps is word =
       let part : first_lines (length front) bytes ≡ bytes → ⊥ = λ h. let none = not_whole last (q ∷ ps) is h in cc in
@@ -112,7 +112,7 @@ module _ (live : Bool) (bytes : List ℕ) (n : ℕ) (kind : Kind) (front : List 
         line_end = (λ h. absurd (subst IsOfWord h word), λ h. absurd (omega (arith, count, line, h.2)));
       }
 
-  wanted_kind : (last : List ℕ) (others : List (List ℕ)) → cut 10 bytes ≡ front ++ last ∷ others → KindAt last others kind → IsKindOfLine (IsOpened live) bytes n kind
+  wanted_kind : (last : List ℕ) (others : List (List ℕ)) → cut 10 bytes ≡ front ++ last ∷ others → KindAt last others kind → IsKindOfLine (FitsLive live) bytes n kind
   unfolding unended
   wanted_kind [] [] is k = nothing is k
   wanted_kind (b ∷ bs) [] is k = not_ended b bs is k
@@ -121,31 +121,31 @@ module _ (live : Bool) (bytes : List ℕ) (n : ℕ) (kind : Kind) (front : List 
 -- ---- all lines
 
 -- a script's text has no fault
-text_read : (live : Bool) (bytes : List ℕ) (f : ScriptFault) → IsScriptText (IsOpened live) bytes → lines_taken live start 1 (cut 10 bytes) ≡ Err f → ⊥
+text_read : (live : Bool) (bytes : List ℕ) (f : ScriptFault) → IsScriptText (FitsLive live) bytes → lines_taken live start 1 (cut 10 bytes) ≡ Err f → ⊥
 text_read live bytes f text h =
     let taken = (text_taken live text.script text.opened).taken in
     let same = ap (λ (bs : List ℕ). lines_taken live start 1 (cut 10 bs)) text.spelled in
     cc
 
-not_alone : (live : Bool) (bytes : List ℕ) (f g : ScriptFault) (front : List (List ℕ)) (last : List ℕ) (others : List (List ℕ)) → cut 10 bytes ≡ front ++ last ∷ others → lines_taken live start 1 (front ++ [] ∷ []) ≡ Err g → IsScriptText (IsOpened live) (first_lines (length front) bytes) → ⊥
+not_alone : (live : Bool) (bytes : List ℕ) (f g : ScriptFault) (front : List (List ℕ)) (last : List ℕ) (others : List (List ℕ)) → cut 10 bytes ≡ front ++ last ∷ others → lines_taken live start 1 (front ++ [] ∷ []) ≡ Err g → IsScriptText (FitsLive live) (first_lines (length front) bytes) → ⊥
 not_alone live bytes f g front last others is alone text =
     text_read live (first_lines (length front) bytes) g text (ap (lines_taken live start 1) (cut-first_lines bytes front last others is) ∙ alone)
 
 -- the lines before what is extra
-whole_text : (live : Bool) (bytes : List ℕ) (f : ScriptFault) (before : Before live start 1 (cut 10 bytes) f) → before.rest ≡ [] → IsScriptText (IsOpened live) (first_lines (length before.ls) bytes)
+whole_text : (live : Bool) (bytes : List ℕ) (f : ScriptFault) (before : Before live start 1 (cut 10 bytes) f) → before.rest ≡ [] → IsScriptText (FitsLive live) (first_lines (length before.ls) bytes)
 unfolding spelling
 whole_text live bytes f before none =
     let s = script_of before.whole in
     let lines : script_lines s ≡ before.ls = script_lines-lines before.whole ∙ before.lines ∙ ap (λ (front : List (List (List ℕ))). front ++ (before.ls ++ before.rest)) no_lines ∙ ap (λ (rest : List (List (List ℕ))). before.ls ++ rest) none ∙ append-nil before.ls in
     record {
       script = s;
-      opened = record { fits = script_fits live before.whole before.fits; few_steps = steps_fit live before.whole before.fits; opened = script_opened live before.whole before.fits };
+      opened = record { fits = script_fits live before.whole before.fits; few_steps = steps_fit live before.whole before.fits; opened = script_live live before.whole before.fits };
       spelled = first_lines-shown (length before.ls) bytes ∙ before.texts ∙ ap lines_text (sym lines);
     }
 
-extra_kind : (live : Bool) (bytes : List ℕ) (f : ScriptFault) (m : ℕ) → lines_taken live start 1 (cut 10 bytes) ≡ Err f → m ≡ f.line - 1 → f.kind ≡ kinds.Extra → IsScriptText (IsOpened live) (first_lines m bytes) → IsKindOfLine (IsOpened live) bytes f.line f.kind
+extra_kind : (live : Bool) (bytes : List ℕ) (f : ScriptFault) (m : ℕ) → lines_taken live start 1 (cut 10 bytes) ≡ Err f → m ≡ f.line - 1 → f.kind ≡ kinds.Extra → IsScriptText (FitsLive live) (first_lines m bytes) → IsKindOfLine (FitsLive live) bytes f.line f.kind
 extra_kind live bytes f m h is kind text =
-    let part : first_lines m bytes ≡ bytes → ⊥ = λ whole. text_read live bytes f (subst (IsScriptText (IsOpened live)) whole text) h in
+    let part : first_lines m bytes ≡ bytes → ⊥ = λ whole. text_read live bytes f (subst (IsScriptText (FitsLive live)) whole text) h in
     behind live bytes m f.line f.kind is record {
       extra = (λ h. text, λ t. kind);
       missing = (λ h. absurd cc, λ h. absurd (part h));
@@ -153,12 +153,12 @@ extra_kind live bytes f m h is kind text =
     }
 
 -- the kind of a line's fault
-pub kind_of_line : (live : Bool) (bytes : List ℕ) (f : ScriptFault) → lines_taken live start 1 (cut 10 bytes) ≡ Err f → IsKindOfLine (IsOpened live) bytes f.line f.kind
+pub kind_of_line : (live : Bool) (bytes : List ℕ) (f : ScriptFault) → lines_taken live start 1 (cut 10 bytes) ≡ Err f → IsKindOfLine (FitsLive live) bytes f.line f.kind
 kind_of_line live bytes f h =
     let before = before_fault live start 1 (cut 10 bytes) f (cut_not_none 10 bytes) (start_fits live) h in
     go before before.place
   where
-    go : (before : Before live start 1 (cut 10 bytes) f) → ((before.rest ≡ []) × (f.kind ≡ kinds.Extra)) ⊎ Wanted live start 1 (cut 10 bytes) f → IsKindOfLine (IsOpened live) bytes f.line f.kind
+    go : (before : Before live start 1 (cut 10 bytes) f) → ((before.rest ≡ []) × (f.kind ≡ kinds.Extra)) ⊎ Wanted live start 1 (cut 10 bytes) f → IsKindOfLine (FitsLive live) bytes f.line f.kind
     go before (inl behind) = extra_kind live bytes f (length before.ls) h (omega (arith, before.at)) behind.1 (whole_text live bytes f before behind.0)
     go before (inr w) = wanted_kind live bytes f.line f.kind w.front w.at (not_alone live bytes f _ w.front w.last w.others w.cut_so w.alone) w.last w.others w.cut_so w.kind
 

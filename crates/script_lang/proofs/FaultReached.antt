@@ -12,7 +12,7 @@ use Rattle.script_lang.specs.declared.stage.Stage.TheVariants as stages
 use Rattle.script_lang.specs.Cut.{cut}
 use Rattle.script_lang.specs.Drafts.{State, line_taken}
 use Rattle.script_lang.specs.Reading.{start, fault_at, is_last, unended, line_done, lines_taken, script_of}
-use Rattle.script_lang.specs.Opened.{IsOpened}
+use Rattle.script_lang.specs.Live.{FitsLive}
 use Rattle.script_lang.proofs.BodySound.{Goes, line_taken-sound}
 use Rattle.script_lang.proofs.Completing.{completes}
 use Rattle.script_lang.proofs.Cutting.{cut_not_none}
@@ -21,7 +21,7 @@ use Rattle.script_lang.proofs.FaultShared.{failed, at_line, none_begins}
 use Rattle.script_lang.proofs.FirstLines.{shown, shown-front, first_lines-shown, first_lines-fewer}
 use Rattle.script_lang.proofs.LineSteps.{line_ended}
 use Rattle.script_lang.proofs.ReadComplete.{text_taken}
-use Rattle.script_lang.proofs.ReadSound.{start_fits, script_fits, script_opened, steps_fit, script_lines-lines, no_lines}
+use Rattle.script_lang.proofs.ReadSound.{start_fits, script_fits, script_live, steps_fit, script_lines-lines, no_lines}
 use Rattle.script_lang.proofs.Sound.{read_is}
 use Rattle.script_lang.proofs.TextLaws.{words_text-cut, ended_lines}
 use Rattle.script_lang.proofs.WordKinds.{BlamesWord, line_blames}
@@ -166,10 +166,10 @@ shown-lines [] rest = refl
 shown-lines (l ∷ ls) rest =
     shown-front (length ls) (words_text l) (map words_text (ls ++ rest) ++ [] ∷ []) (ended_lines (ls ++ rest)) ∙ rw (shown-lines ls rest) (sym (append_assoc (words_text l) (10 ∷ []) (lines_text ls)))
 
-before_begins : (live : Bool) (bytes : List ℕ) (f : ScriptFault) (before : Before live start 1 (cut 10 bytes) f) → BeginsScript (IsOpened live) bytes (length before.ls)
+before_begins : (live : Bool) (bytes : List ℕ) (f : ScriptFault) (before : Before live start 1 (cut 10 bytes) f) → BeginsScript (FitsLive live) bytes (length before.ls)
 before_begins live bytes f before =
     let s = script_of before.whole in
-    let opened : IsOpenedScript (IsOpened live) s = record { fits = script_fits live before.whole before.fits; few_steps = steps_fit live before.whole before.fits; opened = script_opened live before.whole before.fits } in
+    let opened : IsOpenedScript (FitsLive live) s = record { fits = script_fits live before.whole before.fits; few_steps = steps_fit live before.whole before.fits; opened = script_live live before.whole before.fits } in
     let lines : script_lines s ≡ before.ls ++ before.rest = script_lines-lines before.whole ∙ before.lines ∙ ap (λ (front : List (List (List ℕ))). front ++ (before.ls ++ before.rest)) no_lines in
     let parts : cut 10 (spelling s) ≡ map words_text (before.ls ++ before.rest) ++ [] ∷ [] = (text_taken live s opened).parts ∙ ap (λ (ls : List (List (List ℕ))). map words_text ls ++ [] ∷ []) lines in
     let n = length before.ls in
@@ -179,11 +179,11 @@ before_begins live bytes f before =
       same = first_lines-shown n (spelling s) ∙ ap (shown n) parts ∙ shown-lines before.ls before.rest ∙ sym before.texts ∙ sym (first_lines-shown n bytes);
     }
 
-fewer_begin : (live : Bool) (bytes : List ℕ) (k n : ℕ) → k ≤ n → BeginsScript (IsOpened live) bytes n → BeginsScript (IsOpened live) bytes k
+fewer_begin : (live : Bool) (bytes : List ℕ) (k n : ℕ) → k ≤ n → BeginsScript (FitsLive live) bytes n → BeginsScript (FitsLive live) bytes k
 fewer_begin live bytes k n le begins = record { script = begins.script; opened = begins.opened; same = first_lines-fewer k n (spelling begins.script) bytes le begins.same }
 
 -- a fault of a line is the first one
-pub first_fault : (live : Bool) (bytes : List ℕ) (f : ScriptFault) → lines_taken live start 1 (cut 10 bytes) ≡ Err f → IsFirstFault (IsOpened live) bytes f.line
+pub first_fault : (live : Bool) (bytes : List ℕ) (f : ScriptFault) → lines_taken live start 1 (cut 10 bytes) ≡ Err f → IsFirstFault (FitsLive live) bytes f.line
 first_fault live bytes f h =
     let before = before_fault live start 1 (cut 10 bytes) f (cut_not_none 10 bytes) (start_fits live) h in
     record {

@@ -9,7 +9,7 @@ use Rattle.zeus_model.specs.FirstFault.{BeginsScript}
 use Rattle.script_lang.specs.Cut.{cut}
 use Rattle.script_lang.specs.Drafts.{State, line_taken}
 use Rattle.script_lang.specs.Reading.{start, fault_at, is_last, unended, line_done, lines_taken}
-use Rattle.script_lang.specs.Opened.{IsOpened}
+use Rattle.script_lang.specs.Live.{FitsLive}
 use Rattle.script_lang.proofs.Cutting.{Lacks}
 use Rattle.script_lang.proofs.FirstLines.{shown, first_lines-shown, parts_lack}
 use Rattle.script_lang.proofs.ReadComplete.{text_taken}
@@ -109,7 +109,7 @@ same_fault live s m (suc n) (p ∷ q ∷ ps) (r ∷ t ∷ rs) lack free same f l
     go alike (Ok (false, u)) e rest = rest u (omega arith) e
 
 -- the lines up to a fault are those of no script's text
-pub none_begins : (live : Bool) (bytes : List ℕ) (f : ScriptFault) → lines_taken live start 1 (cut 10 bytes) ≡ Err f → BeginsScript (IsOpened live) bytes f.line → ⊥
+pub none_begins : (live : Bool) (bytes : List ℕ) (f : ScriptFault) → lines_taken live start 1 (cut 10 bytes) ≡ Err f → BeginsScript (FitsLive live) bytes f.line → ⊥
 none_begins live bytes f h begins =
     let text = text_taken live begins.script begins.opened in
     let same : shown f.line (cut 10 bytes) ≡ shown f.line (cut 10 (spelling begins.script)) = sym (first_lines-shown f.line bytes) ∙ sym begins.same ∙ first_lines-shown f.line (spelling begins.script) in

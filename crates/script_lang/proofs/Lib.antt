@@ -7,6 +7,7 @@ pub mod DraftFits
 pub mod DraftSound
 pub mod FaultFirst
 pub mod FaultKinds
+pub mod FaultLaw
 pub mod FaultReached
 pub mod FaultShared
 pub mod FindLaws

@@ -8,7 +8,6 @@ use Rattle.zeus_model.specs.Tables.{nth}
 use Rattle.zeus_model.specs.declared.fault.Kind.{Kind}
 use Rattle.script_lang.specs.declared.keywords.StepWord.{StepWord}
 use Rattle.script_lang.specs.declared.keywords.StepWord.TheVariants as steps
-use Rattle.script_lang.specs.declared.opened.TheConstants.{READS_DEGREE}
 use Rattle.script_lang.specs.declared.stage.Stage.{Stage}
 use Rattle.script_lang.specs.declared.stage.Stage.TheVariants as stages
 use Rattle.script_lang.specs.Drafts.{State, version_of, version_taken, nodes_taken, slots_taken, some_nodes, directory_taken, degree_taken, object_taken, tx_taken, run_taken, step_taken, tx_line_taken, object_line_taken, degree_line_taken, more, step_line_taken, body_taken, line_taken}
@@ -18,12 +17,11 @@ use Rattle.script_lang.specs.Objects.{object_at}
 use Rattle.script_lang.specs.Reads.{◌>>=◌, word_at, ended}
 use Rattle.script_lang.specs.Steps.{step_at}
 use Rattle.script_lang.specs.Transactions.{tx_at}
-use Rattle.script_lang.specs.Opened.{opening}
-use Rattle.script_lang.proofs.BodyRows.{object_words, degree_words}
+use Rattle.script_lang.specs.Live.{opening}
+use Rattle.script_lang.proofs.BodyRows.{object_words}
 use Rattle.script_lang.proofs.DraftFits.{BodyFits, Fits}
 use Rattle.script_lang.proofs.DraftSound.{keyword_at-sound, word_at-sound}
 use Rattle.script_lang.proofs.FindLaws.{bytes_eq-true}
-use Rattle.script_lang.proofs.Naming.{and_true}
 use Rattle.script_lang.proofs.Sound.{IfRead, read_bind, read_ok, read_err, read_cond, read_or}
 use Rattle.script_lang.proofs.StepLaws.{step_text, step_word_of-sound}
 
@@ -33,7 +31,7 @@ words_at stages.Version s = codes "zeus" ∷ []
 words_at stages.Nodes s = codes "nodes" ∷ []
 words_at stages.Slots s = codes "slots" ∷ []
 words_at stages.Directory s = codes "directory" ∷ []
-words_at stages.Degree s = degree_words READS_DEGREE
+words_at stages.Degree s = codes "degree" ∷ codes "object" ∷ []
 words_at stages.Objects s = object_words (length s.objects == 0)
 words_at stages.Txs s = codes "tx" ∷ codes "run" ∷ []
 words_at stages.Steps s = codes "end" ∷ step_keywords
@@ -113,7 +111,7 @@ module _ (live : Bool) (s : State) where
   degree_line_follows : (w : List ℕ) (ws : List (List ℕ)) → s.objects ≡ [] → IfRead (degree_line_taken live s w ws) (Follows live w)
   unfolding degree_line_taken
   degree_line_follows w ws none =
-      read_cond (READS_DEGREE && bytes_eq w (codes "degree")) (degree_taken s ws) (object_line_taken live s w ws) (Follows live w) (λ t. degree_follows w ws (and_true READS_DEGREE (bytes_eq w (codes "degree")) t).1 none) (λ f. object_line_follows w ws)
+      read_cond (bytes_eq w (codes "degree")) (degree_taken s ws) (object_line_taken live s w ws) (Follows live w) (λ t. degree_follows w ws t none) (λ f. object_line_follows w ws)
 
   step_follows : (k : StepWord) (ws : List (List ℕ)) → s.stage ≡ stages.Steps → IfRead (step_taken live s k ws) (Follows live (step_text k))
   unfolding step_taken words_at

@@ -1,6 +1,6 @@
 -- The rows that the words of each line meet, and what reading says of the line.
 use Rattle.std.proofs.Common.{◌≡◌, ℕ, ◌+◌, ◌≤◌, ◌^◌, Bool, true, false, cond, List, [], ◌∷◌, length, Option, Some, None, Ok, Err, refl, sym, ap, ◌∙◌, arith, subst}
-use Rattle.std.specs.Prelude.{codes, ◌&&◌, ◌||◌, ◌==◌, not, nat_le}
+use Rattle.std.specs.Prelude.{codes, ◌||◌, ◌==◌, not}
 use Rattle.std.specs.Str.{bytes_eq}
 use Rattle.std.proofs.lemmas.Bool.{ne_eqb}
 use Rattle.zeus_model.specs.Faults.{row_met}
@@ -11,9 +11,8 @@ use Rattle.zeus_model.specs.declared.fault.Kind.{Kind}
 use Rattle.zeus_model.specs.declared.fault.Kind.TheVariants as kinds
 use Rattle.script_lang.specs.declared.keywords.StepWord.{StepWord}
 use Rattle.script_lang.specs.declared.keywords.StepWord.TheVariants as steps
-use Rattle.script_lang.specs.declared.opened.TheConstants.{LATEST_VERSION}
 use Rattle.script_lang.specs.Drafts.{State, version_of, version_taken, nodes_taken, slots_taken, some_nodes, directory_taken}
-use Rattle.script_lang.specs.Opened.{opening}
+use Rattle.script_lang.specs.Live.{opening}
 use Rattle.script_lang.specs.Objects.{new_name_of, object_at}
 use Rattle.script_lang.specs.Reads.{keyword_at, word_if}
 use Rattle.script_lang.specs.Steps.{step_at}
@@ -57,17 +56,15 @@ unfolding or_else
 or_none None = refl
 or_none (Some k) = refl
 
-version_choice : (w : List ℕ) (a b l : Bool) → bytes_eq w (codes "2") ≡ b → where_true (not (a || is_among w (cond l (codes "2" ∷ []) []))) kinds.Word ≡ row_of {A = ℕ} (cond a (Ok 1) (cond (b && l) (Ok 2) (Err kinds.Word)))
-unfolding where_true is_among
-version_choice w true b l e = refl
-version_choice w false true true e = rw e refl
-version_choice w false true false e = refl
-version_choice w false false true e = rw e refl
-version_choice w false false false e = refl
+version_choice : (a b : Bool) → where_true (not (a || (b || false))) kinds.Word ≡ row_of {A = ℕ} (cond a (Ok 1) (cond b (Ok 2) (Err kinds.Word)))
+unfolding where_true
+version_choice true b = refl
+version_choice false true = refl
+version_choice false false = refl
 
 version_row : (live : Bool) (w : List ℕ) → row_met (must (Keyword (versions (opening live)))) (Some w) ≡ row_of (version_of w)
 unfolding table version_of is_among
-version_row live w = or_none _ ∙ version_choice w (bytes_eq w (codes "1")) (bytes_eq w (codes "2")) (nat_le 2 LATEST_VERSION) refl
+version_row live w = or_none _ ∙ version_choice (bytes_eq w (codes "1")) (bytes_eq w (codes "2"))
 
 pub none_listed : (nodes : ℕ) → 1 ≤ nodes → first_fault (counted_rows nodes 0 0 false) [] ≡ Some kinds.Word
 unfolding first_fault table some_words

@@ -11,7 +11,7 @@ use Rattle.zeus_model.specs.Spelling.{head_lines, degree_lines, object_words, ob
 use Rattle.zeus_model.specs.Tables.{nth}
 use Rattle.zeus_model.specs.Words.{is_among}
 use Rattle.script_lang.specs.Drafts.{State}
-use Rattle.script_lang.specs.Opened.{opening}
+use Rattle.script_lang.specs.Live.{opening}
 use Rattle.script_lang.proofs.DraftFits.{config_of, declared_lines}
 use Rattle.script_lang.proofs.LineOrder.{words_behind}
 use Rattle.script_lang.proofs.LineRows.{said_of}

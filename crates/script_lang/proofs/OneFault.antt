@@ -1,22 +1,16 @@
--- What reading promises of a fault leaves one fault for each input: one line, and one kind.
+-- Bytes have one fault at most: one line, and one kind.
 use Rattle.std.proofs.Common.{◌≡◌, ◌≢◌, ℕ, Bool, true, false, List, Option, Some, refl, sym, ap, ◌∙◌, inl, inr, subst}
 use Rattle.std.specs.Prelude.{◌==◌}
 use Rattle.std.proofs.lemmas.Bool.{cases_order, eqb-true, eqb-false}
 use Rattle.zeus_model.specs.Faults.{IsFaultyWord, IsWordFault, IsOfWord}
-use Rattle.zeus_model.specs.FirstFault.{IsFirstFault, IsKindOfLine, TellsSize}
+use Rattle.zeus_model.specs.FirstFault.{IsFirstFault, IsKindOfLine}
 use Rattle.zeus_model.specs.Places.{Opening, Said}
 use Rattle.zeus_model.specs.declared.fault.Kind.{Kind}
 use Rattle.zeus_model.specs.declared.fault.Kind.TheVariants as kinds
 use Rattle.zeus_model.specs.declared.fault.ScriptFault.{ScriptFault}
 use Rattle.zeus_model.specs.declared.script.Script.{Script}
-use Rattle.script_lang.specs.Opened.{IsOpened, opening}
-
--- what reading promises of a fault
-pub record IsTold (live : Bool) (bytes : List ℕ) (f : ScriptFault) : Type 0 where
-  pub size : TellsSize bytes f
-  pub first : f.line ≢ 0 → IsFirstFault (IsOpened live) bytes f.line
-  pub kind : f.line ≢ 0 → IsKindOfLine (IsOpened live) bytes f.line f.kind
-  pub word : IsOfWord f.kind → IsWordFault (opening live) bytes f.line f.kind
+use Rattle.script_lang.specs.Live.{FitsLive, opening}
+use Rattle.script_lang.specs.OneFault.{IsFaultOf}
 
 -- there is one first faulty line
 one_line : (Opened : Script → Type 0) (bytes : List ℕ) (m n : ℕ) → IsFirstFault Opened bytes m → IsFirstFault Opened bytes n → m ≡ n
@@ -82,7 +76,7 @@ one_sort Opened o bytes n k l h g small few v w (word a) (word b) =
     let y = w b in
     one_row o _ _ x.index y.index k l x.word y.word
 
-module _ (live : Bool) (bytes : List ℕ) (f g : ScriptFault) (told : IsTold live bytes f) (again : IsTold live bytes g) where
+module _ (live : Bool) (bytes : List ℕ) (f g : ScriptFault) (told : IsFaultOf live bytes f) (again : IsFaultOf live bytes g) where
   -- of too many bytes, in line 0
   both_none : f.line ≡ 0 → f ≡ g
   both_none zero =
@@ -98,17 +92,17 @@ module _ (live : Bool) (bytes : List ℕ) (f g : ScriptFault) (told : IsTold liv
   both_lines : f.line ≢ 0 → f ≡ g
   both_lines some =
       let other : g.line ≢ 0 = λ zero. some (told.size.line.1 (again.size.line.0 zero)) in
-      let line : f.line ≡ g.line = one_line (IsOpened live) bytes f.line g.line (told.first some) (again.first other) in
+      let line : f.line ≡ g.line = one_line (FitsLive live) bytes f.line g.line (told.first some) (again.first other) in
       let small : f.kind ≢ kinds.Size = λ e. some (told.size.line.1 (told.size.kind.0 e)) in
       let few : g.kind ≢ kinds.Size = λ e. other (again.size.line.1 (again.size.kind.0 e)) in
       let back = sym line in
       let kind : f.kind ≡ g.kind =
-      one_sort (IsOpened live) (opening live) bytes f.line f.kind g.kind (told.kind some) (subst (λ (n : ℕ). IsKindOfLine (IsOpened live) bytes n g.kind) back (again.kind other)) small few
+      one_sort (FitsLive live) (opening live) bytes f.line f.kind g.kind (told.kind some) (subst (λ (n : ℕ). IsKindOfLine (FitsLive live) bytes n g.kind) back (again.kind other)) small few
       told.word (λ a. subst (λ (n : ℕ). IsWordFault (opening live) bytes n g.kind) back (again.word a)) (sort f.kind) (sort g.kind) in
       ap (λ (n : ℕ). record { line = n; kind = f.kind }) line ∙ ap (λ (k : Kind). record { line = g.line; kind = k }) kind
 
--- two faults that are told of the same bytes are one
-pub one_fault : (live : Bool) (bytes : List ℕ) (f g : ScriptFault) → IsTold live bytes f → IsTold live bytes g → f ≡ g
+-- two faults of the same bytes are one
+pub one_fault : (live : Bool) (bytes : List ℕ) (f g : ScriptFault) → IsFaultOf live bytes f → IsFaultOf live bytes g → f ≡ g
 one_fault live bytes f g told again = go (f.line == 0) refl
   where
     go : (b : Bool) → (f.line == 0) ≡ b → f ≡ g

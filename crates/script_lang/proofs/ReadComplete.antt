@@ -1,13 +1,13 @@
 -- What is spelled so is read.
-use Rattle.std.proofs.Common.{◌≡◌, ◌≢◌, ℕ, suc, ◌+◌, ◌<◌, ◌≤◌, ◌^◌, Bool, true, false, List, [], ◌∷◌, ◌++◌, length, get_or, All, Option, Some, None, Result, Ok, refl, sym, ap, ◌∙◌, arith, append_assoc, append-nil, length-append, subst}
-use Rattle.std.specs.Prelude.{codes, decimal, map, ◌&&◌, ◌==◌, AllPairs}
+use Rattle.std.proofs.Common.{◌≡◌, ◌≢◌, ℕ, suc, ◌+◌, ◌<◌, ◌≤◌, ◌^◌, Bool, true, false, List, [], ◌∷◌, ◌++◌, length, get_or, All, Option, Some, None, Result, Ok, refl, sym, ap, ◌∙◌, arith, append_assoc, append-nil, length-append}
+use Rattle.std.specs.Prelude.{codes, decimal, map, ◌&&◌, ◌==◌, IfSome, AllPairs}
 use Rattle.std.specs.List.{AllByRecursion}
 use Rattle.std.specs.Str.{bytes_eq}
-use Rattle.std.proofs.lemmas.Bool.{ne_eqb, le-ltb}
+use Rattle.std.proofs.lemmas.Bool.{eqb-true, eqb-false, ne_eqb, le-ltb}
 use Rattle.std.proofs.lemmas.Fmt.{decimal_digit}
 use Rattle.std.proofs.lemmas.List.{get_or_append_left}
 use Rattle.std.proofs.lemmas.List.Elements.{recursion_from_All}
-use Rattle.zeus_base.specs.Limits.{KeepsDeclaration}
+use Rattle.zeus_base.specs.Limits.{KeepsLimits, KeepsDeclaration}
 use Rattle.zeus_base.specs.NodeLaws.{IsRising, IsBelow, length-below}
 use Rattle.zeus_base.specs.declared.config.Config.{Config}
 use Rattle.zeus_base.specs.declared.config.ObjectDecl.{ObjectDecl}
@@ -15,7 +15,7 @@ use Rattle.zeus_base.specs.declared.step.Step.{Step}
 use Rattle.zeus_txn.specs.declared.tx.TxDecl.{TxDecl}
 use Rattle.zeus_model.specs.declared.script.Script.{Script}
 use Rattle.zeus_model.specs.Names.{IsName}
-use Rattle.zeus_model.specs.Scripts.{FitsValue, FitsTx, FitTxs, FitsStep, FitsScript, IsSpelled}
+use Rattle.zeus_model.specs.Scripts.{FitsValue, FitsTx, FitTxs, FitsStep, FitsNames, FitsScript, IsSpelled}
 use Rattle.zeus_model.specs.Spelling.{words_text, degree_lines, head_lines, object_words, object_lines, tx_words, step_words, script_lines, spelling}
 use Rattle.zeus_model.specs.FirstFault.{IsOpenedScript}
 use Rattle.script_lang.specs.declared.head.Head.{Head}
@@ -25,10 +25,10 @@ use Rattle.script_lang.specs.declared.stage.Stage.{Stage}
 use Rattle.script_lang.specs.declared.stage.Stage.TheVariants as stages
 use Rattle.script_lang.specs.declared.reading.ReadScript.{ReadScript}
 use Rattle.script_lang.specs.Cut.{cut}
-use Rattle.script_lang.specs.Drafts.{State, version_of, version_taken, nodes_taken, slots_taken, some_nodes, directory_taken, object_taken, tx_taken, run_taken, step_taken, tx_line_taken, object_line_taken, degree_line_taken, more, step_line_taken, body_taken, line_taken}
+use Rattle.script_lang.specs.Drafts.{State, version_of, version_taken, nodes_taken, slots_taken, some_nodes, directory_taken, degree_taken, object_taken, tx_taken, run_taken, step_taken, tx_line_taken, object_line_taken, degree_line_taken, more, step_line_taken, body_taken, line_taken}
 use Rattle.script_lang.specs.Names.{find}
 use Rattle.script_lang.specs.NodeLists.{nodes_after}
-use Rattle.script_lang.specs.Opened.{IsOpened}
+use Rattle.script_lang.specs.Live.{FitsLive}
 use Rattle.script_lang.specs.Reads.{word_at, keyword_at, ended}
 use Rattle.script_lang.specs.Reading.{start, is_last, line_done, lines_taken, script_of, scripted, script_read, ReadsScript}
 use Rattle.script_lang.proofs.FindLaws.{find-none}
@@ -37,7 +37,7 @@ use Rattle.script_lang.proofs.NumberLaws.{range_at-decimal}
 use Rattle.script_lang.proofs.ObjectLaws.{object_rest, object_at-object}
 use Rattle.script_lang.proofs.OpsLaws.{AreNames}
 use Rattle.script_lang.proofs.StepLaws.{step_text, word_of_step, step_rest, step_words-parts, step_word_of-text, step_at-words, no_owner, none_below}
-use Rattle.script_lang.proofs.TextComplete.{IsLine, cut-words_text, cut-lines_text, tx_line, object_line, step_line, run_line, end_line, zeus_line, nodes_line, slots_line, directory_line}
+use Rattle.script_lang.proofs.TextComplete.{IsLine, cut-words_text, cut-lines_text, tx_line, object_line, step_line, run_line, end_line, zeus_line, nodes_line, slots_line, degree_line, directory_line}
 use Rattle.script_lang.proofs.TxLaws.{tx_at-words}
 
 -- the parts of lines that are each ended
@@ -96,16 +96,33 @@ with_nodes v n = record { version = v; nodes = n; slots = 0; directory = []; deg
 abbrev with_slots : ℕ → ℕ → ℕ → Head
 with_slots v n k = record { version = v; nodes = n; slots = k; directory = []; degree = None }
 
+abbrev with_degree : ℕ → ℕ → ℕ → List ℕ → Option ℕ → Head
+with_degree v n k ns d = record { version = v; nodes = n; slots = k; directory = ns; degree = d }
+
 abbrev with_directory : ℕ → ℕ → ℕ → List ℕ → Head
-with_directory v n k ns = record { version = v; nodes = n; slots = k; directory = ns; degree = None }
+with_directory v n k ns = with_degree v n k ns None
 
 version_1 : version_of (decimal 1) ≡ Ok 1
 unfolding version_of
 version_1 = rw (decimal_digit 1 (omega arith)) refl
 
-zeus_leads : (live : Bool) → Leads live start ((codes "zeus" ∷ decimal 1 ∷ []) ∷ []) (at_stage stages.Nodes (with_version 1) [] [] [] [])
+version_2 : version_of (decimal 2) ≡ Ok 2
+unfolding version_of
+version_2 = rw (decimal_digit 2 (omega arith)) refl
+
+version_of-decimal : (v : ℕ) → 1 ≤ v → v ≤ 2 → version_of (decimal v) ≡ Ok v
+version_of-decimal v low high = go (v == 1) refl
+  where
+    go : (b : Bool) → (v == 1) ≡ b → version_of (decimal v) ≡ Ok v
+    go true e = let is : v ≡ 1 = eqb-true v 1 e in rw is version_1
+    go false e =
+        let other : v ≢ 1 = eqb-false v 1 e in
+        let is : v ≡ 2 = omega arith in
+        rw is version_2
+
+zeus_leads : (live : Bool) (v : ℕ) → 1 ≤ v → v ≤ 2 → Leads live start ((codes "zeus" ∷ decimal v ∷ []) ∷ []) (at_stage stages.Nodes (with_version v) [] [] [] [])
 unfolding start line_taken more version_taken keyword_at word_at ended
-zeus_leads live = leads_one live start _ _ (zeus_line 1 (omega arith)) (rw version_1 refl)
+zeus_leads live v low high = leads_one live start _ _ (zeus_line v (omega arith)) (rw (version_of-decimal v low high) refl)
 
 nodes_leads : (live : Bool) (v n : ℕ) → 1 ≤ n → n ≤ 8 → Leads live (at_stage stages.Nodes (with_version v) [] [] [] []) ((codes "nodes" ∷ decimal n ∷ []) ∷ []) (at_stage stages.Slots (with_nodes v n) [] [] [] [])
 unfolding line_taken more nodes_taken keyword_at word_at ended
@@ -126,14 +143,20 @@ directory_leads live v n k ns few some rises below =
     let listed : nodes_after n (Some n) None [] 0 (map decimal ns) ≡ Ok ns = nodes_after-nodes n (Some n) None [] 0 ns few (none_below 0) rises below (λ k h. no_owner k ns h) (omega (arith, room)) in
     leads_one live _ _ _ (directory_line n ns few below) (rw (listed, some_nodes-some ns some) refl)
 
-head_leads : (live : Bool) (n k : ℕ) (ns : List ℕ) (objects : List ObjectDecl) → (1 ≤ n) × (n ≤ 8) → (1 ≤ k) × (k ≤ 8) → ns ≢ [] → IsRising ns → IsBelow n ns
-    → Leads live start (head_lines record { version = 1; nodes = n; slots = k; directory = ns; degree = None; objects = objects }) (at_stage stages.Degree (with_directory 1 n k ns) [] [] [] [])
-unfolding head_lines degree_lines
-head_leads live n k ns objects nodes slots some rises below =
-    leads_both live start _ _ ((codes "zeus" ∷ decimal 1 ∷ []) ∷ []) _ (zeus_leads live)
-    (leads_both live _ _ _ ((codes "nodes" ∷ decimal n ∷ []) ∷ []) _ (nodes_leads live 1 n nodes.0 nodes.1)
-    (leads_both live _ _ _ ((codes "slots" ∷ decimal k ∷ []) ∷ []) _ (slots_leads live 1 n k slots.0 slots.1)
-    (directory_leads live 1 n k ns nodes.1 some rises below)))
+degree_leads : (live : Bool) (v n k : ℕ) (ns : List ℕ) (d : ℕ) → 1 ≤ d → d ≤ 8 → Leads live (at_stage stages.Degree (with_directory v n k ns) [] [] [] []) ((codes "degree" ∷ decimal d ∷ []) ∷ []) (at_stage stages.Objects (with_degree v n k ns (Some d)) [] [] [] [])
+unfolding line_taken body_taken word_at more degree_line_taken degree_taken ended
+degree_leads live v n k ns d low high = leads_one live _ _ _ (degree_line d (omega arith)) (rw (range_at-decimal 1 9 d [] (omega arith) low (omega arith)) refl)
+
+-- the first lines without that of the degree
+abbrev front_lines : ℕ → ℕ → ℕ → List ℕ → List (List (List ℕ))
+front_lines v n k ns = (codes "zeus" ∷ decimal v ∷ []) ∷ (codes "nodes" ∷ decimal n ∷ []) ∷ (codes "slots" ∷ decimal k ∷ []) ∷ (codes "directory" ∷ map decimal ns) ∷ []
+
+front_leads : (live : Bool) (v n k : ℕ) (ns : List ℕ) → (1 ≤ v) × (v ≤ 2) → (1 ≤ n) × (n ≤ 8) → (1 ≤ k) × (k ≤ 8) → ns ≢ [] → IsRising ns → IsBelow n ns → Leads live start (front_lines v n k ns) (at_stage stages.Degree (with_directory v n k ns) [] [] [] [])
+front_leads live v n k ns version nodes slots some rises below =
+    leads_both live start _ _ ((codes "zeus" ∷ decimal v ∷ []) ∷ []) _ (zeus_leads live v version.0 version.1)
+    (leads_both live _ _ _ ((codes "nodes" ∷ decimal n ∷ []) ∷ []) _ (nodes_leads live v n nodes.0 nodes.1)
+    (leads_both live _ _ _ ((codes "slots" ∷ decimal k ∷ []) ∷ []) _ (slots_leads live v n k slots.0 slots.1)
+    (directory_leads live v n k ns nodes.1 some rises below)))
 
 -- ---- objects
 
@@ -193,6 +216,24 @@ all_objects_lead live head (name ∷ names) [] few same some room is apart fits 
 all_objects_lead live head (name ∷ names) (o ∷ objects) few same some room is apart fits keeps =
     leads_alike live _ _ _ (object_words name o) (object_lines names objects) (object_line head.version head.nodes name o few is.0 fits.0 keeps.0) (first_object live head name o)
     (objects_lead live head [] (name ∷ names) [] (o ∷ objects) few same room is apart fits keeps)
+
+abbrev config_with : ℕ → ℕ → ℕ → List ℕ → Option ℕ → List ObjectDecl → Config
+config_with v n k ns d objects = record { version = v; nodes = n; slots = k; directory = ns; degree = d; objects = objects }
+
+-- the first lines and the objects, with a degree or without
+declared_lead : (live : Bool) (v n k : ℕ) (ns : List ℕ) (d : Option ℕ) (names : List (List ℕ)) (objects : List ObjectDecl) → KeepsLimits (config_with v n k ns d objects) → FitsNames (config_with v n k ns d objects) names → AllByRecursion (λ o. FitsValue v o.value) objects
+    → Leads live start (head_lines (config_with v n k ns d objects) ++ object_lines names objects) (at_stage stages.Objects (with_degree v n k ns d) names objects [] [])
+unfolding head_lines degree_lines
+declared_lead live v n k ns None names objects keeps are values =
+    leads_both live start _ _ (front_lines v n k ns) (object_lines names objects)
+    (front_leads live v n k ns keeps.version keeps.nodes keeps.slots keeps.directory keeps.rising keeps.directory_nodes)
+    (all_objects_lead live (with_directory v n k ns) names objects keeps.nodes.1 are.count keeps.objects.0 (omega (arith, are.count, keeps.objects.1)) (recursion_from_All IsName names are.each) are.distinct values (recursion_from_All (KeepsDeclaration v n) objects keeps.declared))
+declared_lead live v n k ns (Some d) names objects keeps are values =
+    leads_both live start _ _ (front_lines v n k ns) ((codes "degree" ∷ decimal d ∷ []) ∷ object_lines names objects)
+    (front_leads live v n k ns keeps.version keeps.nodes keeps.slots keeps.directory keeps.rising keeps.directory_nodes)
+    (leads_both live _ _ _ ((codes "degree" ∷ decimal d ∷ []) ∷ []) (object_lines names objects)
+    (degree_leads live v n k ns d keeps.degree.0 keeps.degree.1)
+    (objects_lead live (with_degree v n k ns (Some d)) [] names [] objects keeps.nodes.1 are.count (omega (arith, are.count, keeps.objects.1)) (recursion_from_All IsName names are.each) are.distinct values (recursion_from_All (KeepsDeclaration v n) objects keeps.declared)))
 
 -- ---- transactions
 
@@ -303,19 +344,16 @@ end_read : (live : Bool) (head : Head) (names : List (List ℕ)) (objects : List
 unfolding line_taken body_taken word_at step_line_taken ended line_done is_last
 end_read live head names objects txs steps n = one_more live (at_stage stages.Steps head names objects txs steps) n (codes "end" ∷ []) [] end_line
 
--- the script of these parts, of version 1 and without a degree
-abbrev script_at : ℕ → ℕ → List ℕ → List (List ℕ) → List ObjectDecl → List TxDecl → List Step → Script
-script_at n k ns names objects txs steps = record {
-  config = record { version = 1; nodes = n; slots = k; directory = ns; degree = None; objects = objects };
-  names = names;
-  txs = txs;
-  steps = steps;
-}
+abbrev head_of : Config → Head
+head_of c = record { version = c.version; nodes = c.nodes; slots = c.slots; directory = c.directory; degree = c.degree }
 
--- what such a script keeps, and its lines
-module _ (live : Bool) (n k : ℕ) (ns : List ℕ) (names : List (List ℕ)) (objects : List ObjectDecl) (txs : List TxDecl) (steps : List Step)
-    (fits : FitsScript (script_at n k ns names objects txs steps)) (opened : IsOpened live (script_at n k ns names objects txs steps)) (few_steps : length steps ≤ 50000) where
-  settled : Settled (with_directory 1 n k ns) names objects
+-- what was read of a whole script
+abbrev whole_state : Script → State
+whole_state s = at_stage stages.Steps (head_of s.config) s.names s.config.objects s.txs s.steps
+
+-- the lines of a script are taken
+module _ (live : Bool) (s : Script) (fits : FitsScript s) (runs : FitsLive live s) (few_steps : length s.steps ≤ 50000) where
+  settled : Settled (head_of s.config) s.names s.config.objects
   settled = record {
     nodes = fits.config.nodes.1;
     slots = fits.config.slots.1;
@@ -324,28 +362,24 @@ module _ (live : Bool) (n k : ℕ) (ns : List ℕ) (names : List (List ℕ)) (ob
     are = record { each = fits.names.each; distinct = fits.names.distinct };
   }
 
-  declared_lead : Leads live start (head_lines (script_at n k ns names objects txs steps).config ++ object_lines names objects) (at_stage stages.Objects (with_directory 1 n k ns) names objects [] [])
-  declared_lead =
-      leads_both live start _ _ (head_lines (script_at n k ns names objects txs steps).config) (object_lines names objects)
-      (head_leads live n k ns objects fits.config.nodes fits.config.slots fits.config.directory fits.config.rising fits.config.directory_nodes)
-      (all_objects_lead live (with_directory 1 n k ns) names objects fits.config.nodes.1 fits.names.count fits.config.objects.0 (omega (arith, fits.names.count, fits.config.objects.1)) (recursion_from_All IsName names fits.names.each) fits.names.distinct
-      (recursion_from_All (λ o. FitsValue 1 o.value) objects fits.values) (recursion_from_All (KeepsDeclaration 1 n) objects fits.config.declared))
+  abbrev declared : List (List (List ℕ))
+  declared = head_lines s.config ++ object_lines s.names s.config.objects
 
-  run_lead : Leads live start (head_lines (script_at n k ns names objects txs steps).config ++ object_lines names objects ++ map (tx_words names) txs ++ (codes "run" ∷ []) ∷ []) (at_stage stages.Steps (with_directory 1 n k ns) names objects txs [])
+  run_lead : Leads live start (declared ++ map (tx_words s.names) s.txs ++ (codes "run" ∷ []) ∷ []) (at_stage stages.Steps (head_of s.config) s.names s.config.objects s.txs [])
   run_lead =
-      let declared = head_lines (script_at n k ns names objects txs steps).config ++ object_lines names objects in
-      rw (append_assoc declared (map (tx_words names) txs) ((codes "run" ∷ []) ∷ []))
-      (leads_both live start _ _ declared (map (tx_words names) txs ++ (codes "run" ∷ []) ∷ []) declared_lead
-      (all_txs_lead live (with_directory 1 n k ns) names objects txs settled fits.txs.few opened.live_txs fits.txs.each))
+      rw (append_assoc declared (map (tx_words s.names) s.txs) ((codes "run" ∷ []) ∷ []))
+      (leads_both live start _ _ declared (map (tx_words s.names) s.txs ++ (codes "run" ∷ []) ∷ [])
+      (declared_lead live s.config.version s.config.nodes s.config.slots s.config.directory s.config.degree s.names s.config.objects fits.config fits.names (recursion_from_All (λ o. FitsValue s.config.version o.value) s.config.objects fits.values))
+      (all_txs_lead live (head_of s.config) s.names s.config.objects s.txs settled fits.txs.few runs.txs fits.txs.each))
 
-  steps_all : Leads live start (head_lines (script_at n k ns names objects txs steps).config ++ object_lines names objects ++ map (tx_words names) txs ++ (codes "run" ∷ []) ∷ [] ++ map step_words steps) (at_stage stages.Steps (with_directory 1 n k ns) names objects txs steps)
+  steps_all : Leads live start (declared ++ map (tx_words s.names) s.txs ++ (codes "run" ∷ []) ∷ [] ++ map step_words s.steps) (whole_state s)
   steps_all =
-      leads_both live start _ _ (head_lines (script_at n k ns names objects txs steps).config ++ object_lines names objects ++ map (tx_words names) txs ++ (codes "run" ∷ []) ∷ []) (map step_words steps) run_lead
-      (all_steps_lead live (with_directory 1 n k ns) names objects txs steps fits.config.nodes.1 fits.config.slots.1 fits.txs.few few_steps opened.live_steps (recursion_from_All (FitsStep (script_at n k ns names objects txs steps).config (length txs)) steps fits.steps))
+      leads_both live start _ _ (declared ++ map (tx_words s.names) s.txs ++ (codes "run" ∷ []) ∷ []) (map step_words s.steps) run_lead
+      (all_steps_lead live (head_of s.config) s.names s.config.objects s.txs s.steps fits.config.nodes.1 fits.config.slots.1 fits.txs.few few_steps runs.steps (recursion_from_All (FitsStep s.config (length s.txs)) s.steps fits.steps))
 
-  all_read : lines_taken live start 1 (parts_of (script_lines (script_at n k ns names objects txs steps))) ≡ Ok (at_stage stages.Steps (with_directory 1 n k ns) names objects txs steps)
+  all_read : lines_taken live start 1 (parts_of (script_lines s)) ≡ Ok (whole_state s)
   unfolding script_lines
-  all_read = steps_all.leads 1 ((codes "end" ∷ []) ∷ []) ∙ end_read live (with_directory 1 n k ns) names objects txs steps _
+  all_read = steps_all.leads 1 ((codes "end" ∷ []) ∷ []) ∙ end_read live (head_of s.config) s.names s.config.objects s.txs s.steps _
 
 -- ---- each line of a script is one
 
@@ -371,70 +405,55 @@ steps_are : (config : Config) (txs : ℕ) (all : List Step) → config.nodes ≤
 steps_are config txs [] nodes slots le fits = tt
 steps_are config txs (step ∷ all) nodes slots le fits = (step_line config txs step nodes slots le fits.0, steps_are config txs all nodes slots le fits.1)
 
-module _ (n k : ℕ) (ns : List ℕ) (names : List (List ℕ)) (objects : List ObjectDecl) (txs : List TxDecl) (steps : List Step) (fits : FitsScript (script_at n k ns names objects txs steps)) where
-  head_are : AllByRecursion IsLine (head_lines (script_at n k ns names objects txs steps).config)
-  unfolding head_lines degree_lines
-  head_are = (zeus_line 1 (omega arith), (nodes_line n (omega (arith, fits.config.nodes)), (slots_line k (omega (arith, fits.config.slots)), (directory_line n ns fits.config.nodes.1 fits.config.directory_nodes, tt))))
+degree_are : (d : Option ℕ) → IfSome d (λ k. (1 ≤ k) × (k ≤ 8)) → AllByRecursion IsLine (degree_lines d)
+unfolding degree_lines
+degree_are None keeps = tt
+degree_are (Some k) keeps = (degree_line k (omega (arith, keeps.1)), tt)
 
-  lines_are : AllByRecursion IsLine (script_lines (script_at n k ns names objects txs steps))
+module _ (s : Script) (fits : FitsScript s) where
+  head_are : AllByRecursion IsLine (head_lines s.config)
+  unfolding head_lines
+  head_are =
+      let c = fits.config in
+      (zeus_line s.config.version (omega (arith, c.version.1)), (nodes_line s.config.nodes (omega (arith, c.nodes.1)), (slots_line s.config.slots (omega (arith, c.slots.1)), (directory_line s.config.nodes s.config.directory c.nodes.1 c.directory_nodes, degree_are s.config.degree c.degree))))
+
+  lines_are : AllByRecursion IsLine (script_lines s)
   unfolding script_lines
   lines_are =
-      let config = (script_at n k ns names objects txs steps).config in
+      let config = s.config in
       let nodes = fits.config.nodes.1 in
       let slots = fits.config.slots.1 in
-      let names_are = recursion_from_All IsName names fits.names.each in
-      let declared = each_both IsLine (head_lines config) (object_lines names objects) head_are
-      (objects_are 1 n names objects nodes names_are (recursion_from_All (λ o. FitsValue 1 o.value) objects fits.values) (recursion_from_All (KeepsDeclaration 1 n) objects fits.config.declared)) in
-      let with_txs = each_both IsLine (head_lines config ++ object_lines names objects) (map (tx_words names) txs) declared (txs_are config names 0 txs nodes slots (omega (arith, fits.txs.few)) fits.names.each fits.names.count fits.txs.each) in
-      let with_run = each_both IsLine (head_lines config ++ object_lines names objects ++ map (tx_words names) txs) ((codes "run" ∷ []) ∷ []) with_txs (run_line, tt) in
-      let with_steps = each_both IsLine (head_lines config ++ object_lines names objects ++ map (tx_words names) txs ++ (codes "run" ∷ []) ∷ []) (map step_words steps) with_run
-      (steps_are config (length txs) steps nodes slots (omega (arith, fits.txs.few)) (recursion_from_All (FitsStep config (length txs)) steps fits.steps)) in
-      each_both IsLine (head_lines config ++ object_lines names objects ++ map (tx_words names) txs ++ (codes "run" ∷ []) ∷ [] ++ map step_words steps) ((codes "end" ∷ []) ∷ []) with_steps (end_line, tt)
-
-read_at : (live : Bool) (bytes : List ℕ) (n k : ℕ) (ns : List ℕ) (names : List (List ℕ)) (objects : List ObjectDecl) (txs : List TxDecl) (steps : List Step)
-    → IsSpelled bytes (script_at n k ns names objects txs steps) → IsOpened live (script_at n k ns names objects txs steps) → script_read live bytes ≡ Ok (script_at n k ns names objects txs steps)
-unfolding script_read scripted script_of spelling
-read_at live bytes n k ns names objects txs steps spelled opened =
-    let fits = spelled.script.fits in
-    let short : length bytes ≤ 4194304 = rw spelled.spelled spelled.script.few_bytes in
-    let parts : cut 10 bytes ≡ parts_of (script_lines (script_at n k ns names objects txs steps)) = ap (cut 10) spelled.spelled ∙ cut-lines_text (script_lines (script_at n k ns names objects txs steps)) (lines_are n k ns names objects txs steps fits) in
-    rw (le-ltb 4194304 (length bytes) short, parts, all_read live n k ns names objects txs steps fits opened spelled.script.few_steps) refl
-
-as_parts : (s : Script) → s.config.version ≡ 1 → s.config.degree ≡ None → s ≡ script_at s.config.nodes s.config.slots s.config.directory s.names s.config.objects s.txs s.steps
-as_parts s version degree =
-    ap (λ (v : ℕ). record s { config = record s.config { version = v } }) version ∙ ap (λ (d : Option ℕ). record s { config = record s.config { version = 1; degree = d } }) degree
+      let names_are = recursion_from_All IsName s.names fits.names.each in
+      let objects = head_lines config ++ object_lines s.names config.objects in
+      let txs = objects ++ map (tx_words s.names) s.txs in
+      let run = txs ++ (codes "run" ∷ []) ∷ [] in
+      let with_objects = each_both IsLine (head_lines config) (object_lines s.names config.objects) head_are
+      (objects_are config.version config.nodes s.names config.objects nodes names_are (recursion_from_All (λ o. FitsValue config.version o.value) config.objects fits.values) (recursion_from_All (KeepsDeclaration config.version config.nodes) config.objects fits.config.declared)) in
+      let with_txs = each_both IsLine objects (map (tx_words s.names) s.txs) with_objects (txs_are config s.names 0 s.txs nodes slots (omega (arith, fits.txs.few)) fits.names.each fits.names.count fits.txs.each) in
+      let with_run = each_both IsLine txs ((codes "run" ∷ []) ∷ []) with_txs (run_line, tt) in
+      let with_steps = each_both IsLine run (map step_words s.steps) with_run
+      (steps_are config (length s.txs) s.steps nodes slots (omega (arith, fits.txs.few)) (recursion_from_All (FitsStep config (length s.txs)) s.steps fits.steps)) in
+      each_both IsLine (run ++ map step_words s.steps) ((codes "end" ∷ []) ∷ []) with_steps (end_line, tt)
 
 -- the text of a script is cut into its lines, and they are taken, however long it is
 pub record IsTaken (live : Bool) (s : Script) : Type 0 where
-  pub after : State
   pub parts : cut 10 (spelling s) ≡ map words_text (script_lines s) ++ [] ∷ []
-  pub taken : lines_taken live start 1 (cut 10 (spelling s)) ≡ Ok after
+  pub taken : lines_taken live start 1 (cut 10 (spelling s)) ≡ Ok (whole_state s)
 
-taken_at : (live : Bool) (n k : ℕ) (ns : List ℕ) (names : List (List ℕ)) (objects : List ObjectDecl) (txs : List TxDecl) (steps : List Step)
-    → IsOpenedScript (IsOpened live) (script_at n k ns names objects txs steps) → IsTaken live (script_at n k ns names objects txs steps)
+pub text_taken : (live : Bool) (s : Script) → IsOpenedScript (FitsLive live) s → IsTaken live s
 unfolding spelling
-taken_at live n k ns names objects txs steps opened =
-    let parts : cut 10 (spelling (script_at n k ns names objects txs steps)) ≡ parts_of (script_lines (script_at n k ns names objects txs steps)) = cut-lines_text (script_lines (script_at n k ns names objects txs steps)) (lines_are n k ns names objects txs steps opened.fits) in
-    record {
-      after = at_stage stages.Steps (with_directory 1 n k ns) names objects txs steps;
-      parts = parts;
-      taken = rw parts (all_read live n k ns names objects txs steps opened.fits opened.opened opened.few_steps);
-    }
-
-pub text_taken : (live : Bool) (s : Script) → IsOpenedScript (IsOpened live) s → IsTaken live s
 text_taken live s opened =
-    let same = as_parts s opened.opened.version opened.opened.degree in
-    subst (IsTaken live) (sym same) (taken_at live s.config.nodes s.config.slots s.config.directory s.names s.config.objects s.txs s.steps (subst (IsOpenedScript (IsOpened live)) same opened))
+    let parts : cut 10 (spelling s) ≡ parts_of (script_lines s) = cut-lines_text (script_lines s) (lines_are s opened.fits) in
+    record { parts = parts; taken = rw parts (all_read live s opened.fits opened.opened opened.few_steps) }
 
 -- what is spelled so is read
-pub script_read-complete : (live : Bool) (bytes : List ℕ) (s : Script) → IsSpelled bytes s → IsOpened live s → script_read live bytes ≡ Ok s
-script_read-complete live bytes s spelled opened =
-    let same = as_parts s opened.version opened.degree in
-    let other = script_at s.config.nodes s.config.slots s.config.directory s.names s.config.objects s.txs s.steps in
-    let read : script_read live bytes ≡ Ok other =
-    read_at live bytes s.config.nodes s.config.slots s.config.directory s.names s.config.objects s.txs s.steps (subst (IsSpelled bytes) same spelled) (subst (IsOpened live) same opened) in
-    read ∙ ap Ok (sym same)
+pub script_read-complete : (live : Bool) (bytes : List ℕ) (s : Script) → IsSpelled bytes s → FitsLive live s → script_read live bytes ≡ Ok s
+unfolding script_read scripted script_of
+script_read-complete live bytes s spelled runs =
+    let short : length bytes ≤ 4194304 = rw spelled.spelled spelled.script.few_bytes in
+    let text = text_taken live s record { fits = spelled.script.fits; few_steps = spelled.script.few_steps; opened = runs } in
+    rw (le-ltb 4194304 (length bytes) short, ap (cut 10) spelled.spelled, text.taken) refl
 
 -- so of what was returned
-pub read_only : (live : Bool) (bytes : List ℕ) (r : Result Script ReadScript) → ReadsScript r (script_read live bytes) → (s : Script) → IsSpelled bytes s → IsOpened live s → ReadsScript r (Ok s)
-read_only live bytes r h s spelled opened = rw (script_read-complete live bytes s spelled opened) at h
+pub read_only : (live : Bool) (bytes : List ℕ) (r : Result Script ReadScript) → ReadsScript r (script_read live bytes) → (s : Script) → IsSpelled bytes s → FitsLive live s → ReadsScript r (Ok s)
+read_only live bytes r h s spelled runs = rw (script_read-complete live bytes s spelled runs) at h

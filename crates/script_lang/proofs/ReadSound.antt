@@ -1,6 +1,6 @@
 -- What is read is spelled so.
-use Rattle.std.proofs.Common.{◌≡◌, ℕ, suc, ◌≤◌, Bool, true, false, cond, List, [], ◌∷◌, ◌++◌, length, Option, Some, None, Result, Ok, Err, refl, sym, ap, ◌∙◌, arith, append_assoc, subst}
-use Rattle.std.specs.Prelude.{codes, map, nat_lt, IfSome, IfOk}
+use Rattle.std.proofs.Common.{◌≡◌, ℕ, suc, ◌≤◌, Bool, true, false, cond, List, [], ◌∷◌, ◌++◌, length, Result, Ok, Err, refl, sym, ap, ◌∙◌, arith, append_assoc, subst}
+use Rattle.std.specs.Prelude.{codes, map, nat_lt, IfOk}
 use Rattle.std.proofs.lemmas.Bool.{ltb-false}
 use Rattle.std.proofs.lemmas.List.Elements.{All-from_recursion}
 use Rattle.zeus_base.specs.Limits.{KeepsLimits, KeepsDeclaration}
@@ -10,13 +10,12 @@ use Rattle.zeus_model.specs.declared.fault.ScriptFault.{ScriptFault}
 use Rattle.zeus_model.specs.declared.script.Script.{Script}
 use Rattle.zeus_model.specs.Scripts.{FitsValue, FitsStep, FitsScript, IsSpelled}
 use Rattle.zeus_model.specs.Spelling.{words_text, lines_text, script_lines, spelling}
-use Rattle.script_lang.specs.declared.opened.TheConstants.{READS_DEGREE}
 use Rattle.script_lang.specs.declared.stage.Stage.{Stage}
 use Rattle.script_lang.specs.declared.stage.Stage.TheVariants as stages
 use Rattle.script_lang.specs.declared.reading.ReadScript.{ReadScript}
 use Rattle.script_lang.specs.Cut.{cut}
 use Rattle.script_lang.specs.Drafts.{State, line_taken}
-use Rattle.script_lang.specs.Opened.{IsOpened}
+use Rattle.script_lang.specs.Live.{FitsLive}
 use Rattle.script_lang.specs.Reading.{start, fault_at, is_last, line_done, lines_taken, script_of, scripted, script_read, ReadsScript}
 use Rattle.script_lang.proofs.BodySound.{Goes, line_taken-sound}
 use Rattle.script_lang.proofs.DraftFits.{config_of, HeadFits, BodyFits, Fits, lines_at, Adds}
@@ -93,17 +92,6 @@ pub start_fits : (live : Bool) → Fits live start.stage start
 unfolding start HeadFits BodyFits
 start_fits live = record { head = refl; body = record { names = refl; objects = refl; txs = refl; steps = refl } }
 
-degree_fits : (d : Option ℕ) → IfSome d (λ k. (READS_DEGREE ≡ true) × (1 ≤ k) × (k ≤ 8)) → IfSome d (λ k. (1 ≤ k) × (k ≤ 8))
-degree_fits None h = tt
-degree_fits (Some k) h = (h.1, h.2)
-
-no_degree : (d : Option ℕ) → IfSome d (λ k. (READS_DEGREE ≡ true) × (1 ≤ k) × (k ≤ 8)) → d ≡ None
-no_degree None h = refl
-no_degree (Some k) h = absurd (false_true h.0)
-  where
-    false_true : false ≡ true → ⊥
-    false_true e = cc
-
 pub script_fits : (live : Bool) (t : State) → Fits live stages.Steps t → FitsScript (script_of t)
 unfolding HeadFits BodyFits script_of
 script_fits live t fits =
@@ -115,7 +103,7 @@ script_fits live t fits =
       directory = fits.head.3.0;
       rising = fits.head.3.1;
       directory_nodes = fits.head.3.2;
-      degree = degree_fits t.head.degree fits.head.4;
+      degree = fits.head.4;
       objects = (fits.body.1.some, omega (arith, are.count, are.few));
       declared = All-from_recursion (KeepsDeclaration t.head.version t.head.nodes) t.objects are.declared;
     } in
@@ -127,14 +115,9 @@ script_fits live t fits =
       steps = All-from_recursion (FitsStep (config_of t) (length t.txs)) t.steps fits.body.2.fit;
     }
 
-pub script_opened : (live : Bool) (t : State) → Fits live stages.Steps t → IsOpened live (script_of t)
-unfolding HeadFits BodyFits script_of
-script_opened live t fits = record {
-  version = omega (arith, fits.head.0.0, fits.head.0.1);
-  degree = no_degree t.head.degree fits.head.4;
-  live_txs = fits.body.1.live_few;
-  live_steps = fits.body.2.live_none;
-}
+pub script_live : (live : Bool) (t : State) → Fits live stages.Steps t → FitsLive live (script_of t)
+unfolding BodyFits script_of
+script_live live t fits = record { txs = fits.body.1.live_few; steps = fits.body.2.live_none }
 
 pub steps_fit : (live : Bool) (t : State) → Fits live stages.Steps t → length (script_of t).steps ≤ 50000
 unfolding BodyFits script_of
@@ -148,32 +131,32 @@ pub no_lines : lines_at start.stage start ≡ []
 unfolding start lines_at
 no_lines = refl
 
-script_reached : (live : Bool) (bytes : List ℕ) (t : State) → length bytes ≤ 4194304 → Reached live start (cut 10 bytes) t → IsSpelled bytes (script_of t) × IsOpened live (script_of t)
+script_reached : (live : Bool) (bytes : List ℕ) (t : State) → length bytes ≤ 4194304 → Reached live start (cut 10 bytes) t → IsSpelled bytes (script_of t) × FitsLive live (script_of t)
 unfolding spelling
 script_reached live bytes t few reached =
     let text : bytes ≡ lines_text reached.ls = lines_of_parts bytes reached.ls reached.texts in
     let lines : script_lines (script_of t) ≡ reached.ls = script_lines-lines t ∙ reached.lines ∙ ap (λ (front : List (List (List ℕ))). front ++ reached.ls) no_lines in
     let spelled : bytes ≡ spelling (script_of t) = text ∙ ap lines_text (sym lines) in
-    (record { script = record { fits = script_fits live t reached.fits; few_steps = steps_fit live t reached.fits; few_bytes = rw (← spelled) few }; spelled = spelled }, script_opened live t reached.fits)
+    (record { script = record { fits = script_fits live t reached.fits; few_steps = steps_fit live t reached.fits; few_bytes = rw (← spelled) few }; spelled = spelled }, script_live live t reached.fits)
 
 -- what is read is spelled so
-pub script_read-sound : (live : Bool) (bytes : List ℕ) (s : Script) → script_read live bytes ≡ Ok s → IsSpelled bytes s × IsOpened live s
+pub script_read-sound : (live : Bool) (bytes : List ℕ) (s : Script) → script_read live bytes ≡ Ok s → IsSpelled bytes s × FitsLive live s
 unfolding script_read scripted
 script_read-sound live bytes s h = go (nat_lt 4194304 (length bytes)) refl h
   where
-    go : (b : Bool) → nat_lt 4194304 (length bytes) ≡ b → cond b (Err (fault_at 0 kinds.Size)) (scripted (lines_taken live start 1 (cut 10 bytes))) ≡ Ok s → IsSpelled bytes s × IsOpened live s
+    go : (b : Bool) → nat_lt 4194304 (length bytes) ≡ b → cond b (Err (fault_at 0 kinds.Size)) (scripted (lines_taken live start 1 (cut 10 bytes))) ≡ Ok s → IsSpelled bytes s × FitsLive live s
     go true e f = absurd cc
     go false e f = read (lines_taken live start 1 (cut 10 bytes)) refl f
       where
-        read : (r : Result State ScriptFault) → lines_taken live start 1 (cut 10 bytes) ≡ r → scripted r ≡ Ok s → IsSpelled bytes s × IsOpened live s
+        read : (r : Result State ScriptFault) → lines_taken live start 1 (cut 10 bytes) ≡ r → scripted r ≡ Ok s → IsSpelled bytes s × FitsLive live s
         read (Err k) g i = absurd cc
         read (Ok t) g i =
             let reached = lines_taken-sound live start t 1 (cut 10 bytes) (start_fits live) g in
             let all = script_reached live bytes t (ltb-false 4194304 (length bytes) e) reached in
             let same : script_of t ≡ s = cc in
-            subst (λ (x : Script). IsSpelled bytes x × IsOpened live x) same all
+            subst (λ (x : Script). IsSpelled bytes x × FitsLive live x) same all
 
 -- so of what was returned
-pub read_found : (live : Bool) (bytes : List ℕ) (r : Result Script ReadScript) → ReadsScript r (script_read live bytes) → IfOk r (λ s. IsSpelled bytes s × IsOpened live s)
+pub read_found : (live : Bool) (bytes : List ℕ) (r : Result Script ReadScript) → ReadsScript r (script_read live bytes) → IfOk r (λ s. IsSpelled bytes s × FitsLive live s)
 read_found live bytes (Ok s) h = script_read-sound live bytes s h
 read_found live bytes (Err e) h = tt

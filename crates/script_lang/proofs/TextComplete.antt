@@ -204,6 +204,10 @@ pub slots_line : (n : ℕ) → n < 2 ^ 64 → IsLine (codes "slots" ∷ decimal 
 unfolding IsLine
 slots_line n lt = (from_test (codes "slots") refl, (decimal_printed n lt, tt))
 
+pub degree_line : (n : ℕ) → n < 2 ^ 64 → IsLine (codes "degree" ∷ decimal n ∷ [])
+unfolding IsLine
+degree_line n lt = (from_test (codes "degree") refl, (decimal_printed n lt, tt))
+
 pub directory_line : (b : ℕ) (ns : List ℕ) → b ≤ 8 → IsBelow b ns → IsLine (codes "directory" ∷ map decimal ns)
 unfolding IsLine
 directory_line b ns le h = (from_test (codes "directory") refl, nodes_printed b ns le h)

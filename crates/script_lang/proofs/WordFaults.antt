@@ -14,7 +14,7 @@ use Rattle.script_lang.specs.declared.stage.Stage.{Stage}
 use Rattle.script_lang.specs.declared.stage.Stage.TheVariants as stages
 use Rattle.script_lang.specs.Cut.{cut}
 use Rattle.script_lang.specs.Drafts.{State, body_taken, line_taken}
-use Rattle.script_lang.specs.Opened.{opening}
+use Rattle.script_lang.specs.Live.{opening}
 use Rattle.script_lang.specs.Reading.{start, fault_at, is_last, unended, line_done, lines_taken}
 use Rattle.script_lang.specs.Reads.{◌>>=◌, word_at}
 use Rattle.script_lang.proofs.BodyRows.{more_told, tx_line_told, object_line_told, degree_line_told, step_line_told}

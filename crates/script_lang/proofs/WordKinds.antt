@@ -1,6 +1,6 @@
 -- What is wrong with a line that is ended and wanted is wrong with one of its words.
 use Rattle.std.proofs.Common.{ℕ, zero, suc, Bool, true, false, cond, List, [], ◌∷◌, ◌++◌, length, Option, Some, None, Result, Ok, Err}
-use Rattle.std.specs.Prelude.{codes, ◌^◌, ◌&&◌, ◌==◌, nat_le}
+use Rattle.std.specs.Prelude.{codes, ◌^◌, ◌&&◌, ◌==◌}
 use Rattle.std.specs.Str.{bytes_eq}
 use Rattle.zeus_base.specs.Nodes.{with_node}
 use Rattle.zeus_txn.specs.declared.ops.Op.{Op}
@@ -11,7 +11,6 @@ use Rattle.script_lang.specs.declared.keywords.OpWord.{OpWord}
 use Rattle.script_lang.specs.declared.keywords.OpWord.TheVariants as op_words
 use Rattle.script_lang.specs.declared.keywords.StepWord.{StepWord}
 use Rattle.script_lang.specs.declared.keywords.StepWord.TheVariants as step_words
-use Rattle.script_lang.specs.declared.opened.TheConstants.{LATEST_VERSION, READS_DEGREE}
 use Rattle.script_lang.specs.declared.stage.Stage.{Stage}
 use Rattle.script_lang.specs.declared.stage.Stage.TheVariants as stages
 use Rattle.script_lang.specs.Drafts.{State, version_of, version_taken, nodes_taken, slots_taken, some_nodes, directory_taken, degree_taken, object_taken, tx_taken, run_taken, step_taken, tx_line_taken, object_line_taken, degree_line_taken, more, step_line_taken, body_taken, line_taken}
@@ -176,7 +175,7 @@ step_blames nodes slots txs step_words.Install ws = then _ _ (range_blames 0 nod
 
 version_of_blames : (w : List ℕ) → BlamesWord (version_of w)
 unfolding version_of IsOfWord
-version_of_blames w = either (bytes_eq w (codes "1")) _ _ (ok _) (either (bytes_eq w (codes "2") && nat_le 2 LATEST_VERSION) _ _ (ok _) (err kinds.Word tt))
+version_of_blames w = either (bytes_eq w (codes "1")) _ _ (ok _) (either (bytes_eq w (codes "2")) _ _ (ok _) (err kinds.Word tt))
 
 version_blames : (s : State) (ws : List (List ℕ)) → BlamesWord (version_taken s ws)
 unfolding version_taken
@@ -231,7 +230,7 @@ object_line_blames live s w ws =
 
 degree_line_blames : (live : Bool) (s : State) (w : List ℕ) (ws : List (List ℕ)) → BlamesWord (degree_line_taken live s w ws)
 unfolding degree_line_taken
-degree_line_blames live s w ws = either (READS_DEGREE && bytes_eq w (codes "degree")) (degree_taken s ws) (object_line_taken live s w ws) (degree_blames s ws) (object_line_blames live s w ws)
+degree_line_blames live s w ws = either (bytes_eq w (codes "degree")) (degree_taken s ws) (object_line_taken live s w ws) (degree_blames s ws) (object_line_blames live s w ws)
 
 more_blames : (r : Result State Kind) → BlamesWord r → BlamesWord (more r)
 unfolding more

@@ -1,12 +1,11 @@
 -- What the lines of a script so far say, and what each next line adds.
-use Rattle.std.specs.Prelude.{◌≡◌, ℕ, Bool, true, false, ◌&&◌, ◌==◌, nat_le, List, [], ◌∷◌, ◌++◌, Some, None, Result, Ok, Err, codes, length, if◌then◌else◌}
+use Rattle.std.specs.Prelude.{◌≡◌, ℕ, Bool, true, false, ◌&&◌, ◌==◌, List, [], ◌∷◌, ◌++◌, Some, None, Result, Ok, Err, codes, length, if◌then◌else◌}
 use Rattle.std.specs.Str.{bytes_eq}
 use Rattle.zeus_base.specs.declared.config.ObjectDecl.{ObjectDecl}
 use Rattle.zeus_base.specs.declared.step.Step.{Step}
 use Rattle.zeus_txn.specs.declared.tx.TxDecl.{TxDecl}
 use Rattle.zeus_model.specs.declared.fault.Kind.{Kind}
 use Rattle.zeus_model.specs.declared.fault.Kind.TheVariants as kinds
-use Rattle.script_lang.specs.declared.opened.TheConstants.{LATEST_VERSION, READS_DEGREE}
 use Rattle.script_lang.specs.declared.draft.Draft.{Draft}
 use Rattle.script_lang.specs.declared.stage.Failure.{Failure}
 use Rattle.script_lang.specs.declared.stage.Failure.TheVariants as failures
@@ -37,7 +36,7 @@ state_of d = record { stage = d.stage; head = d.head; names = d.names; objects =
 unfoldable pub version_of : List ℕ → Result ℕ Kind
 version_of w =
     if bytes_eq w (codes "1") then Ok 1 else
-    (if bytes_eq w (codes "2") && nat_le 2 LATEST_VERSION then Ok 2 else Err kinds.Word)
+    (if bytes_eq w (codes "2") then Ok 2 else Err kinds.Word)
 
 -- the line of the version
 unfoldable pub version_taken : State → List (List ℕ) → Result State Kind
@@ -128,7 +127,7 @@ object_line_taken live s w ws =
 -- right behind the directory: the degree, or an object
 unfoldable pub degree_line_taken : Bool → State → List ℕ → List (List ℕ) → Result State Kind
 degree_line_taken live s w ws =
-    if READS_DEGREE && bytes_eq w (codes "degree") then degree_taken s ws else object_line_taken live s w ws
+    if bytes_eq w (codes "degree") then degree_taken s ws else object_line_taken live s w ws
 
 -- more lines follow, or `end` was the last
 unfoldable pub more : Result State Kind → Result (Bool × State) Kind

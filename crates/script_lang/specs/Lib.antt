@@ -2,11 +2,12 @@ pub mod Cut
 pub mod Drafts
 pub mod Gathered
 pub mod Lines
+pub mod Live
 pub mod Names
 pub mod NodeLists
 pub mod Numbers
 pub mod Objects
-pub mod Opened
+pub mod OneFault
 pub mod Operations
 pub mod Reading
 pub mod Reads

@@ -1,11 +1,10 @@
 //! A script while its lines are read.
 ghost use Rattle.std.specs.Prelude.{◌≡◌, ◌≤◌, length};
 
-use crate::head::Head;
+use crate::head::{Head, version_of};
 use crate::keywords::{StepWord, step_word_of};
 use crate::names::NameIndex;
 use crate::objects::object_of;
-use crate::opened::{READS_DEGREE, version_of};
 use crate::parts::Parts;
 use crate::stage::{Failure, Stage};
 use crate::steps::step_of;
@@ -232,7 +231,7 @@ impl Draft {
     fn take_degree_line(&mut self, live: bool, word: &[u8], line: &mut Parts) -> Result<(), Failure>
         ensures { Takes result self.new (degree_line_taken live (state_of self.old) word.now line.old) }
     {
-        if READS_DEGREE && word == b"degree".as_slice() {
+        if word == b"degree".as_slice() {
             self.take_degree(line)
         } else {
             self.take_object_line(live, word, line)

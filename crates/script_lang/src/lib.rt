@@ -3,11 +3,11 @@
 
 mod builder;
 mod draft;
+mod fault_law;
 mod head;
 mod keywords;
 mod names;
 mod objects;
-mod opened;
 mod parts;
 mod print;
 mod reader;
@@ -19,6 +19,7 @@ mod tests;
 mod transactions;
 mod words;
 
+pub use fault_law::other_bytes_have_one_fault;
 pub use print::print_script;
 pub use reader::read_script;
 pub use reading::ReadScript;

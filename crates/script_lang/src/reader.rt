@@ -7,7 +7,7 @@ ghost use Rattle.zeus_model.specs.declared.script.Script.{Script};
 ghost use Rattle.zeus_model.specs.Faults.{IsOfWord, IsWordFault};
 ghost use Rattle.zeus_model.specs.FirstFault.{IsFirstFault, IsKindOfLine, TellsSize};
 ghost use Rattle.zeus_model.specs.Scripts.{IsSpelled};
-ghost use Rattle.script_lang.specs.Opened.{IsOpened, opening};
+ghost use Rattle.script_lang.specs.Live.{FitsLive, opening};
 ghost use Rattle.script_lang.specs.Reading.{ReadsScript, TakesAll, TakesNumbered, is_last, unended, lines_taken, script_of, script_read};
 
 use crate::draft::Draft;
@@ -119,8 +119,8 @@ fn script_of_bytes(alloc: Global, bytes: &[u8], live: bool) -> Result<Script, Re
 
 /// The script that bytes are, or their first fault.
 ///
-/// Scripts of version 1 without the line of the degree are read; with `live` also none of more than 1,000 transactions
-/// and none with a step.
+/// Both versions are read, with the line of the degree and without it. With `live` a script has at most 1,000
+/// transactions and no step.
 ///
 /// # Errors
 /// `Fault` with the first faulty line, and what is wrong with the first of its words that does not fit; `NoMemory` where
@@ -128,17 +128,17 @@ fn script_of_bytes(alloc: Global, bytes: &[u8], live: bool) -> Result<Script, Re
 #[tactic(auto, using(crate::proofs::ReadSound::read_found, crate::proofs::ReadComplete::read_only))]
 pub fn read_script(alloc: Global, bytes: &[u8], live: bool) -> Result<Script, ReadScript>
     // What is read is spelled so.
-    ensures found { IfOk result (λ s. IsSpelled bytes.now s × IsOpened live s) }
+    ensures found { IfOk result (λ s. IsSpelled bytes.now s × FitsLive live s) }
     // What is spelled so is read, unless memory ran out.
-    ensures only { (s : Script) → IsSpelled bytes.now s → IsOpened live s → ReadsScript result (Ok s) }
+    ensures only { (s : Script) → IsSpelled bytes.now s → FitsLive live s → ReadsScript result (Ok s) }
     // A fault is that of the first line that reading line by line does not take.
     ensures fault { ReadsScript result (script_read live bytes.now) }
     // Line 0 and the kind of the size each stand for too many bytes.
     ensures size { (f : ScriptFault) → IsErrOf result (ReadScript.Fault f) → TellsSize bytes.now f }
     // A faulty line is the first one up to which the lines begin no script.
-    ensures first { (f : ScriptFault) → IsErrOf result (ReadScript.Fault f) → f.line ≢ 0 → IsFirstFault (IsOpened live) bytes.now f.line }
+    ensures first { (f : ScriptFault) → IsErrOf result (ReadScript.Fault f) → f.line ≢ 0 → IsFirstFault (FitsLive live) bytes.now f.line }
     // Its kind tells whether it is extra, missing or not ended.
-    ensures kind { (f : ScriptFault) → IsErrOf result (ReadScript.Fault f) → f.line ≢ 0 → IsKindOfLine (IsOpened live) bytes.now f.line f.kind }
+    ensures kind { (f : ScriptFault) → IsErrOf result (ReadScript.Fault f) → f.line ≢ 0 → IsKindOfLine (FitsLive live) bytes.now f.line f.kind }
     // Any other kind is the first row that is met by the first word of the line that does not fit. The clauses so leave
     // one fault for each input (`one_fault`).
     ensures word { (f : ScriptFault) → IsErrOf result (ReadScript.Fault f) → IsOfWord f.kind → IsWordFault (opening live) bytes.now f.line f.kind }

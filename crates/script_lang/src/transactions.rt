@@ -85,10 +85,8 @@ fn operations(
     let mut ops = TxBuilder::new(alloc);
     let first = operation(words, version, names, &ops)?;
     ops.push(&first);
-    while let Some(word) = words.next_part() {
-        if word != b";".as_slice() {
-            return Err(Kind::Word);
-        }
+    while !words.is_done() {
+        words.keyword(b";".as_slice())?;
         let op = operation(words, version, names, &ops)?;
         ops.push(&op);
     }

@@ -30,15 +30,15 @@ use Rattle.data_safety.specs.Story.{Truth, story, txs_of, place_now}
 use Rattle.data_safety.specs.Faithful.{Faithful, IsNewer, left, content_of}
 use Rattle.soundness.proofs.Owners.{live_owner}
 
-scene_config : (w : World) → (scene w).config ≡ w.config
+pub scene_config : (w : World) → (scene w).config ≡ w.config
 unfolding scene
 scene_config w = refl
 
-scene_objects : (w : World) (x : ℕ) → x < length w.config.objects → x < length (scene w).config.objects
+pub scene_objects : (w : World) (x : ℕ) → x < length w.config.objects → x < length (scene w).config.objects
 unfolding scene
 scene_objects w x h = h
 
-scene_node : (w : World) (n : ℕ) → (scene w).node n ≡ node w n
+pub scene_node : (w : World) (n : ℕ) → (scene w).node n ≡ node w n
 unfolding scene
 scene_node w n = refl
 
@@ -49,11 +49,11 @@ unfolding history_txs txs_of
 txs-same w [] = refl
 txs-same w (p ∷ ps) = ap (λ (ts : List (List Op)). (nth Rattle.zeus_model.specs.World.no_tx w.txs p.id).tx ∷ ts) (txs-same w ps)
 
-some_value : {A : Type 0} (o : Option A) → is_some o ≡ true → (a : A) × (o ≡ Some a)
+pub some_value : {A : Type 0} (o : Option A) → is_some o ≡ true → (a : A) × (o ≡ Some a)
 some_value None h = cc
 some_value (Some a) h = (a, refl)
 
-same_some : (o : Option ℕ) (a b : ℕ) → o ≡ Some a → o ≡ Some b → a ≡ b
+pub same_some : (o : Option ℕ) (a b : ℕ) → o ≡ Some a → o ≡ Some b → a ≡ b
 same_some o a b e f = cc
 
 is_some_of : {A : Type 0} (o : Option A) (a : A) → o ≡ Some a → is_some o ≡ true
@@ -108,7 +108,7 @@ unfolding nth
 newest-each x e n ns top more zero h = not_below-trans (entry n x).stamp (newer e (entry n x)).stamp top.stamp (newer-second e (entry n x)) more.first
 newest-each x e n ns top more (suc i) h = more.each i (omega arith)
 
-newest-is : (x : ℕ) (e : Entry) (ns : List Node) → IsNewest x e ns (newest x e ns)
+pub newest-is : (x : ℕ) (e : Entry) (ns : List Node) → IsNewest x e ns (newest x e ns)
 unfolding newest nth
 newest-is x e [] = record { first = is_below-irrefl e.stamp; each = λ i h. absurd (omega arith); found = inl refl }
 newest-is x e (n ∷ ns) =
@@ -125,11 +125,11 @@ newest-is x e (n ∷ ns) =
       ];
     }
 
-latest-newest : (w : World) (x : ℕ) → IsNewest x (entry (node w 0) x) w.nodes (latest_entry w x)
+pub latest-newest : (w : World) (x : ℕ) → IsNewest x (entry (node w 0) x) w.nodes (latest_entry w x)
 unfolding latest_entry
 latest-newest w x = newest-is x (entry (node w 0) x) w.nodes
 
-object_node : (w : World) (x i : ℕ) → i < w.config.nodes → (object (scene w) x).entry i ≡ entry (node w i) x
+pub object_node : (w : World) (x i : ℕ) → i < w.config.nodes → (object (scene w) x).entry i ≡ entry (node w i) x
 object_node w x i h = object-entry (scene w) x i (rw (scene_config w) h) ∙ ap (λ (n : Node). entry n x) (scene_node w i)
 
 -- past the last node stands the declared placement
@@ -180,7 +180,7 @@ latest_is w u x f count within =
 
 -- ---- copies
 
-up_to_date : (w : World) (u : Truth) (n x : ℕ) (c : Copy) → (content_of c ≡ left (story w) x) ⊎ IsNewer (story w) u n x c → left (story w) x ≡ record { ver = (left_of w x).ver; value = (left_of w x).value }
+pub up_to_date : (w : World) (u : Truth) (n x : ℕ) (c : Copy) → (content_of c ≡ left (story w) x) ⊎ IsNewer (story w) u n x c → left (story w) x ≡ record { ver = (left_of w x).ver; value = (left_of w x).value }
     → IsUpToDate c (left_of w x)
 up_to_date w u n x c (inl same) is = record {
   not_older = let v : c.ver ≡ (left_of w x).ver = ap (λ (k : Content). k.ver) (same ∙ is) in omega arith;
@@ -193,7 +193,7 @@ up_to_date w u n x c (inr newer) is = record {
   same = λ h. let v : (left (story w) x).ver ≡ (left_of w x).ver = ap (λ (k : Content). k.ver) is in let a = newer.above in absurd (omega arith);
 }
 
-left-same : (w : World) (x : ℕ) → left (story w) x ≡ record { ver = (left_of w x).ver; value = (left_of w x).value }
+pub left-same : (w : World) (x : ℕ) → left (story w) x ≡ record { ver = (left_of w x).ver; value = (left_of w x).value }
 unfolding left scene
 left-same w x = rw (txs-same w w.book.points) refl
 

@@ -1,5 +1,9 @@
+pub mod BookAnswers
+pub mod BookChanges
+pub mod BookPasses
 pub mod Faithfulness
 pub mod Fitting
+pub mod HistoryOrder
 pub mod Limits
 pub mod NeverAnswers
 pub mod NeverBare
@@ -10,4 +14,10 @@ pub mod NeverRows
 pub mod NeverStart
 pub mod NeverUndeclared
 pub mod Owners
+pub mod Placements
 pub mod Runs
+pub mod RunsTold
+pub mod StepChanges
+pub mod Telling
+pub mod Told
+pub mod Written

@@ -46,7 +46,7 @@ start-reached c txs keeps fits = record {
 -- ---- steps
 
 -- a reached world goes on to a reached world
-step-reached : (c : Config) (txs : List TxDecl) (w : World) (s : Step) → w.config ≡ c → w.txs ≡ txs → IsReached w → StepFits c txs s → IsReached (stepped w s)
+pub step-reached : (c : Config) (txs : List TxDecl) (w : World) (s : Step) → w.config ≡ c → w.txs ≡ txs → IsReached w → StepFits c txs s → IsReached (stepped w s)
 step-reached c txs w s config same r fits =
     let here : StepFits w.config w.txs s = rw (config, same) fits in
     let next : IsFaithful (story (stepped w s)) = moves-faithful (story w) (story (stepped w s)) r.truth r.faithful (step_is_story_moves w s r.usual here) in
@@ -57,7 +57,7 @@ step-reached c txs w s config same r fits =
       faithful = next.1;
     }
 
-run-reached : (c : Config) (txs : List TxDecl) (steps : List Step) (w : World) → w.config ≡ c → w.txs ≡ txs → IsReached w → All (StepFits c txs) steps → IsReached (run w steps)
+pub run-reached : (c : Config) (txs : List TxDecl) (steps : List Step) (w : World) → w.config ≡ c → w.txs ≡ txs → IsReached w → All (StepFits c txs) steps → IsReached (run w steps)
 unfolding run
 run-reached c txs [] w config same r fits = r
 run-reached c txs (s ∷ ss) w config same r fits =
@@ -77,7 +77,7 @@ pub run-config : (c : Config) (txs : List TxDecl) (steps : List Step) → KeepsL
 run-config c txs steps keeps fits = (reached_usual c txs steps keeps (fits-steps c txs steps fits)).1
 
 -- so is every run of its first steps
-All-take : {A : Type 0} (P : A → Type 0) (k : ℕ) (xs : List A) → All P xs → All P (take k xs)
+pub All-take : {A : Type 0} (P : A → Type 0) (k : ℕ) (xs : List A) → All P xs → All P (take k xs)
 All-take P zero xs h = All-nil P
 All-take P (suc k) [] h = All-nil P
 All-take P (suc k) (x ∷ xs) h = All-cons P x (take k xs) (All-head P x xs h) (All-take P k xs (All-tail P x xs h))

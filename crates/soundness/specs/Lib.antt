@@ -1,1 +1,5 @@
+pub mod History
+pub mod Placements
 pub mod Refusals
+pub mod Telling
+pub mod Promise

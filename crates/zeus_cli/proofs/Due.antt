@@ -5,17 +5,16 @@ use Rattle.std.specs.Io.KnownBytes.{Consumes}
 use Rattle.std.proofs.lemmas.List.{append-nil}
 use Rattle.zeus_io.specs.declared.status.Status.TheVariants.{WriteFault}
 use Rattle.zeus_model.specs.declared.script.Script.{Script}
-use Rattle.zeus_model.specs.FirstRange.{IsFirstRange}
 use Rattle.zeus_model.specs.Scripts.{IsScript}
 use Rattle.zeus_model.specs.Spelling.{spelling}
 use Rattle.zeus_cli.specs.declared.output.Output.{Output}
 use Rattle.zeus_cli.specs.declared.output.Output.TheVariants.{Usage, Refusal, Report}
-use Rattle.zeus_cli.specs.Top.{AreNoScript, TakesNoScript, IsDue}
+use Rattle.zeus_cli.specs.Top.{AreNoScript, TakesNoScript, IsDue, IsDueIf}
 use Rattle.zeus_cli.specs.Output.{Fits, text_of, status_of}
 
 -- an output that fits is due
 pub output_is_due : {A : Type 0} (words : List (String A)) (before after : Option (List ℕ)) (o : Output) → Fits words before after o → IsDue words before after (text_of o)
-unfolding IsDue
+unfolding IsDueIf
 output_is_due words before after Usage h = inl (h, refl)
 output_is_due words before after (Refusal line) h = inr (inl h)
 output_is_due words before after (Report text) h = inr (inr (h.0, h.1))
@@ -27,18 +26,18 @@ status_of_text (Refusal line) e = cc
 status_of_text (Report text) e = cc
 
 -- bytes that make no script are not all of the text of one
-all_taken : (bytes taken : List ℕ) (after : Option (List ℕ)) (s : Script) → Consumes (Some bytes) after taken → bytes ≡ spelling s → IsScript s → IsFirstRange s → AreNoScript after taken → ⊥
-all_taken bytes taken None s c e is_script in_range n = c
-all_taken bytes taken (Some rest) s c e is_script in_range n =
+all_taken : (bytes taken : List ℕ) (after : Option (List ℕ)) (s : Script) → Consumes (Some bytes) after taken → bytes ≡ spelling s → IsScript s → AreNoScript after taken → ⊥
+all_taken bytes taken None s c e is_script n = c
+all_taken bytes taken (Some rest) s c e is_script n =
     elim n.whole [
       | inl none_left ↦
           let same : taken ≡ spelling s = cc (append-nil taken) in
-          n.none s record { spelled = record { script = is_script; spelled = same }; in_range = in_range }
+          n.none s record { script = is_script; spelled = same }
       | inr longer ↦ omega (arith, ap length c, ap length e, length-append taken rest, is_script.few_bytes, longer)
     ]
 
--- where all that was left is the text of a script of the first range, no taking of its bytes is that of none
-pub script_is_taken : (before after : Option (List ℕ)) (s : Script) → before ≡ Some (spelling s) → IsScript s → IsFirstRange s → TakesNoScript before after → ⊥
-script_is_taken before after s known is_script in_range t =
+-- where all that was left is the text of a script, no taking of its bytes is that of none
+pub script_is_taken : (before after : Option (List ℕ)) (s : Script) → before ≡ Some (spelling s) → IsScript s → TakesNoScript before after → ⊥
+script_is_taken before after s known is_script t =
     let P : Option (List ℕ) → Type 0 = λ old. Consumes old after t.taken in
-    all_taken (spelling s) t.taken after s (subst P known t.from_front) refl is_script in_range t.holds
+    all_taken (spelling s) t.taken after s (subst P known t.from_front) refl is_script t.holds

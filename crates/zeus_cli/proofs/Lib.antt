@@ -1,5 +1,4 @@
-pub mod Counts
 pub mod Due
-pub mod Passing
+pub mod Numbers
 pub mod Reading
 pub mod Words

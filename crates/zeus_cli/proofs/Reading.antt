@@ -1,35 +1,21 @@
--- What reading says of scripts of the first range.
-use Rattle.std.proofs.Common.{ℕ, ◌≡◌, ◌<◌, false, true, is_none, nat_lt, List, length, Option, Some, None, Ok, Err, ap, refl, arith}
+-- What reading says of bytes.
+use Rattle.std.proofs.Common.{ℕ, ◌≡◌, ◌<◌, false, true, nat_lt, List, length, Ok, Err, ap, refl, arith}
 use Rattle.std.proofs.lemmas.Bool.Decides.{nat_tests}
-use Rattle.script_lang.specs.Opened.{IsOpened}
-use Rattle.script_lang.specs.Reading.{ReadsScript, fault_at, script_read}
-use Rattle.zeus_cli.specs.Top.{IsNoFirstScript, longest}
+use Rattle.script_lang.specs.Live.{FitsLive}
+use Rattle.script_lang.specs.Reading.{fault_at, script_read}
+use Rattle.zeus_cli.specs.Top.{IsNoScript, longest}
 use Rattle.zeus_model.specs.declared.fault.Kind.TheVariants.{Size}
-use Rattle.zeus_model.specs.FirstRange.{IsFirstRange}
 use Rattle.zeus_model.specs.declared.script.Script.{Script}
 
-none_of_is_none : {A : Type 0} (o : Option A) → is_none o ≡ true → o ≡ None
-none_of_is_none None h = refl
-none_of_is_none (Some x) h = absurd (let e : false ≡ true = h in cc e)
-
--- scripts of the first range are opened
-pub is_opened : (s : Script) → IsFirstRange s → IsOpened false s
-is_opened s h = record {
-  version = h.version;
-  degree = none_of_is_none s.config.degree h.plain;
-  live_txs = λ e. cc e;
-  live_steps = λ e. cc e;
-}
-
--- what is read where this script is to be read is this script
-pub same_script : (s t : Script) → ReadsScript (Ok t) (Ok s) → s ≡ t
-same_script s t h = let e : Ok s ≡ Ok t = h in cc e
+-- outside a live run there is no further bound
+pub fits_no_live : (s : Script) → FitsLive false s
+fits_no_live s = record { txs = λ e. cc e; steps = λ e. cc e }
 
 -- more bytes than a script has are the text of none
-pub no_script_longer : (bytes : List ℕ) → longest < length bytes → IsNoFirstScript bytes
+pub no_script_longer : (bytes : List ℕ) → longest < length bytes → IsNoScript bytes
 no_script_longer bytes longer s h =
-    let few = h.spelled.script.few_bytes in
-    let same = ap length h.spelled.spelled in
+    let few = h.script.few_bytes in
+    let same = ap length h.spelled in
     omega arith
 
 -- and are read as that

@@ -1,15 +1,15 @@
 -- What bytes are for the program.
-use Rattle.std.specs.Prelude.{ℕ, ◌≡◌, List, Option}
-use Rattle.zeus_io.specs.Bytes.{Takes}
+use Rattle.std.specs.Prelude.{ℕ, List, Option}
 use Rattle.zeus_cli.specs.declared.top.Input.{Input}
 use Rattle.zeus_cli.specs.declared.top.Input.TheVariants.{Script, Refusal}
-use Rattle.zeus_cli.specs.Refusal.{refusal_line}
-use Rattle.zeus_cli.specs.Top.{IsFirstScript, IsNoFirstScript, IsRefusal, TakesScript}
+use Rattle.zeus_cli.specs.Refusal.{IsFaultLine}
+use Rattle.zeus_cli.specs.Top.{IsNoScript, IsRefusal, TakesScript}
+use Rattle.zeus_model.specs.Scripts.{IsSpelled}
 
--- the script of the first range that the bytes spell, or the line for bytes that spell none
+-- the script that the bytes spell, or the line for bytes that spell none
 abbrev pub IsInput : List ℕ → Input → Type 0
-IsInput bytes (Script s) = IsFirstScript bytes s
-IsInput bytes (Refusal line) = IsNoFirstScript bytes × (line.items ≡ refusal_line bytes)
+IsInput bytes (Script s) = IsSpelled bytes s
+IsInput bytes (Refusal line) = IsNoScript bytes × IsFaultLine bytes line.items
 
 -- the same of the bytes that were taken
 abbrev pub TakesInput : Option (List ℕ) → Option (List ℕ) → Input → Type 0

@@ -25,8 +25,8 @@ Fits words before after Usage = ¬ AsksRun words
 Fits words before after (Refusal line) = AsksRun words × IsRefusal before after line.items
 Fits words before after (Report text) = AsksRun words × IsReport before after text.items
 
--- the output was written whole, or a front of it before the sink failed
+-- the output was written whole and without a fault, or a front of it before the sink failed
 abbrev pub IsWritten : Option (List ℕ) → Option (List ℕ) → ℕ → ℕ → Output → Status → Type 0
 IsWritten before after faults_before faults_after output status =
-    ((status ≡ status_of output) × Appends before after (text_of output))
+    ((status ≡ status_of output) × (faults_after ≡ faults_before) × Appends before after (text_of output))
     ⊎ ((status ≡ WriteFault) × Rose faults_before faults_after × AppendsFront before after (text_of output))

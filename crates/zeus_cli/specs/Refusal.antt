@@ -1,5 +1,5 @@
--- The lines for bytes that the program does not run.
-use Rattle.std.specs.Prelude.{ℕ, false, List, ◌++◌, Result, Ok, Err, codes}
+-- The lines for bytes that are no script.
+use Rattle.std.specs.Prelude.{ℕ, false, ◌≡◌, List, ◌++◌, Err, codes}
 use Rattle.zeus_model.specs.ReportText.{line_end}
 use Rattle.zeus_model.specs.ReportWords.{number}
 use Rattle.zeus_model.specs.Spelling.{word}
@@ -7,7 +7,6 @@ use Rattle.script_lang.specs.Reading.{script_read}
 use Rattle.zeus_model.specs.declared.fault.Kind.{Kind}
 use Rattle.zeus_model.specs.declared.fault.Kind.TheVariants.{Missing, LineEnd, Word, Text, Number, Range, Name, Twice, Unknown, Long, Extra, Live, Size}
 use Rattle.zeus_model.specs.declared.fault.ScriptFault.{ScriptFault}
-use Rattle.zeus_model.specs.declared.script.Script.{Script}
 
 abbrev pub kind_text : Kind → List ℕ
 kind_text Missing = codes "missing"
@@ -28,15 +27,8 @@ kind_text Size = codes "size"
 abbrev pub fault_line : ScriptFault → List ℕ
 fault_line f = codes "script" ++ number f.line ++ word (kind_text f.kind) ++ line_end
 
--- a script that is not of the range which the program runs
-abbrev pub not_yet_line : List ℕ
-not_yet_line = codes "script 0 not yet\n"
-
--- the line for what reading gives, where that is not run
-abbrev pub refusal : Result Script ScriptFault → List ℕ
-refusal (Ok s) = not_yet_line
-refusal (Err f) = fault_line f
-
--- the line for bytes that the program does not run: their first fault, or that they are a script which is not run yet
-abbrev pub refusal_line : List ℕ → List ℕ
-refusal_line bytes = refusal (script_read false bytes)
+-- the line is that of the fault of the bytes
+pub record IsFaultLine (bytes text : List ℕ) : Type 0 where
+  pub fault : ScriptFault
+  pub read : script_read false bytes ≡ Err fault
+  pub text_is : text ≡ fault_line fault

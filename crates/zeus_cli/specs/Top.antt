@@ -3,10 +3,9 @@ use Rattle.std.specs.Prelude.{ℕ, ◌≡◌, ◌<◌, ◌⊎◌, List, [], ◌�
 use Rattle.std.specs.Io.KnownBytes.{IsAtEnd, Appends}
 use Rattle.zeus_io.specs.Bytes.{Takes, AppendsFront}
 use Rattle.zeus_model.specs.declared.script.Script.{Script}
-use Rattle.zeus_model.specs.FirstRange.{IsFirstRange}
 use Rattle.zeus_model.specs.ReportText.{report}
 use Rattle.zeus_model.specs.Scripts.{IsSpelled}
-use Rattle.zeus_cli.specs.Refusal.{refusal_line}
+use Rattle.zeus_cli.specs.Refusal.{IsFaultLine}
 
 -- the line for words that the program does not know
 abbrev pub usage_line : List ℕ
@@ -20,32 +19,27 @@ longest = 4194304
 abbrev pub AsksRun : {A : Type 0} → List (String A) → Type 0
 AsksRun words = map string_bytes words ≡ codes "run" ∷ []
 
--- these bytes are the text of a script of the first range
-pub record IsFirstScript (bytes : List ℕ) (s : Script) : Type 0 where
-  pub spelled : IsSpelled bytes s
-  pub in_range : IsFirstRange s
-
--- these bytes are the text of no script of the first range
-abbrev pub IsNoFirstScript : List ℕ → Type 0
-IsNoFirstScript bytes = (s : Script) → ¬ IsFirstScript bytes s
+-- these bytes are the text of no script
+abbrev pub IsNoScript : List ℕ → Type 0
+IsNoScript bytes = (s : Script) → ¬ IsSpelled bytes s
 
 -- the source was read to its end, and the bytes taken are the text of this script
 pub record TakesScript (before after : Option (List ℕ)) (s : Script) : Type 0 where
   pub to_end : IsAtEnd after
-  pub taken : Takes before after (λ taken. IsFirstScript taken s)
+  pub taken : Takes before after (λ taken. IsSpelled taken s)
 
--- these bytes are the text of no script of the first range, and are all that there were or more than a script can have
+-- these bytes are the text of no script, and are all that there were or more than a script can have
 pub record AreNoScript (after : Option (List ℕ)) (taken : List ℕ) : Type 0 where
   pub whole : IsAtEnd after ⊎ (longest < length taken)
-  pub none : IsNoFirstScript taken
+  pub none : IsNoScript taken
 
 abbrev pub TakesNoScript : Option (List ℕ) → Option (List ℕ) → Type 0
 TakesNoScript before after = Takes before after (AreNoScript after)
 
--- such bytes were taken, and this text is the line for them
+-- such bytes were taken, and this text is the line of their fault
 pub record IsRefused (after : Option (List ℕ)) (text taken : List ℕ) : Type 0 where
   pub no_script : AreNoScript after taken
-  pub text_is : text ≡ refusal_line taken
+  pub line : IsFaultLine taken text
 
 abbrev pub IsRefusal : Option (List ℕ) → Option (List ℕ) → List ℕ → Type 0
 IsRefusal before after text = Takes before after (IsRefused after text)
@@ -56,12 +50,14 @@ pub record IsReport (before after : Option (List ℕ)) (text : List ℕ) : Type 
   pub taken : TakesScript before after script
   pub text_is : text ≡ report script
 
+-- what is to be written, by whether the words ask to run a script
+unfoldable pub IsDueIf : Type 0 → Option (List ℕ) → Option (List ℕ) → List ℕ → Type 0
+IsDueIf asks before after text =
+    ((¬ asks) × (text ≡ usage_line)) ⊎ (asks × IsRefusal before after text) ⊎ (asks × IsReport before after text)
+
 -- what is to be written
-unfoldable pub IsDue : {A : Type 0} → List (String A) → Option (List ℕ) → Option (List ℕ) → List ℕ → Type 0
-IsDue words before after text =
-    ((¬ AsksRun words) × (text ≡ usage_line))
-    ⊎ (AsksRun words × IsRefusal before after text)
-    ⊎ (AsksRun words × IsReport before after text)
+abbrev pub IsDue : {A : Type 0} → List (String A) → Option (List ℕ) → Option (List ℕ) → List ℕ → Type 0
+IsDue words before after text = IsDueIf (AsksRun words) before after text
 
 -- a text was written whole, behind what the sink held
 pub record Writes (before after : Option (List ℕ)) (P : List ℕ → Type 0) : Type 0 where

@@ -8,15 +8,12 @@ use zeus_io::Status;
 /// The line for words that the program does not know.
 pub(crate) const USAGE: &[u8] = b"usage\n";
 
-/// The line for a script that is not of the range which the program runs.
-pub(crate) const NOT_YET: &[u8] = b"script 0 not yet\n";
-
 /// What is to be written.
 #[derive(Debug, Drop)]
 pub(crate) enum Output {
     /// The words are none that the program knows.
     Usage,
-    /// The bytes read are no script that the program runs: the line that says why.
+    /// The bytes read are no script: the line of their fault.
     Refusal(Vec<u8>),
     /// The report of the script that was read.
     Report(Vec<u8>),

@@ -1,9 +1,13 @@
-mod runs;
+mod examples;
+mod large;
 
 use crate::zeus_top;
-use runs::{
-    NO_STEP, NO_STEP_REPORT, ONE_NODE, ONE_NODE_REPORT, REPEATED_PACKETS, REPEATED_PACKETS_REPORT,
-    TWO_NODES, TWO_NODES_REPORT,
+use examples::{
+    LATE_VALIDATION, LATE_VALIDATION_REPORT, NO_STEP, NO_STEP_REPORT, ONE_NODE, ONE_NODE_REPORT,
+    OWNERSHIP_MOVES, OWNERSHIP_MOVES_REPORT, READER_COMES_AND_GOES, READER_COMES_AND_GOES_REPORT,
+    REPEATED_PACKETS, REPEATED_PACKETS_REPORT, SECOND_ENTRY_FIRST, SECOND_ENTRY_FIRST_REPORT,
+    SURVIVOR_REPLAYS, SURVIVOR_REPLAYS_REPORT, TEXTS_AS_VALUES, TEXTS_AS_VALUES_REPORT,
+    TWO_DRIVERS, TWO_DRIVERS_REPORT, TWO_NODES, TWO_NODES_REPORT,
 };
 use std::alloc::{AllocError, Global};
 use std::io;
@@ -30,14 +34,21 @@ fn words(alloc: Global, texts: &[&str]) -> Result<Vec<String>, AllocError> {
 }
 
 #[test]
-fn worked_runs_are_reported_byte_for_byte(rt: HostRuntime) -> Result<(), Fail> {
+fn every_example_is_reported_byte_for_byte(rt: HostRuntime) -> Result<(), Fail> {
     let alloc = rt.alloc();
     let run = words(alloc, &["run"])?;
     for (script, report) in [
+        (NO_STEP, NO_STEP_REPORT),
         (ONE_NODE, ONE_NODE_REPORT),
         (TWO_NODES, TWO_NODES_REPORT),
         (REPEATED_PACKETS, REPEATED_PACKETS_REPORT),
-        (NO_STEP, NO_STEP_REPORT),
+        (LATE_VALIDATION, LATE_VALIDATION_REPORT),
+        (SECOND_ENTRY_FIRST, SECOND_ENTRY_FIRST_REPORT),
+        (OWNERSHIP_MOVES, OWNERSHIP_MOVES_REPORT),
+        (TWO_DRIVERS, TWO_DRIVERS_REPORT),
+        (SURVIVOR_REPLAYS, SURVIVOR_REPLAYS_REPORT),
+        (READER_COMES_AND_GOES, READER_COMES_AND_GOES_REPORT),
+        (TEXTS_AS_VALUES, TEXTS_AS_VALUES_REPORT),
     ] {
         let bytes = Vec::from_slice(alloc, script.as_bytes())?;
         let mut source = MemSource::new(bytes, 7, Vec::new(alloc));
@@ -142,7 +153,7 @@ fn other_bytes_get_the_line_script(rt: HostRuntime) -> Result<(), Fail> {
         ("zeus 1\nnodes 2", "script 2 line end\n"),
         ("zeus 1\nnodes 9\n", "script 2 range\n"),
         ("zeus 1\nnodes 02\n", "script 2 number\n"),
-        ("zeus 2\n", "script 1 word\n"),
+        ("zeus 3\n", "script 1 word\n"),
     ] {
         let bytes = Vec::from_slice(alloc, text.as_bytes())?;
         let mut source = MemSource::new(bytes, 7, Vec::new(alloc));
@@ -158,13 +169,7 @@ fn other_bytes_get_the_line_script(rt: HostRuntime) -> Result<(), Fail> {
         ("object x 5 0\nrun\nend", "script 7 line end\n"),
         ("object x 5 0\nrun\nend\n ", "script 8 extra\n"),
         ("object x 5 0\ntx 0 0 get y\n", "script 6 unknown\n"),
-        // A step that is not of the first range.
-        ("object x 5 0\nrun\ntick 0\nend\n", "script 0 not yet\n"),
-        // Two objects.
-        (
-            "object x 5 0\nobject y 6 0\nrun\nend\n",
-            "script 0 not yet\n",
-        ),
+        ("object x 5 0\nrun\ntick 1\nend\n", "script 7 range\n"),
     ] {
         let text = format!(in alloc; "{head}{rest}")?;
         let bytes = Vec::from_slice(alloc, text.as_bytes())?;

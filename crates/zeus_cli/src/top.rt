@@ -3,29 +3,27 @@ ghost use Rattle.std.specs.Prelude.{◌≡◌, ◌<◌, ◌≤◌, ◌⊎◌, �
 ghost use Rattle.std.specs.Io.KnownBytes.{Appends};
 ghost use Rattle.zeus_io.specs.Bytes.{AppendsFront};
 ghost use Rattle.zeus_io.specs.Faults.{Rose};
-ghost use Rattle.zeus_model.specs.FirstRange.{IsFirstRange};
 ghost use Rattle.zeus_model.specs.ReportText.{report, start_of};
 ghost use Rattle.zeus_model.specs.Scripts.{FitsScript, IsScript, IsSpelled};
 ghost use Rattle.zeus_model.specs.Sound.{Sound};
 ghost use Rattle.zeus_model.specs.Spelling.{spelling};
 ghost use Rattle.zeus_model.specs.World.{run};
 ghost use Rattle.zeus_model.specs.declared.script.Script.{Script as ScriptData};
+ghost use Rattle.soundness.specs.Promise.{KeepsPromise};
 ghost use Rattle.zeus_cli.specs.Top.{AsksRun, TakesScript, IsRefusal, IsReport, IsDue, Writes, WritesFront, longest, usage_line};
 ghost use Rattle.zeus_cli.specs.Inputs.{IsInput, TakesInput};
-ghost use Rattle.zeus_cli.specs.Refusal.{not_yet_line};
+ghost use Rattle.zeus_cli.specs.Refusal.{IsFaultLine};
 ghost use Rattle.zeus_cli.specs.Output.{Fits, IsWritten};
 
 use crate::fault::fault_line;
-use crate::first_range::is_first_range;
-use crate::output::{NOT_YET, Output};
+use crate::output::Output;
 use script_lang::{ReadScript, read_script};
-use soundness::every_run_is_sound;
+use soundness::every_run_keeps_its_promise;
 use std::alloc::Global;
 use zeus_base::NoMemory;
 use zeus_io::{ReadEnd, Sink, Source, Status, WriteFault, read_all, write_all};
 use zeus_model::{Kind, Script, ScriptFault};
 use zeus_report::report;
-use zeus_world::World;
 
 // The most bytes that a script may have.
 const LONGEST: usize = 4_194_304;
@@ -56,27 +54,19 @@ fn asks_run(words: &[String]) -> bool
     }
 }
 
-// What bytes give: a script of the first range, or the line that says why they give none.
+// What bytes give: a script, or the line that says why they give none.
 #[derive(Drop)]
 enum Input {
     Script(Script),
     Refusal(Vec<u8>),
 }
 
-// The line for a script that is not of the range which the program runs.
-fn not_yet(alloc: Global) -> Result<Vec<u8>, NoMemory>
-    ensures { IfOk result (λ line. line.items ≡ not_yet_line) }
-{
-    Vec::from_slice(alloc, NOT_YET).map_err(|_| NoMemory)
-}
-
-// The script of the first range that these bytes spell, or the line for bytes that spell none.
-fn first_script(alloc: Global, bytes: &[u8]) -> Result<Input, NoMemory>
+// The script that these bytes spell, or the line for bytes that spell none.
+fn script_of(alloc: Global, bytes: &[u8]) -> Result<Input, NoMemory>
     ensures { IfOk result (IsInput bytes.now) }
 {
     match read_script(alloc, bytes, false) {
-        Ok(script) if is_first_range(&script) => Ok(Input::Script(script)),
-        Ok(_) => Ok(Input::Refusal(not_yet(alloc)?)),
+        Ok(script) => Ok(Input::Script(script)),
         Err(ReadScript::Fault(fault)) => Ok(Input::Refusal(fault_line(alloc, &fault)?)),
         Err(ReadScript::NoMemory) => Err(NoMemory),
     }
@@ -97,24 +87,15 @@ fn too_long(alloc: Global) -> Result<Input, NoMemory>
 fn read<S: Source>(alloc: Global, source: &mut S) -> Result<Input, Halt>
     ensures input { IfOk result (TakesInput (S.left source.old) (S.left source.new)) }
     ensures fault { IsErrOf result Halt.ReadFault → Rose (S.faults source.old) (S.faults source.new) }
+    ensures told { S.faults source.old < S.faults source.new → IsErrOf result Halt.ReadFault }
     ensures later { S.faults source.old ≤ S.faults source.new }
 {
     match read_all(alloc, source, LONGEST) {
-        Ok(bytes) => Ok(first_script(alloc, &bytes)?),
+        Ok(bytes) => Ok(script_of(alloc, &bytes)?),
         Err(ReadEnd::TooLong) => Ok(too_long(alloc)?),
         Err(ReadEnd::ReadFault) => Err(Halt::ReadFault),
         Err(ReadEnd::NoMemory) => Err(Halt::NoMemory),
     }
-}
-
-// The report of the run of a script, in a world of its own.
-fn report_of(alloc: Global, script: &Script) -> Result<Vec<u8>, NoMemory>
-    requires fits { FitsScript script.now }
-    requires range { IsFirstRange script.now }
-    ensures { IfOk result (λ text. text.items ≡ report script.now) }
-{
-    let mut world = World::start(alloc, &script.config, &script.txs)?;
-    report(alloc, &mut world, script)
 }
 
 // What is to be written, made whole.
@@ -123,6 +104,7 @@ fn answer<S: Source>(alloc: Global, words: &[String], source: &mut S) -> Result<
     ensures other_words { ¬ AsksRun words.now → (source.new ≡ source.old) × (result ≡ Ok Output.Usage) }
     ensures asked { IsErr result → AsksRun words.now }
     ensures fault { IsErrOf result Halt.ReadFault → Rose (S.faults source.old) (S.faults source.new) }
+    ensures told { S.faults source.old < S.faults source.new → IsErrOf result Halt.ReadFault }
     ensures later { S.faults source.old ≤ S.faults source.new }
 {
     if !asks_run(words) {
@@ -131,7 +113,7 @@ fn answer<S: Source>(alloc: Global, words: &[String], source: &mut S) -> Result<
     match read(alloc, source)? {
         Input::Refusal(line) => Ok(Output::Refusal(line)),
         Input::Script(script) => {
-            let text = report_of(alloc, &script)?;
+            let (text, _world) = report(alloc, &script)?;
             Ok(Output::Report(text))
         }
     }
@@ -147,8 +129,7 @@ fn write<K: Sink>(sink: &mut K, output: &Output) -> Status
 }
 
 /// The program `zeus`. With the one word `run` it reads a script from the source and writes the report of its run to the
-/// sink; other words give the line `usage`, bytes that are no script the line `script LINE KIND` of their first fault, and a script
-/// that is not of the first range the line `script 0 not yet`.
+/// sink; other words give the line `usage`, and bytes that are no script the line `script LINE KIND` of their fault.
 /// The text is made whole before it is written, and writing takes no memory.
 ///
 /// The source is read to its end, or past 4,194,304 bytes. Where memory ran out nothing is written; nothing says when.
@@ -160,25 +141,29 @@ pub fn zeus_top<S: Source, K: Sink>(
 ) -> Status
     ensures done { result ≡ Status.Done → AsksRun words.now.items × Writes (K.held sink.old) (K.held sink.new) (IsReport (S.left source.old) (S.left source.new)) }
 
-    // The run that is reported: its world is sound at the start, after each step, and at the end.
+    // The run that is reported: its world is sound at the start, after each step, and at the end; and it keeps the whole
+    // promise there.
     ensures sound { result ≡ Status.Done → (s : ScriptData) → TakesScript (S.left source.old) (S.left source.new) s → (k : ℕ) → Sound (run (start_of s) (take k s.steps)) }
+    ensures promise { result ≡ Status.Done → (s : ScriptData) → TakesScript (S.left source.old) (S.left source.new) s → (k : ℕ) → KeepsPromise (start_of s) (take k s.steps) }
 
     // Other bytes and other words.
     ensures script { result ≡ Status.Script → AsksRun words.now.items × Writes (K.held sink.old) (K.held sink.new) (IsRefusal (S.left source.old) (S.left source.new)) }
     ensures usage { result ≡ Status.Usage → (¬ AsksRun words.now.items) × Appends (K.held sink.old) (K.held sink.new) usage_line }
     ensures unfinished { ¬ (result ≡ Status.Unfinished) }
 
-    // A fault is answered only where it rose in this call.
+    // A fault is answered exactly if it rose in this call.
     ensures read_fault { result ≡ Status.ReadFault → Rose (S.faults source.old) (S.faults source.new) × (sink.new ≡ sink.old) }
+    ensures read_told { S.faults source.old < S.faults source.new → result ≡ Status.ReadFault }
+    ensures write_told { K.faults sink.old < K.faults sink.new → result ≡ Status.WriteFault }
     ensures write_fault { result ≡ Status.WriteFault → Rose (K.faults sink.old) (K.faults sink.new) × WritesFront (K.held sink.old) (K.held sink.new) (IsDue words.now.items (S.left source.old) (S.left source.new)) }
     ensures memory { result ≡ Status.OutOfMemory → AsksRun words.now.items × (sink.new ≡ sink.old) }
 
     // Other words leave the source alone; a script is answered by its report.
     ensures other_words { ¬ AsksRun words.now.items → (source.new ≡ source.old) × ((result ≡ Status.Usage) ⊎ (result ≡ Status.WriteFault)) }
-    ensures complete { (s : ScriptData) → AsksRun words.now.items → S.left source.old ≡ Some (spelling s) → IsScript s → IsFirstRange s → ¬ Rose (S.faults source.old) (S.faults source.new) → ¬ Rose (K.faults sink.old) (K.faults sink.new) → (result ≡ Status.Done) ⊎ (result ≡ Status.OutOfMemory) }
+    ensures complete { (s : ScriptData) → AsksRun words.now.items → S.left source.old ≡ Some (spelling s) → IsScript s → ¬ Rose (S.faults source.old) (S.faults source.new) → ¬ Rose (K.faults sink.old) (K.faults sink.new) → (result ≡ Status.Done) ⊎ (result ≡ Status.OutOfMemory) }
 {
     // The theorem over every run. The call does nothing.
-    every_run_is_sound();
+    every_run_keeps_its_promise();
     match answer(alloc, words, source) {
         Ok(output) => write(sink, &output),
         Err(Halt::ReadFault) => Status::ReadFault,

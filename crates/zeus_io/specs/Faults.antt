@@ -1,5 +1,5 @@
--- When a source or a sink may say that it failed: only where its count of faults rose.
-use Rattle.std.specs.Prelude.{ℕ, ◌+◌, ◌-◌, ◌^◌, ◌≤◌, min, Result, OnErr}
+-- When a source or a sink says that it failed: exactly if its count of faults rose.
+use Rattle.std.specs.Prelude.{ℕ, ◌+◌, ◌-◌, ◌^◌, ◌≤◌, ◌≡◌, min, Result, OnOk, OnErr}
 
 -- a count after one more fault; it stands still at its type's end
 abbrev pub one_more : ℕ → ℕ
@@ -9,7 +9,8 @@ one_more count = min (count + 1) (2 ^ 64 - 1)
 abbrev pub Rose : ℕ → ℕ → Type 0
 Rose before now = one_more before ≤ now
 
--- the count has not fallen, and an error came only where it rose
+-- the count has not fallen; an error came only if it rose, and else it is as before
 pub record HasCause {T E : Type 0} (before now : ℕ) (result : Result T E) : Type 0 where
   pub later : before ≤ now
   pub failed : OnErr result (Rose before now)
+  pub quiet : OnOk result (now ≡ before)

@@ -20,7 +20,8 @@ pub trait Sink {
     ghost room: { Self → ℕ } = { λ _. 0 };
 
     /// Takes bytes from the front of the piece, and answers how many. It takes none only where the
-    /// piece is empty. After `Failed` the bytes held are as before.
+    /// piece is empty. After `Failed` the bytes held are as before. The count of faults rises exactly
+    /// at `Failed`, and stands still at its end.
     fn write(&mut self, piece: &[u8]) -> Result<usize, Failed>
         ensures bound { WritesAtMost result piece.now }
         ensures bytes { WriteAppends (held self.old) (held self.new) result piece.now }

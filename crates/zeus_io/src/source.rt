@@ -17,7 +17,8 @@ pub trait Source {
     ghost faults: { Self → ℕ };
 
     /// Puts bytes into the front of the buffer, and answers how many. None are the end of input,
-    /// and come exactly where none are left. After `Failed` the bytes left are as before.
+    /// and come exactly where none are left. After `Failed` the bytes left are as before. The count of
+    /// faults rises exactly at `Failed`, and stands still at its end.
     fn read(&mut self, buf: &mut [u8]) -> Result<usize, Failed>
         requires { 0 < length buf.old }
         ensures bound { ReadsAtMost result buf.new }

@@ -53,14 +53,18 @@ const CHUNK: usize = 8192;
 ///
 /// # Errors
 ///
-/// `ReadFault` where the source failed, `TooLong` exactly where more than `limit` bytes were taken,
-/// `NoMemory` where memory ran out. The bytes taken until then are gone from the source.
+/// 1. `ReadFault` exactly if a read failed, so that the source's count of faults rose: no failed read is tried again.
+/// 2. `TooLong` exactly if more than `limit` bytes were taken.
+/// 3. `NoMemory` if memory ran out.
+///
+/// The bytes taken until then are gone from the source.
 pub fn read_all<S: Source>(alloc: Global, source: &mut S, limit: usize) -> Result<Vec<u8>, ReadEnd>
     ensures bytes { IfOk result (λ v. Consumes (S.left source.old) (S.left source.new) v.items) }
     ensures end { OnOk result (IsAtEnd (S.left source.new)) }
     ensures within { IfOk result (λ v. vec_len v ≤ limit) }
     ensures too_long { IfErr result (λ e. Takes (S.left source.old) (S.left source.new) (λ taken. (e ≡ ReadEnd.TooLong) ↔ (limit < length taken))) }
     ensures fault { IsErrOf result ReadEnd.ReadFault → Rose (S.faults source.old) (S.faults source.new) }
+    ensures told { S.faults source.old < S.faults source.new → IsErrOf result ReadEnd.ReadFault }
     ensures later { S.faults source.old ≤ S.faults source.new }
 {
     let mut bytes = Vec::new(alloc);
@@ -82,7 +86,8 @@ pub fn read_all<S: Source>(alloc: Global, source: &mut S, limit: usize) -> Resul
 ///
 /// # Errors
 ///
-/// `WriteFault` where the sink failed. It then holds a front of the bytes more than before.
+/// `WriteFault` exactly if a write failed, so that the sink's count of faults rose: no failed write is tried again. The
+/// sink then holds a front of the bytes more than before.
 pub fn write_all<K: Sink>(sink: &mut K, bytes: &[u8]) -> Result<(), WriteFault>
     ensures ok { OnOk result (Appends (K.held sink.old) (K.held sink.new) bytes.now) }
     ensures err { OnErr result (AppendsFront (K.held sink.old) (K.held sink.new) bytes.now) }

@@ -156,7 +156,7 @@ on_own_rack n from s number =
     }) Taken
     else just n Again
 
--- likewise at a node that replays a foreign stream
+-- likewise at a node that stores the entry of a foreign stream
 unfoldable pub on_kept_rack : Node → ℕ → Stream → ℕ → Did Outcome
 on_kept_rack n from s number =
     if is_within number (log n s).done (length (log n s).kept) && not (has from (nth no_kept (log n s).kept (number - (log n s).done)).acks)

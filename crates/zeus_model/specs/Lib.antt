@@ -17,7 +17,7 @@ pub mod Sound
 pub mod Readers
 pub mod ReportWords
 pub mod ReportText
-pub mod FirstRange
+pub mod PacketSpelling
 pub mod Words
 pub mod Places
 pub mod Faults

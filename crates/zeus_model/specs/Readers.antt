@@ -12,7 +12,7 @@ use Rattle.zeus_model.specs.World.{World, node, tx_decl}
 abbrev pub is_live : World → ℕ → Bool
 is_live w n = not (node w n).stopped
 
--- the owner of an object: the live node that owns it; no two do
+-- the owner of an object: the first live node that owns it (in a sound world there is at most one)
 unfoldable pub owner : World → ℕ → Option ℕ
 owner w x = first_of (λ n. where_true (is_live w n && owns (node w n) x) n) (below w.config.nodes)
 

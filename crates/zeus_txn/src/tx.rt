@@ -9,6 +9,7 @@ use crate::ops::Op;
 use smallvec::SmallVec;
 use std::alloc::Global;
 use std::marker::Model;
+use thiserror::Error;
 use zeus_base::{NodeId, ObjId, SlotId, TxId};
 
 /// A transaction: 1 to 16 operations on at most 8 objects, seen as the list of its operations.
@@ -146,13 +147,16 @@ fn mentions(obj: ObjId, all: &[ObjId]) -> bool
 }
 
 /// Why operations are no transaction; the first that applies.
-#[derive(Clone, Copy, Debug, PartialEq, Eq)]
+#[derive(Clone, Copy, Debug, PartialEq, Eq, Error)]
 pub enum TxFault {
     /// No operation.
+    #[error("a transaction has at least one operation")]
     Empty,
     /// More than 16 operations.
+    #[error("a transaction has at most 16 operations")]
     ManyOps,
     /// More than 8 objects.
+    #[error("a transaction names at most 8 objects")]
     ManyObjects,
 }
 

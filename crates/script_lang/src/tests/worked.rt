@@ -1,6 +1,6 @@
-//! Worked scripts of version 1 without a degree.
+//! Worked scripts.
 
-pub static WORKED: [&str; 22] = [
+pub static WORKED: [&str; 24] = [
     // One node commits alone.
     "zeus 1\nnodes 1\nslots 1\ndirectory 0\nobject x 5 0\ntx 0 0 add x 3\nrun\nbegin 0\n\
      try 0 0\nend\n",
@@ -95,6 +95,15 @@ pub static WORKED: [&str; 22] = [
     "zeus 1\nnodes 2\nslots 1\ndirectory 0\nobject x 5 0 1\n\
      tx 0 0 put x 18446744073709551615\ntx 0 0 add x 2 ; need x 2 ; put x 4\nrun\n\
      begin 0\ntry 0 0\nbegin 1\ntry 0 0\ndeliver 0 1 0\ndeliver 1 0 0\nend\n",
+    // With a degree a reader brings a copy, and leaves where too many are there.
+    "zeus 1\nnodes 3\nslots 1\ndirectory 0\ndegree 2\nobject x 5 0 1\ntx 2 0 get x\nrun\n\
+     begin 0\ntry 2 0\ndeliver 2 0 0\ndeliver 0 2 0\ntry 2 0\ndeliver 2 0 1\ntick 2\n\
+     deliver 2 0 2\ndeliver 0 2 1\ndeliver 2 1 1\ndeliver 2 1 0\ndeliver 2 0 3\n\
+     deliver 2 0 2\nend\n",
+    // Values are texts.
+    "zeus 2\nnodes 2\nslots 1\ndirectory 0\nobject x 'idle 0 1\n\
+     tx 0 0 get x ; same x 'idle ; put x 'busy\ntx 0 0 add x 1\nrun\nbegin 0\ntry 0 0\n\
+     begin 1\ntry 0 0\ndeliver 0 1 0\ndeliver 1 0 0\nend\n",
     // Nothing happens.
     "zeus 1\nnodes 2\nslots 1\ndirectory 0\nobject x 5 0 1\nrun\nend\n",
 ];

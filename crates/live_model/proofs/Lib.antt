@@ -1,0 +1,7 @@
+pub mod DriveAlone
+pub mod GreatClock
+pub mod KilledNode
+pub mod LostPacket
+pub mod Opened
+pub mod Whole
+pub mod WriteHereReadThere

@@ -1,0 +1,17 @@
+pub mod Acks
+pub mod Acts
+pub mod BookSteps
+pub mod Books
+pub mod Causes
+pub mod Early
+pub mod Merging
+pub mod Mirrors
+pub mod Orders
+pub mod Posting
+pub mod Reached
+pub mod Replay
+pub mod Results
+pub mod Senders
+pub mod Serving
+pub mod Tries
+pub mod Turns

@@ -1,0 +1,224 @@
+-- Events of cells and service in an order of rising clocks are a run of the machine, step by step.
+use Rattle.std.specs.Prelude.{ℕ, ◌≡◌, ◌-◌, ◌<◌, ◌≤◌, Bool, true, false, ◌==◌, List, [], ◌∷◌, ◌++◌, length, IfSome, Option, Some, None, is_some, is_none, if◌then◌else◌}
+use Rattle.std.proofs.Common.{arith, refl, sym, ap, ◌∙◌, inl, inr, subst, append_assoc, append-nil}
+use Rattle.zeus_base.specs.declared.config.Config.{Config}
+use Rattle.zeus_txn.specs.declared.tx.TxDecl.{TxDecl}
+use Rattle.zeus_model.specs.declared.answer.Answer.TheVariants.{Twice, Waits, Begin as BeginAnswer}
+use Rattle.zeus_model.specs.declared.answer.Begin.TheVariants.{Begun, Stopped}
+use Rattle.zeus_model.specs.In.{In, here, there}
+use Rattle.zeus_model.specs.Scripts.{FitTxs}
+use Rattle.zeus_model.specs.State.{Node}
+use Rattle.zeus_model.specs.Tables.{or_else, where_true}
+use Rattle.zeus_model.specs.Act.{Did, just}
+use Rattle.zeus_model.specs.Book.{record_of}
+use Rattle.zeus_model.specs.Local.{begin}
+use Rattle.zeus_model.specs.World.{World, node, link, nth_letter, waits_for, begin_refused}
+use Rattle.live_model.specs.Items.{Job, Stamped, Sight}
+use Rattle.live_model.specs.Cell.{CellEvent, Core, Deed, Began, Tried, Took, Ticked, Halted, Saw, step_of, stamp, declared, start_core, core, core_from, posts, posts_from, numbered, sends, AreClocks, BeginsFresh, IsFresh, DeedFits, does, notes_down}
+use Rattle.live_model.specs.Service.{ServiceEvent, made, start_views, views_made, views_from}
+use Rattle.live_model.specs.Cluster.{Plan, Cluster, Events, IsCluster}
+use Rattle.live_model.specs.Merge.{Turn, cell_turn, service_turn, entry_of, turn_clock}
+use Rattle.live_replay.specs.Parts.{part, of_cell, of_service, cell_part, service_part}
+use Rattle.live_replay.proofs.Causes.{clock-above, fits-at, fresh-at, packet-sent, view-sent, WasNoted, after-noted}
+use Rattle.live_replay.proofs.Early.{noted-early, NoneServedBefore, HasView, seen-early}
+use Rattle.live_replay.specs.Replayed.{Rises}
+use Rattle.live_replay.proofs.Merging.{part-append}
+use Rattle.live_replay.specs.Replayed.{core_of}
+use Rattle.live_replay.proofs.Mirrors.{Mirrors}
+use Rattle.live_replay.proofs.Posting.{NoneBefore, numbered-early, posts_from-append, posts_from-late}
+
+-- the turns have the events of each cell and of the service, each in their order, and their clocks rise
+pub record IsOrder (c : Config) (es : Events) (ts : List Turn) : Type 0 where
+  pub cells : (n : ℕ) → n < c.nodes → cell_part n ts ≡ es.cells n
+  pub service : service_part ts ≡ es.service
+  pub places : (n : ℕ) (e : CellEvent) → In (cell_turn n e) ts → n < c.nodes
+  pub rises : Rises turn_clock ts
+
+-- ---- what stands at a turn
+
+rises-behind : {A : Type 0} (clock : A → ℕ) (xs ys : List A) → Rises clock (xs ++ ys) → Rises clock ys
+unfolding Rises
+rises-behind clock [] ys h = h
+rises-behind clock (x ∷ xs) ys h = rises-behind clock xs ys h.1
+
+late-In : {A : Type 0} (clock : A → ℕ) (x : A) (xs : List A) (y : A) → ((z : A) → In z xs → clock x ≤ clock z) → In y (x ∷ xs) → clock x ≤ clock y
+late-In clock x xs y h (here _ _ e) = let same : clock y ≡ clock x = ap clock e in omega arith
+late-In clock x xs y h (there _ _ is) = h y is
+
+-- nothing from a turn on is earlier
+rises-late : {A : Type 0} (clock : A → ℕ) (past : List A) (x : A) (future : List A) → Rises clock (past ++ x ∷ future) → (y : A) → In y (x ∷ future) → clock x ≤ clock y
+unfolding Rises
+rises-late clock past x future h y is = late-In clock x future y (rises-behind clock past (x ∷ future) h).0 is
+
+cell_late : (b : Bool) (bound : ℕ) (e : CellEvent) (rest : List CellEvent) → bound ≤ e.clock → NoneBefore bound rest → NoneBefore bound ((if b then e ∷ [] else []) ++ rest)
+unfolding NoneBefore
+cell_late true bound e rest low h = (low, h)
+cell_late false bound e rest low h = h
+
+cell_part-late : (n bound : ℕ) (ts : List Turn) → ((t : Turn) → In t ts → bound ≤ turn_clock t) → NoneBefore bound (cell_part n ts)
+unfolding part of_cell entry_of NoneBefore
+cell_part-late n bound [] h = tt
+cell_part-late n bound (cell_turn m e ∷ ts) h = cell_late (m == n) bound e (cell_part n ts) (h (cell_turn m e) (here _ ts refl)) (cell_part-late n bound ts (λ t is. h t (there _ ts is)))
+cell_part-late n bound (service_turn e ∷ ts) h = cell_part-late n bound ts (λ t is. h t (there _ ts is))
+
+service_part-late : (bound : ℕ) (ts : List Turn) → ((t : Turn) → In t ts → bound ≤ turn_clock t) → NoneServedBefore bound (service_part ts)
+unfolding part of_service entry_of NoneServedBefore
+service_part-late bound [] h = tt
+service_part-late bound (cell_turn m e ∷ ts) h = service_part-late bound ts (λ t is. h t (there _ ts is))
+service_part-late bound (service_turn e ∷ ts) h = (h (service_turn e) (here _ ts refl), service_part-late bound ts (λ t is. h t (there _ ts is)))
+
+-- a turn among the others: what was before it, and what comes
+pub record IsAt (c : Config) (es : Events) (past : List Turn) (t : Turn) (future : List Turn) : Type 0 where
+  pub cells : (n : ℕ) → n < c.nodes → es.cells n ≡ cell_part n past ++ cell_part n (t ∷ future)
+  pub service : es.service ≡ service_part past ++ service_part (t ∷ future)
+  pub late : (n : ℕ) → NoneBefore (turn_clock t) (cell_part n (t ∷ future))
+  pub served_late : NoneServedBefore (turn_clock t) (service_part (t ∷ future))
+
+pub order-at : (c : Config) (es : Events) (past : List Turn) (t : Turn) (future : List Turn) → IsOrder c es (past ++ t ∷ future) → IsAt c es past t future
+order-at c es past t future o =
+    let late = rises-late turn_clock past t future o.rises in
+    record {
+      cells = λ n less. sym (o.cells n less) ∙ part-append (of_cell n) past (t ∷ future);
+      service = sym o.service ∙ part-append of_service past (t ∷ future);
+      late = λ n. cell_part-late n (turn_clock t) (t ∷ future) late;
+      served_late = service_part-late (turn_clock t) (t ∷ future) late;
+    }
+
+own-part : (me : ℕ) (e : CellEvent) (future : List Turn) → cell_part me (cell_turn me e ∷ future) ≡ e ∷ cell_part me future
+unfolding part of_cell
+own-part me e future = rw (eq_same me) refl
+  where
+    eq_same : (n : ℕ) → (n == n) ≡ true
+    eq_same n = Rattle.std.proofs.Common.eq-eqb n n refl
+
+pub served-part : (e : ServiceEvent) (future : List Turn) → service_part (service_turn e ∷ future) ≡ e ∷ service_part future
+unfolding part of_service
+served-part e future = refl
+
+-- ---- what the world finds
+
+begun-live : (n : Node) (s id : ℕ) (tx : List Rattle.zeus_txn.specs.declared.ops.Op.Op) → (begin n s id tx).answer ≡ Begun → n.stopped ≡ false
+unfolding begin
+begun-live n s id tx h = live n.stopped (Rattle.zeus_model.specs.Local.begin_free n s record { id = id; tx = tx } (Rattle.zeus_model.specs.State.slot n s).current) h
+  where
+    live : (b : Bool) (d : Did Rattle.zeus_model.specs.declared.answer.Begin.Begin) → (if b then just n Stopped else d).answer ≡ Begun → b ≡ false
+    live true d h = absurd cc
+    live false d h = refl
+
+where_false : {A : Type 0} (b : Bool) (a : A) → b ≡ false → where_true b a ≡ None
+unfolding where_true
+where_false b a h = rw h refl
+
+three_none : {A : Type 0} (a b c : Option A) → a ≡ None → b ≡ None → c ≡ None → or_else a (or_else b c) ≡ None
+unfolding or_else
+three_none a b c ha hb hc = rw (ha, hb, hc) refl
+
+not_none : {A : Type 0} (o : Option A) → is_some o ≡ true → is_none o ≡ false
+not_none None h = absurd cc
+not_none (Some a) h = refl
+
+none_some : {A : Type 0} (o : Option A) → is_none o ≡ true → is_some o ≡ false
+none_some None h = refl
+none_some (Some a) h = absurd cc
+
+waits-none : (o : Option ℕ) (w : World) → IfSome o (λ i. is_some (record_of w.book i).acked ≡ true) → waits_for w o ≡ None
+unfolding waits_for
+waits-none None w h = refl
+waits-none (Some i) w h = where_false (is_none (record_of w.book i).acked) (Waits i) (not_none (record_of w.book i).acked h)
+
+-- an acknowledgement that was noted before the turn stands in the world
+pub noted-acked : (p : Plan) (es : Events) (past : List Turn) (t : Turn) (future : List Turn) (w : World) (j : Job) (i : ℕ) → Mirrors p.config p.txs past w → IsAt p.config es past t future
+    → j.seen < turn_clock t → WasNoted p es j i → is_some (record_of w.book i).acked ≡ true
+noted-acked p es past t future w j i m at less noted =
+    let n = (declared p.txs i).node in
+    let seen = noted.seen in
+    let split : In noted.note (Rattle.live_model.specs.Ends.notes n p.config p.txs noted.client (cell_part n past ++ cell_part n (t ∷ future))) =
+        subst (λ (zs : List CellEvent). In noted.note (Rattle.live_model.specs.Ends.notes n p.config p.txs noted.client zs)) (at.cells n noted.there) noted.is in
+    let here_acked = noted-early n p.config p.txs noted.client (turn_clock t) (start_core n p.config p.txs) (cell_part n past) (cell_part n (t ∷ future)) noted.note
+        (at.late n) (omega arith) noted.acked split in
+    let agree = m.books n noted.there in
+    let story = agree.own i refl in
+    story.acked ∙ subst (λ (x : ℕ). is_some (record_of (core_of p.config p.txs n past).book x).acked ≡ true) noted.tx here_acked
+
+-- what holds at the events of a cell
+pub record AtCell (p : Plan) (k : Cluster) (es : Events) (past : List Turn) (me : ℕ) (e : CellEvent) (future : List Turn) (w : World) : Type 0 where
+  pub cluster : IsCluster p k es
+  pub fit : FitTxs p.config 0 p.txs
+  pub there : me < p.config.nodes
+  pub at : IsAt p.config es past (cell_turn me e) future
+  pub mirrors : Mirrors p.config p.txs past w
+
+abbrev pub Split : Plan → Cluster → Events → List Turn → ℕ → CellEvent → List Turn → World → Type 0
+Split p k es past me e future w = AtCell p k es past me e future w → es.cells me ≡ cell_part me past ++ e ∷ cell_part me future
+
+pub at-split : (p : Plan) (k : Cluster) (es : Events) (past : List Turn) (me : ℕ) (e : CellEvent) (future : List Turn) (w : World) → Split p k es past me e future w
+at-split p k es past me e future w a =
+    let at = a.at in at.cells me a.there ∙ ap (λ (zs : List CellEvent). cell_part me past ++ zs) (own-part me e future)
+
+pub at-stamp : (p : Plan) (k : Cluster) (es : Events) (past : List Turn) (me : ℕ) (e : CellEvent) (future : List Turn) (w : World) → AtCell p k es past me e future w → stamp e.deed < e.clock
+at-stamp p k es past me e future w a =
+    let h = a.cluster in
+    let cell = h.cells me a.there in
+    clock-above 0 (cell_part me past) (cell_part me future) e (subst (λ (zs : List CellEvent). AreClocks 0 zs) (at-split p k es past me e future w a) cell.clocks)
+
+pub at-fits : (p : Plan) (k : Cluster) (es : Events) (past : List Turn) (me : ℕ) (e : CellEvent) (future : List Turn) (w : World) → AtCell p k es past me e future w → DeedFits p.config p.txs e.deed
+at-fits p k es past me e future w a =
+    let h = a.cluster in
+    let cell = h.cells me a.there in
+    fits-at p.config p.txs (cell_part me past) (cell_part me future) e
+    (subst (λ (zs : List CellEvent). Rattle.live_model.specs.Cell.DeedsFit p.config p.txs zs) (at-split p k es past me e future w a) cell.fit)
+
+pub at-fresh : (p : Plan) (k : Cluster) (es : Events) (past : List Turn) (me : ℕ) (e : CellEvent) (future : List Turn) (w : World) → AtCell p k es past me e future w
+    → BeginsFresh me p.txs (core_of p.config p.txs me past) e.deed
+at-fresh p k es past me e future w a =
+    let h = a.cluster in
+    let cell = h.cells me a.there in
+    fresh-at me p.config p.txs (start_core me p.config p.txs) (cell_part me past) (cell_part me future) e
+    (subst (λ (zs : List CellEvent). Rattle.live_model.specs.Cell.BeginFresh me p.config p.txs (start_core me p.config p.txs) zs) (at-split p k es past me e future w a) cell.begins)
+
+pub finds-begin : (p : Plan) (k : Cluster) (es : Events) (past : List Turn) (me : ℕ) (e : CellEvent) (future : List Turn) (w : World) (j : Job) → AtCell p k es past me e future w
+    → e.deed ≡ Began j → IsFresh me p.txs (core_of p.config p.txs me past) j → j.tx < length p.txs → j.seen < e.clock → begin_refused w j.tx ≡ None
+unfolding begin_refused entry_of
+finds-begin p k es past me e future w j a began fresh less seen =
+    let m = a.mirrors in
+    let agree = m.books me a.there in
+    let story = agree.own j.tx fresh.own in
+    let core = core_of p.config p.txs me past in
+    let unbegun : is_some (record_of w.book j.tx).begun ≡ false = story.begun ∙ none_some (record_of core.book j.tx).begun fresh.new in
+    let live : core.node.stopped ≡ false = begun-live core.node _ _ _ fresh.begun in
+    let running : (node w (declared w.txs j.tx).node).stopped ≡ false =
+        rw (m.declared, fresh.own) (ap (λ (n : Node). n.stopped) (m.nodes me a.there) ∙ live) in
+    let noted : IfSome (declared p.txs j.tx).after (λ i. WasNoted p es j i) =
+        after-noted p k es me j (cell_part me past) (cell_part me future) e a.cluster a.fit a.there (at-split p k es past me e future w a) began fresh.own less in
+    let acked : IfSome (declared p.txs j.tx).after (λ i. is_some (record_of w.book i).acked ≡ true) =
+        Rattle.std.proofs.lemmas.Option.IfSome_then (declared p.txs j.tx).after noted (λ i n. noted-acked p es past (cell_turn me e) future w j i m a.at seen n) in
+    three_none _ _ _ (where_false _ Twice unbegun) (where_false _ (BeginAnswer Stopped) running)
+    (waits-none (declared w.txs j.tx).after w (subst (λ (ts : List TxDecl). IfSome (declared ts j.tx).after (λ i. is_some (record_of w.book i).acked ≡ true)) (sym m.declared) acked))
+
+pub finds-packet : (p : Plan) (k : Cluster) (es : Events) (past : List Turn) (me : ℕ) (e : CellEvent) (future : List Turn) (w : World) (sender : ℕ) (q : Stamped) → AtCell p k es past me e future w
+    → e.deed ≡ Took sender q → sender < p.config.nodes → q.clock < e.clock → nth_letter (link w.links sender me) q.number ≡ Some q.letter
+unfolding sends entry_of
+finds-packet p k es past me e future w sender q a took there_sender less =
+    let m = a.mirrors in
+    let at = a.at in
+    let c = p.config in
+    let sent = packet-sent p k es me sender q (cell_part me past) (cell_part me future) e a.cluster a.there there_sender (at-split p k es past me e future w a) took in
+    let later = cell_part sender (cell_turn me e ∷ future) in
+    let split : In q (numbered 0 (posts sender c p.txs me (cell_part sender past) ++ posts_from sender c p.txs me (core_of c p.txs sender past) later)) =
+        subst (λ (ps : List Rattle.live_model.specs.Cell.Posted). In q (numbered 0 ps)) (posts_from-append sender c p.txs me (start_core sender c p.txs) (cell_part sender past) later)
+        (subst (λ (zs : List CellEvent). In q (numbered 0 (posts sender c p.txs me zs))) (at.cells sender there_sender) sent) in
+    let early = numbered-early 0 e.clock (posts sender c p.txs me (cell_part sender past)) (posts_from sender c p.txs me (core_of c p.txs sender past) later) q
+        (posts_from-late sender c p.txs me e.clock (core_of c p.txs sender past) later (at.late sender)) less split in
+    let place : q.number - 0 ≡ q.number = omega arith in
+    rw (m.links sender me there_sender) (rw place at early.1)
+
+pub finds-view : (p : Plan) (k : Cluster) (es : Events) (past : List Turn) (me : ℕ) (e : CellEvent) (future : List Turn) (w : World) (v : Sight) → AtCell p k es past me e future w
+    → e.deed ≡ Saw v → v.clock < e.clock → HasView w.views v
+unfolding entry_of
+finds-view p k es past me e future w v a saw less =
+    let m = a.mirrors in
+    let at = a.at in
+    let sent = view-sent p k es me v (cell_part me past) (cell_part me future) e a.cluster a.there (at-split p k es past me e future w a) saw in
+    rw (m.views)
+    (seen-early me e.clock (start_views p.config) (service_part past) (service_part (cell_turn me e ∷ future)) v at.served_late less
+    (subst (λ (zs : List ServiceEvent). In v (Rattle.live_model.specs.Service.sights me p.config zs)) at.service sent))

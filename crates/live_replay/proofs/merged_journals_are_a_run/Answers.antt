@@ -1,0 +1,54 @@
+-- Each clause is a lemma of its own.
+use Rattle.live_replay.proofs.Results.{replay-steps, replay-cells, replay-service, replay-clocks, replay-fits, replay-answer, replay-acked, replay-hits, replay-begun, replay-after, replay-sound, replay-node, replay-views, replay-link, replay-book, replay-jobs, replay-answers}
+use Rattle.live_replay.proofs.merged_journals_are_a_run.Goals as goal
+
+pub returns-clause-steps : goal.returns-clause-steps
+returns-clause-steps c = replay-steps
+
+pub returns-clause-cells : goal.returns-clause-cells
+returns-clause-cells c = replay-cells
+
+pub returns-clause-service : goal.returns-clause-service
+returns-clause-service c = replay-service
+
+pub returns-clause-clocks : goal.returns-clause-clocks
+returns-clause-clocks c = replay-clocks
+
+pub returns-clause-fit : goal.returns-clause-fit
+returns-clause-fit c = replay-fits
+
+pub returns-clause-answers : goal.returns-clause-answers
+returns-clause-answers c = replay-answer
+
+pub returns-clause-acknowledgements : goal.returns-clause-acknowledgements
+returns-clause-acknowledgements c = replay-acked
+
+pub returns-clause-nothing_missed : goal.returns-clause-nothing_missed
+returns-clause-nothing_missed c = replay-hits
+
+pub returns-clause-begun : goal.returns-clause-begun
+returns-clause-begun c = replay-begun
+
+pub returns-clause-after : goal.returns-clause-after
+returns-clause-after c = replay-after
+
+pub returns-clause-sound : goal.returns-clause-sound
+returns-clause-sound c = replay-sound
+
+pub returns-clause-nodes : goal.returns-clause-nodes
+returns-clause-nodes c = replay-node
+
+pub returns-clause-views : goal.returns-clause-views
+returns-clause-views c = replay-views
+
+pub returns-clause-links : goal.returns-clause-links
+returns-clause-links c = replay-link
+
+pub returns-clause-books : goal.returns-clause-books
+returns-clause-books c = replay-book
+
+pub returns-clause-jobs : goal.returns-clause-jobs
+returns-clause-jobs c = replay-jobs
+
+pub returns-clause-client_answers : goal.returns-clause-client_answers
+returns-clause-client_answers c = replay-answers

@@ -1,0 +1,74 @@
+//! The journals of cells that keep their rules merge to one run of the machine, with the same answers.
+#![tactic(auto)]
+
+ghost use Rattle.std.specs.Prelude.{All, IfSome, List, map, is_some, true, ℕ, ◌<◌, ◌≡◌, ◌++◌, ◌∷◌};
+ghost use Rattle.zeus_model.specs.Book.{record_of};
+ghost use Rattle.zeus_model.specs.Sound.{Sound};
+ghost use Rattle.zeus_model.specs.World.{happens, link, node, run, start};
+ghost use Rattle.zeus_model.specs.declared.answer.Answer.TheVariants.{Begin as BeginAnswer};
+ghost use Rattle.zeus_model.specs.declared.answer.Begin.TheVariants.{Begun};
+ghost use Rattle.machine_moves.specs.Fits.{StepFits};
+ghost use Rattle.live_model.specs.Items.{Job, Stamped};
+ghost use Rattle.live_model.specs.Cell.{Began, CellEvent, declared, jobs, sends};
+ghost use Rattle.live_model.specs.Cluster.{Cluster, Events, IsFront, IsThere, Plan};
+ghost use Rattle.live_model.specs.Ends.{ClientId, answers};
+ghost use Rattle.live_model.specs.Merge.{Turn, cell_turn, merged, turn_clock, turn_step, turns};
+ghost use Rattle.live_replay.specs.Parts.{cell_part, service_part};
+ghost use Rattle.live_replay.specs.Replayed.{IsLive, IsMissed, Rises, SameStory, acknowledged, given, world_after};
+
+/// The merge of the journals is a run of the machine, in which each cell, each client and the service see what they saw.
+///
+/// It holds for each cluster within the limits whose cells, clients and service keep their facts, each by its own doing, and
+/// whose rings gave, in order, what was put into them. `past`, `t` and `future` are the events before one, that event, and those
+/// behind it, in the order of the merge.
+pub fn merged_journals_are_a_run()
+    // The steps are those of the events, by clock, then node, the service behind all nodes.
+    ensures steps { (p : Plan) (k : Cluster) (es : Events) → IsLive p k es → merged p.config k ≡ map turn_step (turns p.config es) }
+    // Each node's events are all there, in their order.
+    ensures cells { (p : Plan) (k : Cluster) (es : Events) (n : ℕ) → IsLive p k es → n < p.config.nodes → cell_part n (turns p.config es) ≡ es.cells n }
+    // So are those of the service.
+    ensures service { (p : Plan) (k : Cluster) (es : Events) → IsLive p k es → service_part (turns p.config es) ≡ es.service }
+    // Clocks rise.
+    ensures clocks { (p : Plan) (k : Cluster) (es : Events) → IsLive p k es → Rises turn_clock (turns p.config es) }
+    // Each step fits the configuration and its transactions.
+    ensures fit { (p : Plan) (k : Cluster) (es : Events) → IsLive p k es → All (StepFits p.config p.txs) (merged p.config k) }
+
+    // Each step has the answer that its cell, or the service, gave.
+    ensures answers { (p : Plan) (k : Cluster) (es : Events) (past : List Turn) (t : Turn) (future : List Turn) → IsLive p k es → past ++ t ∷ future ≡ turns p.config es
+        → (happens (world_after p past) (turn_step t)).answer ≡ given p past t }
+    // Each step acknowledges the transactions that its cell acknowledged, in the same order.
+    ensures acknowledgements { (p : Plan) (k : Cluster) (es : Events) (past : List Turn) (t : Turn) (future : List Turn) → IsLive p k es → past ++ t ∷ future ≡ turns p.config es
+        → (happens (world_after p past) (turn_step t)).acked ≡ acknowledged p past t }
+    // No step is answered that a transaction was begun before or waits, or that a packet or a view is not there.
+    ensures nothing_missed { (p : Plan) (k : Cluster) (es : Events) (past : List Turn) (t : Turn) (future : List Turn) → IsLive p k es → past ++ t ∷ future ≡ turns p.config es
+        → IsMissed (happens (world_after p past) (turn_step t)).answer → ⊥ }
+    // Each begin is answered so.
+    ensures begun { (p : Plan) (k : Cluster) (es : Events) (past : List Turn) (n : ℕ) (e : CellEvent) (future : List Turn) (j : Job) → IsLive p k es
+        → past ++ cell_turn n e ∷ future ≡ turns p.config es → e.deed ≡ Began j
+        → (happens (world_after p past) (turn_step (cell_turn n e))).answer ≡ BeginAnswer Begun }
+    // A transaction that is declared behind another is begun behind that one's acknowledgement.
+    ensures after { (p : Plan) (k : Cluster) (es : Events) (past : List Turn) (n : ℕ) (e : CellEvent) (future : List Turn) (j : Job) → IsLive p k es
+        → past ++ cell_turn n e ∷ future ≡ turns p.config es → e.deed ≡ Began j
+        → IfSome (declared p.txs j.tx).after (λ i. is_some (record_of (world_after p past).book i).acked ≡ true) }
+    // The world is sound at every moment.
+    ensures sound { (p : Plan) (k : Cluster) (es : Events) (past : List Turn) (future : List Turn) → IsLive p k es → past ++ future ≡ turns p.config es
+        → Sound (world_after p past) }
+
+    // Each node of the last world is that of its cell.
+    ensures nodes { (p : Plan) (k : Cluster) (es : Events) (n : ℕ) → IsLive p k es → n < p.config.nodes
+        → node (run (start p.config p.txs) (merged p.config k)) n ≡ ((k.cells n).core).node }
+    // The views are those of the service.
+    ensures views { (p : Plan) (k : Cluster) (es : Events) → IsLive p k es → (run (start p.config p.txs) (merged p.config k)).views ≡ k.service.views }
+    // The letters of a link are all that its cell sent there, also those that found no place in the ring.
+    ensures links { (p : Plan) (k : Cluster) (es : Events) (sender receiver : ℕ) → IsLive p k es → sender < p.config.nodes
+        → link (run (start p.config p.txs) (merged p.config k)).links sender receiver ≡ map (λ (q : Stamped). q.letter) (sends sender p.config p.txs receiver (es.cells sender)) }
+    // A transaction is begun, entered, acknowledged and refused just where the book of its node's cell says so, with its reply.
+    ensures books { (p : Plan) (k : Cluster) (es : Events) (n id : ℕ) → IsLive p k es → n < p.config.nodes → (declared p.txs id).node ≡ n
+        → SameStory (record_of (run (start p.config p.txs) (merged p.config k)).book id) (record_of ((k.cells n).core).book id) }
+
+    // The jobs that a client handed over are those begun at its slot, and then those that are still in the ring.
+    ensures jobs { (p : Plan) (k : Cluster) (es : Events) (id : ClientId) → IsLive p k es → IsThere p.config id → IsFront (jobs p.txs id.slot (es.cells id.node)) (k.clients id).jobs }
+    // The answers that a client took are the front of those that its cell's events give it.
+    ensures client_answers { (p : Plan) (k : Cluster) (es : Events) (id : ClientId) → IsLive p k es → IsThere p.config id
+        → IsFront (k.clients id).answers (answers id.node p.config p.txs id.slot (es.cells id.node)) }
+{}

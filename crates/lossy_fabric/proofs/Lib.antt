@@ -1,0 +1,5 @@
+pub mod Largest
+mod Rooms
+mod Runs
+mod Sending
+mod Staying

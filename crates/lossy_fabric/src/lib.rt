@@ -1,0 +1,11 @@
+//! The links between nodes: every packet that was ever sent, kept as the bytes that a network would carry.
+#![tactic(auto)]
+
+mod link;
+mod links;
+#[cfg(test)]
+mod tests;
+
+pub use links::Links;
+pub use zeus_base::{NoMemory, NodeId};
+pub use zeus_packet::{Letter, Packet};

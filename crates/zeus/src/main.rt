@@ -1,0 +1,13 @@
+//! `zeus`: runs a script of the protocol and prints the report of the run.
+#![tactic(auto)]
+
+use std::env;
+use std::process::ExitCode;
+use zeus_cli::answer_command;
+use zeus_io::{StdSink, StdSource};
+
+fn main(rt: HostRuntime) -> ExitCode {
+    let mut source = StdSource::new(rt.stdin());
+    let mut sink = StdSink::new(rt.stdout());
+    ExitCode::from(answer_command(rt.alloc(), env::args(&rt), &mut source, &mut sink))
+}

@@ -1,0 +1,14 @@
+//! The program `zeus`, from the arguments that the machine gives it to its exit status, over any source and sink.
+#![tactic(auto)]
+
+mod command;
+mod fault;
+mod output;
+mod top;
+
+pub use command::answer_command;
+pub use top::zeus_top;
+pub use zeus_io::{Sink, Source, Status};
+
+#[cfg(test)]
+mod tests;

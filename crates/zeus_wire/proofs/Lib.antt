@@ -1,0 +1,16 @@
+pub mod Booleans
+pub mod Sets
+pub mod Texts
+pub mod Writes
+pub mod Room
+pub mod Numbers
+pub mod Fields
+pub mod Values
+pub mod Bodies
+pub mod Again
+pub mod Found
+pub mod FoundFields
+pub mod FoundValues
+pub mod FoundBodies
+pub mod FoundPackets
+pub mod Decoded

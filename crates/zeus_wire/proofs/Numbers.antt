@@ -1,0 +1,37 @@
+-- Numbers as bytes: what was written is read again, and what was read was written so.
+use Rattle.std.proofs.Common.{◌≡◌, ℕ, ◌^◌, ◌<◌, Bool, true, false, ltb, List, ◌∷◌, ◌++◌, length, Ok, refl, arith}
+use Rattle.std.specs.Int.{w16, w32, w64, to_be_bytes}
+use Rattle.std.proofs.lemmas.Bool.{le-ltb}
+use Rattle.std.proofs.lemmas.List.{take_at, drop_at, length-append}
+use Rattle.std.proofs.lemmas.Nat.{from_be_bytes-to_be_bytes_2, from_be_bytes-to_be_bytes_4, from_be_bytes-to_be_bytes_8}
+use Rattle.zeus_model.specs.PacketSpelling.{u16_bytes, u32_bytes, u64_bytes}
+use Rattle.zeus_wire.specs.Reading.{Reader, and_then, checked, bytes_at, u8_at, u16_at, u32_at, u64_at}
+
+-- ---- what was written is read again
+
+pub u8_again : (b : ℕ) (rest : List ℕ) → u8_at (b ∷ rest) ≡ Ok (b, rest)
+unfolding u8_at
+u8_again b rest = refl
+
+pub bytes_again : (n : ℕ) (bytes rest : List ℕ) → length bytes ≡ n → bytes_at n (bytes ++ rest) ≡ Ok (bytes, rest)
+unfolding bytes_at
+bytes_again n bytes rest len =
+    let long : ltb (length (bytes ++ rest)) n ≡ false = le-ltb (length (bytes ++ rest)) n (omega (arith, length-append bytes rest)) in
+    rw (long, take_at bytes rest n len, drop_at bytes rest n len) refl
+
+pub u16_again : (n : ℕ) (rest : List ℕ) → n < 2 ^ 16 → u16_at (u16_bytes n ++ rest) ≡ Ok (n, rest)
+unfolding u16_at u16_bytes and_then
+u16_again n rest fits = rw (bytes_again 2 (to_be_bytes w16 n) rest refl, from_be_bytes-to_be_bytes_2 n fits) refl
+
+pub u32_again : (n : ℕ) (rest : List ℕ) → n < 2 ^ 32 → u32_at (u32_bytes n ++ rest) ≡ Ok (n, rest)
+unfolding u32_at u32_bytes and_then
+u32_again n rest fits = rw (bytes_again 4 (to_be_bytes w32 n) rest refl, from_be_bytes-to_be_bytes_4 n fits) refl
+
+pub u64_again : (n : ℕ) (rest : List ℕ) → n < 2 ^ 64 → u64_at (u64_bytes n ++ rest) ≡ Ok (n, rest)
+unfolding u64_at u64_bytes and_then
+u64_again n rest fits = rw (bytes_again 8 (to_be_bytes w64 n) rest refl, from_be_bytes-to_be_bytes_8 n fits) refl
+
+-- a field that passes its test is read as without the test
+pub checked_again : {A : Type 0} (test : A → Bool) (r : Reader A) (bytes : List ℕ) (x : A) (rest : List ℕ) → r bytes ≡ Ok (x, rest) → test x ≡ true → checked test r bytes ≡ Ok (x, rest)
+unfolding and_then
+checked_again test r bytes x rest read passes = rw (read, passes) refl

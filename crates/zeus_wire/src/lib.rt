@@ -1,0 +1,14 @@
+//! Packets as bytes, and back.
+#![tactic(auto)]
+
+mod fault;
+mod laws;
+mod reading;
+#[cfg(test)]
+mod tests;
+mod writing;
+
+pub use fault::WireFault;
+pub use laws::{what_is_read_is_spelled_so, what_was_written_is_read_again};
+pub use reading::{decode, decode_front};
+pub use writing::{encode, encode_into, encode_letter_into, largest, longest};
