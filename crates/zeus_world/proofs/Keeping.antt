@@ -7,6 +7,7 @@ use Rattle.zeus_base.specs.Limits.{KeepsLimits}
 use Rattle.zeus_base.specs.declared.config.Config.{Config}
 use Rattle.zeus_base.specs.declared.step.Step.{Step}
 use Rattle.zeus_txn.specs.declared.tx.TxDecl.{TxDecl}
+use Rattle.zeus_model.specs.Book.{Book}
 use Rattle.zeus_model.specs.Scripts.{FitsStep, FitsTxs}
 use Rattle.zeus_model.specs.Sound.{Sound}
 use Rattle.zeus_model.specs.World.{World, happens, run, start, stepped}
@@ -91,3 +92,14 @@ pub sound_after : (w v : World) (s t : Step) (report : Report) (r : Result (Unit
     → IfOk r (λ u. IsTaken report v (happens w t)) → OnErr r (v ≡ w) → Sound v
 sound_after w v s t report (Ok u) r f sound is ok err = sound_stepped w v s t r f sound is ok.becomes
 sound_after w v s t report (Err e) r f sound is ok err = rw err (reached_sound w r sound)
+
+-- the world at the start is kept
+pub kept_start : (c : Config) (txs : List TxDecl) (w : World) (b : BookState) → KeepsLimits c → FitsTxs c txs → w ≡ start c txs → (book : Book) → b ≡ record { book = book; nodes = c.nodes; slots = c.slots } → IsKept w b
+unfolding start
+kept_start c txs w b limits fit e book k =
+    let config : w.config ≡ c = ap (λ (v : World). v.config) e in
+    record {
+      reached = rw e (reached_start c txs limits fit);
+      nodes = ap (λ (d : BookState). d.nodes) k ∙ sym (ap (λ (d : Config). d.nodes) config);
+      slots = ap (λ (d : BookState). d.slots) k ∙ sym (ap (λ (d : Config). d.slots) config);
+    }

@@ -7,6 +7,7 @@ use Rattle.zeus_model.specs.Book.{Book, no_record}
 use Rattle.zeus_model.specs.State.{Node}
 use Rattle.zeus_model.specs.Tables.{below, nth, numbers_from}
 use Rattle.zeus_model.specs.World.{World, start, start_node}
+use Rattle.history_book.specs.Books.{BookState}
 use Rattle.zeus_world.specs.Links.{LinkState, letters, letters_of, no_link, row_letters}
 
 map_push : {A : Type 0} (f : ℕ → A) (i n : ℕ) → map f (numbers_from i n) ++ f (i + n) ∷ [] ≡ map f (numbers_from i (suc n))
@@ -31,3 +32,14 @@ rows_none : (m n : ℕ) → letters (replicate m (replicate n no_link)) ≡ repl
 unfolding letters
 rows_none zero n = refl
 rows_none (suc m) n = ap (λ (r : List (List Letter)). r ∷ letters (replicate m (replicate n no_link))) (row_none n) ∙ ap (λ (rs : List (List (List Letter))). replicate n [] ∷ rs) (rows_none m n)
+
+abbrev pub world_made : Config → List TxDecl → List Node → List (List (List Letter)) → List (List ℕ) → Book → World
+world_made c txs nodes links views book = record { config = c; txs = txs; nodes = nodes; links = links; views = views; book = book }
+
+-- what a run is made of at its start
+pub started : (c : Config) (txs : List TxDecl) (nodes : List Node) (L : List (List LinkState)) (views : List (List ℕ)) (b : BookState) (n : ℕ) → nodes ≡ map (start_node c) (below c.nodes)
+    → L ≡ replicate c.nodes (replicate c.nodes no_link) → views ≡ below c.nodes ∷ [] → n ≡ length txs
+    → b ≡ record { book = record { steps = 0; points = []; records = replicate n no_record }; nodes = c.nodes; slots = c.slots }
+    → world_made c txs nodes (letters L) views b.book ≡ start c txs
+unfolding start
+started c txs nodes L views b n e f g h k = rw (e, f, g, k, h, rows_none c.nodes c.nodes) refl

@@ -42,7 +42,7 @@ pub(crate) fn settle(
     requires { CanSettle book.old links.old effect.now.sent report.old }
     ensures { IsSettled at effect.now.sent effect.now.passed book.old book.new links.old links.new report.old report.new }
 {
-    passes.fill(effect.passed.as_slice());
+    passes.fill(&effect.passed);
     book.pass_each(
         at,
         passes.as_slice(),
