@@ -1,6 +1,4 @@
-use Rattle.std.proofs.Common.{refl, ap, ◌∙◌}
-use Rattle.std.proofs.lemmas.List.Recursion.{and_at}
-use Rattle.zeus_model.specs.FirstRange.{is_first_step, are_first_steps}
+use Rattle.std.proofs.Common.{ap, ◌∙◌}
 use Rattle.zeus_report.proofs.RunSteps.{step_keeps, run_more, run_done, text_more, text_done}
 use Rattle.zeus_report.proofs.runs.write_events.Goals as goal
 
