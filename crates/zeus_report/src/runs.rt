@@ -16,7 +16,7 @@ use zeus_base::{NoMemory, Step, TxId};
 use zeus_model::{Answer, Name, Script};
 use zeus_text::{append, write_counted, write_decimal, write_line_end, write_step};
 use zeus_txn::Reply;
-use zeus_world::{Book, Report, World};
+use zeus_world::{Report, World};
 
 fn write_answer_line(
     out: &mut Vec<u8>,
@@ -48,49 +48,48 @@ fn write_point(out: &mut Vec<u8>, id: TxId, reply: Option<&Reply>) -> Result<(),
     write_line_end(out)
 }
 
-fn write_points(out: &mut Vec<u8>, book: &Book, ids: &[TxId]) -> Result<(), NoMemory>
-    ensures { OnOk result (out.new.items ≡ out.old.items ++ point_lines book.now.book ids.now) }
+fn write_points(out: &mut Vec<u8>, world: &World, ids: &[TxId]) -> Result<(), NoMemory>
+    ensures { OnOk result (out.new.items ≡ out.old.items ++ point_lines world.now.book ids.now) }
 {
     for id in ids {
-        write_point(out, *id, book.reply(*id))?;
+        write_point(out, *id, world.book().reply(*id))?;
     }
     Ok(())
 }
 
-// Takes a step, and writes its lines. The report is filled anew, so that its room is taken once.
+// Takes a step, and writes its lines. What it does is noted in the event, whose room serves step after step.
 fn write_event(
     out: &mut Vec<u8>,
     names: &[Name],
     place: u64,
     world: &mut World,
+    event: &mut Report,
     step: &Step,
-    report: &mut Report,
 ) -> Result<(), NoMemory>
     requires { FitsStep world.old.config (length world.old.txs) step.now }
     ensures text { OnOk result (out.new.items ≡ out.old.items ++ event_text names.now place step.now (happens world.old step.now)) }
     ensures world { OnOk result (world.new ≡ stepped world.old step.now) }
 {
-    world.step_into(step, report)?;
-    write_answer_line(out, names, place, step, &report.answer)?;
-    write_points(out, world.book(), report.points.as_slice())?;
-    write_acked(out, report.acked.as_slice())?;
-    write_packets(out, names, report.sent.as_slice())
+    world.step_into(step, event)?;
+    write_answer_line(out, names, place, step, &event.answer)?;
+    write_points(out, world, event.points.as_slice())?;
+    write_acked(out, event.acked.as_slice())?;
+    write_packets(out, names, event.sent.as_slice())
 }
 
 fn write_events(
-    alloc: Global,
     out: &mut Vec<u8>,
     names: &[Name],
     world: &mut World,
+    event: &mut Report,
     steps: &[Step],
 ) -> Result<(), NoMemory>
     requires { All (FitsStep world.old.config (length world.old.txs)) steps.now }
     ensures text { OnOk result (out.new.items ≡ out.old.items ++ steps_text names.now world.old 0 steps.now) }
     ensures world { OnOk result (world.new ≡ run world.old steps.now) }
 {
-    let mut report = Report::new(alloc);
     for (place, step) in steps.iter().enumerate() {
-        write_event(out, names, place as u64, world, step, &mut report)?;
+        write_event(out, names, place as u64, world, event, step)?;
     }
     Ok(())
 }
@@ -102,23 +101,35 @@ fn write_head(out: &mut Vec<u8>, version: u8) -> Result<(), NoMemory>
     write_line_end(out)
 }
 
-/// Runs a script: gives its report, and the world that its steps lead to.
+// The report of a script, whose steps the world takes from the start on.
+fn write_report(alloc: Global, script: &Script, world: &mut World) -> Result<Vec<u8>, NoMemory>
+    requires start { world.old ≡ start_of script.now }
+    requires fits { FitsScript script.now }
+    ensures text { IfOk result (λ text. text.items ≡ report script.now) }
+    ensures world { OnOk result (world.new ≡ run (start_of script.now) script.now.steps) }
+{
+    let names = script.names.as_slice();
+    let mut event = Report::new(alloc);
+    let mut out = Vec::new(alloc);
+    write_head(&mut out, script.config.version)?;
+    write_events(&mut out, names, world, &mut event, script.steps.as_slice())?;
+    let txs = script.txs.len() as u32;
+    let objects = script.config.objects.len() as u16;
+    write_final(&mut out, names, world, txs, objects)?;
+    Ok(out)
+}
+
+/// Runs a script: the report of the run as bytes, and the world that its steps lead to.
 ///
 /// # Errors
 ///
-/// `NoMemory` if the memory for it is not there, or if no more steps, views or letters of a link can be counted.
-pub fn report<'a>(alloc: Global, script: &'a Script) -> Result<(Vec<u8>, World<'a>), NoMemory>
+/// `NoMemory` if memory ran out.
+pub fn report(alloc: Global, script: &Script) -> Result<(Vec<u8>, World), NoMemory>
     requires { FitsScript script.now }
-    ensures text { IfOk result (λ r. r.0.items ≡ report script.now) }
-    ensures world { IfOk result (λ r. r.1 ≡ run (start_of script.now) script.now.steps) }
+    ensures text { IfOk result (λ run. run.0.items ≡ report script.now) }
+    ensures world { IfOk result (λ done. done.1 ≡ run (start_of script.now) script.now.steps) }
 {
-    let names = script.names.as_slice();
     let mut world = World::start(alloc, &script.config, &script.txs)?;
-    let mut out = Vec::new(alloc);
-    write_head(&mut out, script.config.version)?;
-    write_events(alloc, &mut out, names, &mut world, script.steps.as_slice())?;
-    let txs = script.txs.len() as u32;
-    let objects = script.config.objects.len() as u16;
-    write_final(&mut out, names, &world, txs, objects)?;
-    Ok((out, world))
+    let text = write_report(alloc, script, &mut world)?;
+    Ok((text, world))
 }

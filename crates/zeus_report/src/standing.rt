@@ -8,10 +8,11 @@ ghost use Rattle.zeus_report.specs.Lines.{tx_state_line, live_copy, point_at};
 
 use crate::answers::tx_state_text;
 use crate::words::{state_text, write_nodes, write_optional_node};
+use history_book::Book;
 use zeus_base::{NoMemory, NodeId, NodeSet, ObjId, TxId};
 use zeus_model::{Copy, Name};
 use zeus_text::{append, write_line_end, write_number, write_object, write_value, write_word};
-use zeus_world::{Book, World};
+use zeus_world::World;
 
 fn write_point_id(out: &mut Vec<u8>, book: &Book, place: u32) -> Result<(), NoMemory>
     requires { place < length book.now.book.points }
@@ -45,7 +46,7 @@ fn write_tx_state(out: &mut Vec<u8>, world: &World, id: TxId) -> Result<(), NoMe
 {
     append(out, b"tx")?;
     write_number(out, u64::from(id.0))?;
-    write_word(out, tx_state_text(world.tx_state(id)))?;
+    write_word(out, tx_state_text(world.book().state(id)))?;
     write_line_end(out)
 }
 

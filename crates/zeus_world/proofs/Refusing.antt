@@ -7,6 +7,7 @@ use Rattle.zeus_model.specs.World.{World, begin_refused, node, tx_decl, waits_fo
 use Rattle.zeus_model.specs.declared.answer.Answer.{Answer}
 use Rattle.zeus_model.specs.declared.answer.Answer.TheVariants.{Begin as BeginAnswer, Twice}
 use Rattle.zeus_model.specs.declared.answer.Begin.TheVariants.{Stopped}
+
 pub refused_twice : (w : World) (k : ℕ) → is_some (record_of w.book k).begun ≡ true → Some Twice ≡ begin_refused w k
 unfolding begin_refused where_true or_else
 refused_twice w k e = rw e refl
@@ -20,7 +21,6 @@ pub refused_else :
     (w : World) (k : ℕ) → is_some (record_of w.book k).begun ≡ false → (node w (tx_decl w k).node).stopped ≡ false → waits_for w (tx_decl w k).after ≡ begin_refused w k
 unfolding begin_refused where_true or_else
 refused_else w k e f = rw (e, f) refl
-
 
 pub stopped_of : (b : Bool) → not b ≡ false → b ≡ true
 stopped_of true h = refl

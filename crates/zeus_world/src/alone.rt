@@ -95,7 +95,11 @@ impl<'a> World<'a> {
     fn with_stopped(&self, set: NodeSet, at: NodeId) -> NodeSet
         ensures { result ≡ (if (node self.now at).stopped then with_node at set else set) }
     {
-        if self.is_live(at) { set } else { set.insert(at) }
+        if self.is_live(at) {
+            set
+        } else {
+            set.insert(at)
+        }
     }
 
     /// The nodes that have stopped.

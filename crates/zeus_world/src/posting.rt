@@ -43,12 +43,7 @@ pub(crate) fn settle(
     ensures { IsSettled at effect.now.sent effect.now.passed book.old book.new links.old links.new report.old report.new }
 {
     passes.fill(&effect.passed);
-    book.pass_each(
-        at,
-        passes.as_slice(),
-        &mut report.points,
-        &mut report.acked,
-    );
+    book.pass_each(at, passes.as_slice(), &mut report.points, &mut report.acked);
     post_all(links, effect.sent.as_slice(), &mut report.sent);
     book.count();
 }

@@ -7,7 +7,7 @@ use Rattle.zeus_report.proofs.runs.write_points.Goals as goal
 pub loop-id-preserved : goal.loop-id-preserved
 unfolding point_lines
 loop-id-preserved c =
-    let book = c.args.book.now.book in
+    let book = c.args.world.now.book in
     let told = c.reply.ensures in
     let added = c.in_ok-write_point.ensures in
     one_more (point_lines book) (point_of book) (λ k ks. refl) c.args.ids.now c.loop-id.id-index c.id-item.result
@@ -15,4 +15,4 @@ loop-id-preserved c =
 
 pub returns : goal.returns
 unfolding point_lines
-returns c = all_done (point_lines c.args.book.now.book) refl c.args.ids.now c.loop-id.id-index c.loop-id.out.items _ c.loop-id-test.false c.loop-id.invariant
+returns c = all_done (point_lines c.args.world.now.book) refl c.args.ids.now c.loop-id.id-index c.loop-id.out.items _ c.loop-id-test.false c.loop-id.invariant

@@ -89,8 +89,8 @@ invariant_of-self-2 c =
     let k = rw (c.place-2.ensures, ← tx) at c.index_mut-node.ensures.value in
     let at = node_at w (tx_decl w c.args.id).node _ (known _ _ c.self.invariant).ranged fit.node k in
     let taken = begin_taken w c.args.id _ c.begin-begun.new.self c.begin-begun.result (letters c.self.inside.links) c.answer_alone-2.new.book.book c.answer_alone-2.new.report at refused
-        (rw (← tx) at c.begin-begun.ensures.answer) (rw (← tx) at c.begin-begun.ensures.after) refl
-        (ap (λ (b : BookState). b.book) (rw c.note_begun.ensures at c.answer_alone-2.ensures.book)) c.answer_alone-2.ensures.report in
+    (rw (← tx) at c.begin-begun.ensures.answer) (rw (← tx) at c.begin-begun.ensures.after) refl
+    (ap (λ (b : BookState). b.book) (rw c.note_begun.ensures at c.answer_alone-2.ensures.book)) c.answer_alone-2.ensures.report in
     rw (c.place-2.ensures, ← tx)
     (kept_after w _ _ c.self.inside.book c.answer_alone-2.new.book c.self.invariant (fits_begin _ _ c.args.id there) taken.becomes
     (ap (λ (b : BookState). b.nodes) c.answer_alone-2.ensures.book ∙ ap (λ (b : BookState). b.nodes) c.note_begun.ensures) (ap (λ (b : BookState). b.slots) c.answer_alone-2.ensures.book ∙ ap (λ (b : BookState). b.slots) c.note_begun.ensures))

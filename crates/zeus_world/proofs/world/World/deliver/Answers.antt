@@ -114,9 +114,9 @@ invariant_of-self-2 c =
     let found = sym (c.in-Some.ensures ∙ ap (λ (L : List (List (List Letter))). nth_letter (link L c.args.from c.args.to) c.args.number) c.reserve-2.ensures.letters) in
     let fit = letter_fits w c.args.from c.args.to c.args.number _ (known _ _ c.self.invariant).ranged found in
     let taken =
-        (deliver_taken w c.args.from c.args.to c.args.number c.in-Some.letter.now _ c.receive.new.self c.receive.result c.receive.new.out.sent c.receive.new.out.passed c.self.inside.book c.settle.new.book c.reserve-2.new.self c.settle.new.links _ c.settle.new.report at found
-        (record { says = c.receive.ensures.answer; becomes = c.receive.ensures.after; sends = c.receive.ensures.sent; passes = c.receive.ensures.passed }) c.reserve-2.ensures.letters refl
-        (record { says = refl; points = c.clear.ensures.points; acked = c.clear.ensures.acked; sent = c.clear.ensures.sent }) c.settle.ensures) in
+    (deliver_taken w c.args.from c.args.to c.args.number c.in-Some.letter.now _ c.receive.new.self c.receive.result c.receive.new.out.sent c.receive.new.out.passed c.self.inside.book c.settle.new.book c.reserve-2.new.self c.settle.new.links _ c.settle.new.report at found
+    (record { says = c.receive.ensures.answer; becomes = c.receive.ensures.after; sends = c.receive.ensures.sent; passes = c.receive.ensures.passed }) c.reserve-2.ensures.letters refl
+    (record { says = refl; points = c.clear.ensures.points; acked = c.clear.ensures.acked; sent = c.clear.ensures.sent }) c.settle.ensures) in
     rw c.place.ensures
     (kept_after w _ _ c.self.inside.book c.settle.new.book c.self.invariant fits taken.becomes (ap (λ (b : BookState). b.nodes) c.settle.ensures.book) (ap (λ (b : BookState). b.slots) c.settle.ensures.book))
 
@@ -132,5 +132,5 @@ returns-clause-ok c =
     let fit = letter_fits w c.args.from c.args.to c.args.number _ (known _ _ c.self.invariant).ranged found in
     rw (← c.self.view_is, c.place.ensures)
     (deliver_taken w c.args.from c.args.to c.args.number c.in-Some.letter.now _ c.receive.new.self c.receive.result c.receive.new.out.sent c.receive.new.out.passed c.self.inside.book c.settle.new.book c.reserve-2.new.self c.settle.new.links _ c.settle.new.report at found
-        (record { says = c.receive.ensures.answer; becomes = c.receive.ensures.after; sends = c.receive.ensures.sent; passes = c.receive.ensures.passed }) c.reserve-2.ensures.letters refl
-        (record { says = refl; points = c.clear.ensures.points; acked = c.clear.ensures.acked; sent = c.clear.ensures.sent }) c.settle.ensures)
+    (record { says = c.receive.ensures.answer; becomes = c.receive.ensures.after; sends = c.receive.ensures.sent; passes = c.receive.ensures.passed }) c.reserve-2.ensures.letters refl
+    (record { says = refl; points = c.clear.ensures.points; acked = c.clear.ensures.acked; sent = c.clear.ensures.sent }) c.settle.ensures)

@@ -102,9 +102,9 @@ invariant_of-self-2 c =
     let first : 1 ≤ c.in-Some.view.epoch = rw c.in-Some.ensures.view places.first in
     let members : nodes_fit (limits_of c.self.inside.config.now) c.in-Some.view.members ≡ true = rw c.in-Some.ensures.view (ranged.members (c.args.epoch - 1)) in
     let taken =
-        (install_taken w c.args.at c.args.epoch c.in-Some.view _ c.install.new.self c.install.result c.install.new.out.sent c.install.new.out.passed c.self.inside.book c.settle.new.book c.reserve-2.new.self c.settle.new.links _ c.settle.new.report at less c.in-Some.ensures.view
-        (record { says = c.install.ensures.answer; becomes = c.install.ensures.after; sends = c.install.ensures.sent; passes = c.install.ensures.passed }) c.reserve-2.ensures.letters refl
-        (record { says = refl; points = c.clear.ensures.points; acked = c.clear.ensures.acked; sent = c.clear.ensures.sent }) c.settle.ensures) in
+    (install_taken w c.args.at c.args.epoch c.in-Some.view _ c.install.new.self c.install.result c.install.new.out.sent c.install.new.out.passed c.self.inside.book c.settle.new.book c.reserve-2.new.self c.settle.new.links _ c.settle.new.report at less c.in-Some.ensures.view
+    (record { says = c.install.ensures.answer; becomes = c.install.ensures.after; sends = c.install.ensures.sent; passes = c.install.ensures.passed }) c.reserve-2.ensures.letters refl
+    (record { says = refl; points = c.clear.ensures.points; acked = c.clear.ensures.acked; sent = c.clear.ensures.sent }) c.settle.ensures) in
     rw c.place.ensures
     (kept_after w _ _ c.self.inside.book c.settle.new.book c.self.invariant fits taken.becomes (ap (λ (b : BookState). b.nodes) c.settle.ensures.book) (ap (λ (b : BookState). b.slots) c.settle.ensures.book))
 
@@ -122,5 +122,5 @@ returns-clause-ok c =
     let members : nodes_fit (limits_of c.self.inside.config.now) c.in-Some.view.members ≡ true = rw c.in-Some.ensures.view (ranged.members (c.args.epoch - 1)) in
     rw (← c.self.view_is, c.place.ensures)
     (install_taken w c.args.at c.args.epoch c.in-Some.view _ c.install.new.self c.install.result c.install.new.out.sent c.install.new.out.passed c.self.inside.book c.settle.new.book c.reserve-2.new.self c.settle.new.links _ c.settle.new.report at less c.in-Some.ensures.view
-        (record { says = c.install.ensures.answer; becomes = c.install.ensures.after; sends = c.install.ensures.sent; passes = c.install.ensures.passed }) c.reserve-2.ensures.letters refl
-        (record { says = refl; points = c.clear.ensures.points; acked = c.clear.ensures.acked; sent = c.clear.ensures.sent }) c.settle.ensures)
+    (record { says = c.install.ensures.answer; becomes = c.install.ensures.after; sends = c.install.ensures.sent; passes = c.install.ensures.passed }) c.reserve-2.ensures.letters refl
+    (record { says = refl; points = c.clear.ensures.points; acked = c.clear.ensures.acked; sent = c.clear.ensures.sent }) c.settle.ensures)

@@ -50,9 +50,9 @@ invariant_of-self-2 c =
     let k = rw c.place.ensures at c.index_mut-node.ensures.value in
     let at = node_at w c.args.at _ (known _ _ c.self.invariant).ranged here k in
     let taken =
-        (tick_taken w c.args.at _ c.tick.new.self c.tick.result c.tick.new.out.sent c.tick.new.out.passed c.self.inside.book c.settle.new.book c.reserve-2.new.self c.settle.new.links _ c.settle.new.report at
-        (record { says = c.tick.ensures.answer; becomes = c.tick.ensures.after; sends = c.tick.ensures.sent; passes = c.tick.ensures.passed }) c.reserve-2.ensures.letters refl
-        (record { says = refl; points = c.clear.ensures.points; acked = c.clear.ensures.acked; sent = c.clear.ensures.sent }) c.settle.ensures) in
+    (tick_taken w c.args.at _ c.tick.new.self c.tick.result c.tick.new.out.sent c.tick.new.out.passed c.self.inside.book c.settle.new.book c.reserve-2.new.self c.settle.new.links _ c.settle.new.report at
+    (record { says = c.tick.ensures.answer; becomes = c.tick.ensures.after; sends = c.tick.ensures.sent; passes = c.tick.ensures.passed }) c.reserve-2.ensures.letters refl
+    (record { says = refl; points = c.clear.ensures.points; acked = c.clear.ensures.acked; sent = c.clear.ensures.sent }) c.settle.ensures) in
     rw c.place.ensures
     (kept_after w _ _ c.self.inside.book c.settle.new.book c.self.invariant fits taken.becomes (ap (λ (b : BookState). b.nodes) c.settle.ensures.book) (ap (λ (b : BookState). b.slots) c.settle.ensures.book))
 
@@ -65,5 +65,5 @@ returns-clause-ok c =
     let at = node_at w c.args.at _ (known _ _ c.self.invariant).ranged here k in
     rw (← c.self.view_is, c.place.ensures)
     (tick_taken w c.args.at _ c.tick.new.self c.tick.result c.tick.new.out.sent c.tick.new.out.passed c.self.inside.book c.settle.new.book c.reserve-2.new.self c.settle.new.links _ c.settle.new.report at
-        (record { says = c.tick.ensures.answer; becomes = c.tick.ensures.after; sends = c.tick.ensures.sent; passes = c.tick.ensures.passed }) c.reserve-2.ensures.letters refl
-        (record { says = refl; points = c.clear.ensures.points; acked = c.clear.ensures.acked; sent = c.clear.ensures.sent }) c.settle.ensures)
+    (record { says = c.tick.ensures.answer; becomes = c.tick.ensures.after; sends = c.tick.ensures.sent; passes = c.tick.ensures.passed }) c.reserve-2.ensures.letters refl
+    (record { says = refl; points = c.clear.ensures.points; acked = c.clear.ensures.acked; sent = c.clear.ensures.sent }) c.settle.ensures)
