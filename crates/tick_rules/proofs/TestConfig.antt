@@ -1,5 +1,5 @@
 -- What the tests start with: a configuration of two nodes and one object, its nodes, and a proposal at one of them.
-use Rattle.std.proofs.Common.{ℕ, ◌≡◌, ◌<◌, ◌≤◌, true, List, [], ◌∷◌, None, length, refl, sym, ap, ◌∙◌, arith}
+use Rattle.std.proofs.Common.{ℕ, ◌≡◌, ◌≤◌, true, [], ◌∷◌, None, length, refl, arith}
 use Rattle.std.proofs.lemmas.Bool.Decides.{nat_tests}
 use Rattle.std.proofs.lemmas.List.{length-map, length-replicate}
 use Rattle.std.specs.Prelude.{replicate}
@@ -14,7 +14,6 @@ use Rattle.zeus_base.specs.declared.config.Limits.{Limits}
 use Rattle.zeus_base.specs.declared.config.ObjectDecl.{ObjectDecl}
 use Rattle.zeus_base.specs.declared.value.Value.TheVariants.{Num}
 use Rattle.zeus_packet.specs.Fits.{proposal_fits, want_fits}
-use Rattle.zeus_packet.specs.declared.place.Proposal.{Proposal}
 use Rattle.zeus_packet.specs.declared.place.Want.TheVariants.{Own}
 use Rattle.zeus_model.specs.State.{no_log}
 use Rattle.zeus_model.specs.World.{start_entry, start_node}

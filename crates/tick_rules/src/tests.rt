@@ -76,9 +76,8 @@ fn says_again_that_it_has_reported(rt: HostRuntime) -> Result<(), Fail> {
     assert_eq!(rt; tick(&node, &mut out), Ticked::Ticked);
     assert_eq!(rt; out.sent.len(), 0);
     out.clear();
-    if node.node_count() == 2 {
-        node.report(NodeId(0));
-    }
+    let me = node.me();
+    node.report(me);
     assert_eq!(rt; tick(&node, &mut out), Ticked::Ticked);
     assert_eq!(rt; out.sent.len(), 1);
     let sent = out.sent.as_slice();
@@ -116,7 +115,11 @@ fn drives_a_held_proposal_again(rt: HostRuntime) -> Result<(), Fail> {
     assert_eq!(rt; tick(&node, &mut out), Ticked::Ticked);
     let sent = out.sent.as_slice();
     assert_eq!(rt; sent.len(), 2);
-    assert!(rt; matches!(sent.first(), Some(letter) if letter.to == NodeId(0) && matches!(&letter.body, Body::OInv(..))));
-    assert!(rt; matches!(sent.get(1), Some(letter) if letter.to == NodeId(1) && matches!(&letter.body, Body::OAck(_, _, None))));
+    assert!(rt;
+        matches!(sent.first(), Some(letter) if letter.to == NodeId(0) && matches!(&letter.body, Body::OInv(..)))
+    );
+    assert!(rt;
+        matches!(sent.get(1), Some(letter) if letter.to == NodeId(1) && matches!(&letter.body, Body::OAck(_, _, None)))
+    );
     Ok(())
 }
