@@ -3,7 +3,9 @@ pub mod Acts
 pub mod BookSteps
 pub mod Books
 pub mod Causes
+pub mod Driving
 pub mod Early
+pub mod LiveRuns
 pub mod Merging
 pub mod Mirrors
 pub mod Orders

@@ -105,11 +105,11 @@ begun-live n s id tx h = live n.stopped (Rattle.zeus_model.specs.Local.begin_fre
     live true d h = absurd cc
     live false d h = refl
 
-where_false : {A : Type 0} (b : Bool) (a : A) → b ≡ false → where_true b a ≡ None
+pub where_false : {A : Type 0} (b : Bool) (a : A) → b ≡ false → where_true b a ≡ None
 unfolding where_true
 where_false b a h = rw h refl
 
-three_none : {A : Type 0} (a b c : Option A) → a ≡ None → b ≡ None → c ≡ None → or_else a (or_else b c) ≡ None
+pub three_none : {A : Type 0} (a b c : Option A) → a ≡ None → b ≡ None → c ≡ None → or_else a (or_else b c) ≡ None
 unfolding or_else
 three_none a b c ha hb hc = rw (ha, hb, hc) refl
 
