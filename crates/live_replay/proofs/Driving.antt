@@ -1,25 +1,25 @@
 -- A drive goes on a live run by steps that a live run can have, and ends where all transactions are closed.
-use Rattle.std.specs.Prelude.{ℕ, zero, suc, ◌≡◌, ◌≢◌, ◌+◌, ◌-◌, ◌*◌, ◌<◌, ◌≤◌, Bool, true, false, ◌||◌, ◌&&◌, not, ◌==◌, nat_lt, List, [], ◌∷◌, ◌++◌, length, All, Option, Some, None, is_some, is_none, if◌then◌else◌, ◌⊎◌}
-use Rattle.std.proofs.Common.{arith, refl, sym, ap, ◌∙◌, inl, inr, subst, append_assoc, append-nil, eq-eqb}
-use Rattle.std.proofs.lemmas.Bool.{cases_eq, cases_Bool, cond_both, ltb-true, eqb-true, false_from_ne_true}
+use Rattle.std.specs.Prelude.{ℕ, zero, suc, ◌≡◌, ◌+◌, ◌*◌, ◌<◌, ◌≤◌, Bool, true, false, ◌||◌, ◌&&◌, not, ◌==◌, nat_lt, List, [], ◌∷◌, ◌++◌, length, Option, Some, None, is_some, is_none, if◌then◌else◌, ◌⊎◌}
+use Rattle.std.proofs.Common.{arith, refl, sym, ap, ◌∙◌, subst, append_assoc, append-nil, eq-eqb}
+use Rattle.std.proofs.lemmas.Bool.{cases_Bool, cond_both, ltb-true, eqb-true, false_from_ne_true}
 use Rattle.zeus_base.specs.Limits.{KeepsLimits}
 use Rattle.zeus_base.specs.Nodes.{has}
-use Rattle.zeus_base.specs.NodeLaws.{RisesFrom, RisesFrom-lower, IsRising, IsBelow, has-head, has-tail}
+use Rattle.zeus_base.specs.NodeLaws.{RisesFrom, RisesFrom-lower, has-head, has-tail}
 use Rattle.zeus_base.specs.declared.config.Config.{Config}
 use Rattle.zeus_base.specs.declared.step.Step.{Step}
 use Rattle.zeus_base.specs.declared.step.Step.TheVariants.{Begin, Try, Deliver, Tick, Stop, View, Install}
 use Rattle.zeus_packet.specs.declared.letter.Letter.{Letter}
 use Rattle.zeus_txn.specs.declared.tx.TxDecl.{TxDecl}
 use Rattle.zeus_model.specs.declared.answer.Answer.{Answer}
-use Rattle.zeus_model.specs.declared.answer.Answer.TheVariants.{Twice, Waits, NoView, Begin as BeginAnswer}
+use Rattle.zeus_model.specs.declared.answer.Answer.TheVariants.{Twice, Waits, Begin as BeginAnswer}
 use Rattle.zeus_model.specs.declared.answer.Begin.TheVariants.{Stopped}
 use Rattle.zeus_model.specs.declared.answer.Made.{Made}
 use Rattle.zeus_model.specs.Scripts.{FitTxs}
-use Rattle.zeus_model.specs.Tables.{below, numbers_from, or_else, where_true}
+use Rattle.zeus_model.specs.Tables.{below, numbers_from}
 use Rattle.zeus_model.specs.State.{slot}
 use Rattle.zeus_model.specs.Book.{record_of}
-use Rattle.zeus_model.specs.Readers.{is_live, live_among, is_acked, all_closed}
-use Rattle.zeus_model.specs.World.{World, Event, node, tx_decl, link, last_view, nth_letter, waits_for, begin_refused, begin_or_not, step_begin, tried_at, deliver_or_not, received_at, ticked_at, stopped_at, view_refused, view_or_not, step_install, installed_at, happens, stepped, run, start}
+use Rattle.zeus_model.specs.Readers.{is_live, live_among, all_closed}
+use Rattle.zeus_model.specs.World.{World, node, tx_decl, link, last_view, nth_letter, waits_for, begin_refused, begin_or_not, step_begin, tried_at, deliver_or_not, received_at, ticked_at, stopped_at, view_refused, view_or_not, step_install, installed_at, happens, stepped, run, start}
 use Rattle.machine_moves.specs.Fits.{StepFits}
 use Rattle.live_model.specs.Cell.{Kill, declared}
 use Rattle.live_model.specs.Cluster.{Plan}

@@ -6,6 +6,7 @@ pub mod Causes
 pub mod Driving
 pub mod Early
 pub mod LiveRuns
+pub mod MergedLive
 pub mod Merging
 pub mod Mirrors
 pub mod Orders

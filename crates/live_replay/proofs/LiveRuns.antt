@@ -1,7 +1,7 @@
 -- A live run with one more step, and what is known of the world that it leads to.
-use Rattle.std.specs.Prelude.{ℕ, zero, suc, ◌≡◌, ◌≢◌, ◌+◌, ◌-◌, ◌<◌, ◌≤◌, Bool, true, false, ◌||◌, ◌&&◌, ◌==◌, nat_lt, List, [], ◌∷◌, ◌++◌, length, All, Option, Some, None, if◌then◌else◌}
-use Rattle.std.proofs.Common.{arith, refl, sym, ap, ◌∙◌, inl, inr, subst, append_assoc, append-nil, length-append}
-use Rattle.std.proofs.lemmas.Bool.{cases_eq, cases_Bool, cond_both}
+use Rattle.std.specs.Prelude.{ℕ, ◌≡◌, ◌+◌, ◌<◌, ◌≤◌, Bool, true, false, ◌||◌, nat_lt, List, [], ◌∷◌, ◌++◌, length, All, Option, Some, None}
+use Rattle.std.proofs.Common.{arith, refl, sym, ap, ◌∙◌, inl, inr, subst, length-append}
+use Rattle.std.proofs.lemmas.Bool.{cases_eq, cond_both}
 use Rattle.std.proofs.lemmas.List.Elements.{All-nil, All-cons, All-head, All-tail}
 use Rattle.zeus_base.specs.Limits.{KeepsLimits}
 use Rattle.zeus_base.specs.NodeLaws.{IsRising, IsBelow}
@@ -16,9 +16,8 @@ use Rattle.zeus_model.specs.declared.answer.Made.{Made}
 use Rattle.zeus_model.specs.Scripts.{FitTxs}
 use Rattle.zeus_model.specs.State.{Node}
 use Rattle.zeus_model.specs.Tables.{put}
-use Rattle.zeus_model.specs.Local.{begin, try_slot}
+use Rattle.zeus_model.specs.Local.{try_slot}
 use Rattle.zeus_model.specs.Membership.{tick}
-use Rattle.zeus_model.specs.Receive.{receive}
 use Rattle.zeus_model.specs.World.{World, Event, no_node, node, tx_decl, link, last_view, begin_refused, begin_or_not, step_begin, tried_at, nth_letter, deliver_or_not, received_at, ticked_at, stopped_at, view_refused, view_or_not, step_install, installed_at, refuse_step, happens, stepped, run, start, start_node}
 use Rattle.machine_moves.specs.Fits.{StepFits}
 use Rattle.machine_moves.specs.Scene.{scene}
@@ -28,14 +27,12 @@ use Rattle.machine_moves.proofs.Receiving.{receive-answered}
 use Rattle.machine_moves.proofs.Steps.{IsUsual}
 use Rattle.machine_moves.proofs.Ticking.{tick-answered}
 use Rattle.machine_moves.proofs.Trying.{begin-answered, try_slot-answered}
-use Rattle.machine_moves.proofs.Within.{Keeps}
 use Rattle.soundness.proofs.Runs.{IsReached}
 use Rattle.live_model.specs.Cell.{Kill}
 use Rattle.live_model.specs.Cluster.{Plan}
 use Rattle.live_model.specs.Drive.{is_due, counts_as, count_of}
 use Rattle.live_replay.specs.LiveRun.{NoneMissed, is_stop, needs_stop, has_stop, StopsAtKill, IsLiveRun}
 use Rattle.live_replay.specs.Replayed.{IsMissed}
-use Rattle.live_replay.proofs.Mirrors.{Mirrors}
 use Rattle.live_replay.proofs.Reached.{step-reached}
 use Rattle.live_replay.proofs.Serving.{start-mirrors, start-node, last_view-more}
 

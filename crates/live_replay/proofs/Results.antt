@@ -33,10 +33,10 @@ use Rattle.live_replay.proofs.Turns.{order-mirrors, turn-answer, turn-acked, at-
 abbrev pub Split : Plan → Events → List Turn → List Turn → Type 0
 Split p es past future = past ++ future ≡ turns p.config es
 
-split-order : (p : Plan) (k : Cluster) (es : Events) (past future : List Turn) → IsLive p k es → Split p es past future → IsOrder p.config es (past ++ future)
+pub split-order : (p : Plan) (k : Cluster) (es : Events) (past future : List Turn) → IsLive p k es → Split p es past future → IsOrder p.config es (past ++ future)
 split-order p k es past future h is = subst (λ (ts : List Turn). IsOrder p.config es ts) (sym is) (turns-order p k es h.cluster)
 
-split-mirrors : (p : Plan) (k : Cluster) (es : Events) (past future : List Turn) → IsLive p k es → Split p es past future → Mirrors p.config p.txs past (world_after p past)
+pub split-mirrors : (p : Plan) (k : Cluster) (es : Events) (past future : List Turn) → IsLive p k es → Split p es past future → Mirrors p.config p.txs past (world_after p past)
 split-mirrors p k es past future h is =
     let txs = h.txs in order-mirrors p k es past future h.limits txs.each h.cluster (split-order p k es past future h is)
 
@@ -103,7 +103,7 @@ replay-hits p k es past t future h is missed = given-hits t p past (subst IsMiss
 
 -- ---- begins
 
-at-begin : (p : Plan) (k : Cluster) (es : Events) (past : List Turn) (n : ℕ) (e : CellEvent) (future : List Turn) → IsLive p k es → Split p es past (cell_turn n e ∷ future)
+pub at-begin : (p : Plan) (k : Cluster) (es : Events) (past : List Turn) (n : ℕ) (e : CellEvent) (future : List Turn) → IsLive p k es → Split p es past (cell_turn n e ∷ future)
     → AtCell p k es past n e future (world_after p past)
 at-begin p k es past n e future h is =
     let txs = h.txs in

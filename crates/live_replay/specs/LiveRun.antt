@@ -1,13 +1,13 @@
 -- What holds of the steps of a live run, of its cells and of its drive alike.
 use Rattle.std.specs.Prelude.{ℕ, ◌≡◌, ◌+◌, Bool, true, false, ◌||◌, List, [], ◌∷◌, All, Option}
 use Rattle.zeus_base.specs.declared.step.Step.{Step}
-use Rattle.zeus_base.specs.declared.step.Step.TheVariants.{Begin, Try, Deliver, Tick, Stop, View, Install}
+use Rattle.zeus_base.specs.declared.step.Step.TheVariants.{Stop, View, Install}
 use Rattle.zeus_txn.specs.declared.tx.TxDecl.{TxDecl}
-use Rattle.zeus_model.specs.World.{World, happens, stepped, start}
+use Rattle.zeus_model.specs.World.{World, happens, stepped, run, start}
 use Rattle.machine_moves.specs.Fits.{StepFits}
 use Rattle.live_model.specs.Cell.{Kill}
 use Rattle.live_model.specs.Cluster.{Plan}
-use Rattle.live_model.specs.Drive.{is_due, counts_as}
+use Rattle.live_model.specs.Drive.{Going, is_due, counts_as, count_of, drive}
 use Rattle.live_replay.specs.Replayed.{IsMissed}
 
 -- each step finds there what it needs
@@ -42,3 +42,7 @@ pub record IsLiveRun (p : Plan) (steps : List Step) : Type 0 where
   pub fit : All (StepFits p.config p.txs) steps
   pub found : NoneMissed (start p.config p.txs) steps
   pub stops : StopsAtKill p.kill p.txs 0 false steps
+
+-- the drive behind the steps of a run
+abbrev pub driven : Plan → List Step → ℕ → Going
+driven p before rounds = drive (run (start p.config p.txs) before) rounds p.kill (count_of p.kill p.txs before)

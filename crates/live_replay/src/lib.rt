@@ -2,6 +2,11 @@
 #![tactic(auto)]
 
 ghost use Rattle.std.specs.Prelude.{All, IfSome, List, map, is_some, true, ℕ, ◌<◌, ◌≡◌, ◌++◌, ◌∷◌};
+ghost use Rattle.zeus_base.specs.Limits.{KeepsLimits};
+ghost use Rattle.zeus_base.specs.declared.step.Step.{Step};
+ghost use Rattle.zeus_model.specs.Readers.{all_closed};
+ghost use Rattle.zeus_model.specs.Scripts.{FitsTxs};
+ghost use Rattle.live_replay.specs.LiveRun.{IsLiveRun, driven};
 ghost use Rattle.zeus_model.specs.Book.{record_of};
 ghost use Rattle.zeus_model.specs.Sound.{Sound};
 ghost use Rattle.zeus_model.specs.World.{happens, link, node, run, start};
@@ -71,4 +76,22 @@ pub fn merged_journals_are_a_run()
     // The answers that a client took are the front of those that its cell's events give it.
     ensures client_answers { (p : Plan) (k : Cluster) (es : Events) (id : ClientId) → IsLive p k es → IsThere p.config id
         → IsFront (k.clients id).answers (answers id.node p.config p.txs id.slot (es.cells id.node)) }
+{}
+
+/// A live run is one that its cells have made, and then its drive.
+///
+/// `IsLiveRun` says that each step fits, that none finds a transaction begun or waiting, a packet or a view missing, that with a
+/// kill the node's step of the kill's number is its stop, that no other step is a stop, and that views and installs stand behind it.
+pub fn drives_go_on_live_runs()
+    // The steps of merged journals are those of a live run.
+    ensures merged { (p : Plan) (k : Cluster) (es : Events) → IsLive p k es → IsLiveRun p (merged p.config k) }
+    // With the steps of a drive behind it a live run is still one.
+    ensures driven { (p : Plan) (before : List Step) (rounds : ℕ) → KeepsLimits p.config → FitsTxs p.config p.txs → IsLiveRun p before
+        → IsLiveRun p (before ++ (driven p before rounds).steps) }
+    // The steps lead to the drive's world.
+    ensures world { (p : Plan) (before : List Step) (rounds : ℕ) → KeepsLimits p.config → FitsTxs p.config p.txs → IsLiveRun p before
+        → (driven p before rounds).world ≡ run (start p.config p.txs) (before ++ (driven p before rounds).steps) }
+    // It has ended before its last round only where all transactions are closed.
+    ensures ended { (p : Plan) (before : List Step) (rounds : ℕ) → KeepsLimits p.config → FitsTxs p.config p.txs → IsLiveRun p before
+        → (driven p before rounds).over ≡ true → all_closed (driven p before rounds).world ≡ true }
 {}
