@@ -83,7 +83,7 @@ step-node (Stop m) p n within fits is = subst (λ (x : ℕ). x < p.config.nodes)
 step-node (View set) p n within fits is = absurd cc
 step-node (Install m e) p n within fits is = subst (λ (x : ℕ). x < p.config.nodes) (eqb-true m n is) fits.0
 
-both_parts : (a b : Bool) → (a && b) ≡ true → (a ≡ true) × (b ≡ true)
+pub both_parts : (a b : Bool) → (a && b) ≡ true → (a ≡ true) × (b ≡ true)
 both_parts true true h = (refl, refl)
 both_parts true false h = absurd cc
 both_parts false b h = absurd cc
@@ -191,7 +191,7 @@ deliver-may p w stopped sender receiver i s r less =
     let l = nth_letter-there (link w.links sender receiver) i less in
     record { fits = (s, r); no_stop = refl; found = deliver-found (nth_letter (link w.links sender receiver) i) w sender receiver l.0 l.1; behind = λ needs. absurd cc }
 
-not_false : (b : Bool) → not b ≡ true → b ≡ false
+pub not_false : (b : Bool) → not b ≡ true → b ≡ false
 not_false true h = absurd cc
 not_false false h = refl
 
@@ -213,7 +213,7 @@ unfolding begin_or_not IsMissed
 begin-found None w k is missed = missed
 begin-found (Some a) w k is missed = absurd cc
 
-can_begin-free : (w : World) (k : ℕ) → can_begin w k ≡ true → begin_refused w k ≡ None
+pub can_begin-free : (w : World) (k : ℕ) → can_begin w k ≡ true → begin_refused w k ≡ None
 unfolding can_begin begin_refused
 can_begin-free w k h =
     let a = both_parts _ _ h in

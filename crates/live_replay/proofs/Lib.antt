@@ -1,6 +1,7 @@
 pub mod Acks
 pub mod Acts
 pub mod BookSteps
+pub mod Begun
 pub mod Books
 pub mod Causes
 pub mod Driving
