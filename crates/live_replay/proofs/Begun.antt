@@ -1,7 +1,7 @@
 -- What was begun stays begun, whatever the step.
-use Rattle.std.specs.Prelude.{ℕ, zero, suc, ◌≡◌, ◌≢◌, ◌+◌, ◌-◌, ◌<◌, ◌≤◌, ◌==◌, Bool, true, false, nat_lt, List, [], ◌∷◌, ◌++◌, length, Option, Some, None, is_some, is_none, if◌then◌else◌}
-use Rattle.std.proofs.Common.{arith, refl, sym, ap, ◌∙◌, inl, inr, subst}
-use Rattle.std.proofs.lemmas.Bool.{cases_eq, cases_Bool, cond_both}
+use Rattle.std.specs.Prelude.{ℕ, zero, suc, ◌≡◌, ◌+◌, ◌-◌, ◌<◌, ◌≤◌, ◌==◌, Bool, true, false, nat_lt, List, [], ◌∷◌, length, Option, Some, None, is_some, is_none, if◌then◌else◌}
+use Rattle.std.proofs.Common.{arith, refl, ap, inl, inr, subst}
+use Rattle.std.proofs.lemmas.Bool.{cases_eq, cond_both}
 use Rattle.zeus_base.specs.declared.order.Stream.{Stream}
 use Rattle.zeus_base.specs.declared.step.Passed.{Passed}
 use Rattle.zeus_base.specs.declared.step.Step.{Step}
@@ -16,10 +16,9 @@ use Rattle.zeus_model.specs.declared.answer.Made.{Made}
 use Rattle.zeus_model.specs.declared.answer.Tried.{Tried}
 use Rattle.zeus_model.specs.declared.answer.Tried.TheVariants.{NoCopy, Read, Committed}
 use Rattle.zeus_model.specs.State.{Node, slot}
-use Rattle.zeus_model.specs.Tables.{nth, put, below, numbers_from}
+use Rattle.zeus_model.specs.Tables.{nth, put, numbers_from}
 use Rattle.zeus_model.specs.Local.{begin, begin_free, try_slot}
-use Rattle.zeus_model.specs.Membership.{install}
-use Rattle.zeus_model.specs.Book.{Book, BookChange, TxRecord, no_record, record_of, unchanged, changed, tx_of, point_once, ack_once, pass_tx, pass_numbers, book_passes, book_tried, book_begin, book_point, book_ack, book_reply, book_read, book_refuse, in_stream_order}
+use Rattle.zeus_model.specs.Book.{Book, TxRecord, no_record, record_of, unchanged, changed, tx_of, point_once, ack_once, pass_tx, pass_numbers, book_passes, book_tried, book_point, book_reply, book_read, book_refuse, in_stream_order}
 use Rattle.zeus_model.specs.World.{World, Event, node, tx_decl, link, nth_letter, begin_refused, begin_or_not, step_begin, tried_at, deliver_or_not, received_at, ticked_at, stopped_at, view_refused, view_or_not, step_install, installed_at, refuse_step, book_begun, happens, stepped}
 use Rattle.machine_moves.proofs.Lists.{nth-put_same, nth-put_other}
 use Rattle.live_model.specs.Drive.{can_begin}

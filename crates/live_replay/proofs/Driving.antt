@@ -313,27 +313,27 @@ install-may p w stopped n k there live older =
 -- ---- a round
 
 module _ (p : Plan) (before : List Step) (within : IsWithin p) where
-  view_item-going : (g : Going) → IsGoing p before g → IsGoing p before (view_item p.kill g)
+  pub view_item-going : (g : Going) → IsGoing p before g → IsGoing p before (view_item p.kill g)
   view_item-going g h =
       let last = last_view g.world.views in
       offer_where-going (nat_lt (length (live_among g.world last)) (length last)) p before g (View (live_among g.world last)) within h
       (λ fewer. view-may p g.world (has_stop (before ++ g.steps)) (going-known p before g within h) (ltb-true (length (live_among g.world last)) (length last) fewer))
 
-  install_item-going : (g : Going) (n : ℕ) → n < p.config.nodes → IsGoing p before g → IsGoing p before (install_item p.kill g n)
+  pub install_item-going : (g : Going) (n : ℕ) → n < p.config.nodes → IsGoing p before g → IsGoing p before (install_item p.kill g n)
   install_item-going g n there h =
       offer_where-going (is_live g.world n && nat_lt (node g.world n).epoch (length g.world.views)) p before g (Install n (length g.world.views)) within h
       (λ test. let parts = both_parts (is_live g.world n) (nat_lt (node g.world n).epoch (length g.world.views)) test in
       install-may p g.world (has_stop (before ++ g.steps)) n (going-known p before g within h) there parts.0 (ltb-true (node g.world n).epoch (length g.world.views) parts.1))
 
-  begin_item-going : (g : Going) (k : ℕ) → k < length p.txs → IsGoing p before g → IsGoing p before (begin_item p.kill g k)
+  pub begin_item-going : (g : Going) (k : ℕ) → k < length p.txs → IsGoing p before g → IsGoing p before (begin_item p.kill g k)
   begin_item-going g k less h =
       offer_where-going (can_begin g.world k) p before g (Begin k) within h (λ can. begin-may p g.world (has_stop (before ++ g.steps)) k less can)
 
-  try_item-going : (n : ℕ) → n < p.config.nodes → (g : Going) (s : ℕ) → s < p.config.slots → IsGoing p before g → IsGoing p before (try_item p.kill n g s)
+  pub try_item-going : (n : ℕ) → n < p.config.nodes → (g : Going) (s : ℕ) → s < p.config.slots → IsGoing p before g → IsGoing p before (try_item p.kill n g s)
   try_item-going n there g s less h =
       offer_where-going (is_live g.world n && is_some (slot (node g.world n) s).current) p before g (Try n s) within h (λ test. try-may p g.world (has_stop (before ++ g.steps)) n s there less)
 
-  tick_item-going : (g : Going) (n : ℕ) → n < p.config.nodes → IsGoing p before g → IsGoing p before (tick_item p.kill g n)
+  pub tick_item-going : (g : Going) (n : ℕ) → n < p.config.nodes → IsGoing p before g → IsGoing p before (tick_item p.kill g n)
   tick_item-going g n there h = offer_where-going (is_live g.world n) p before g (Tick n) within h (λ test. tick-may p g.world (has_stop (before ++ g.steps)) n there)
 
   with_next-going : (g after : Going) (sender receiver : ℕ) (due : Bool) → IsGoing p before after → IsGoing p before (with_next g after sender receiver due)
@@ -342,7 +342,7 @@ module _ (p : Plan) (before : List Step) (within : IsWithin p) where
       cond_both (not due && nat_lt (length g.steps) (length after.steps)) (record after { next = next_after g.next sender receiver }) after (λ (x : Going). IsGoing p before x)
       (λ _. record { world = h.world; live = h.live; count = h.count; ended = h.ended }) (λ _. h)
 
-  delivery_item-going : (sender receiver : ℕ) → sender < p.config.nodes → receiver < p.config.nodes → (g : Going) (turn : ℕ) → turn < 16 → IsGoing p before g → IsGoing p before (delivery_item p.kill sender receiver g turn)
+  pub delivery_item-going : (sender receiver : ℕ) → sender < p.config.nodes → receiver < p.config.nodes → (g : Going) (turn : ℕ) → turn < 16 → IsGoing p before g → IsGoing p before (delivery_item p.kill sender receiver g turn)
   unfolding delivery_item
   delivery_item-going sender receiver s r g turn less h =
       let test = is_live g.world sender && is_live g.world receiver && nat_lt (next_of g.next sender receiver) (length (link g.world.links sender receiver)) in
@@ -355,28 +355,28 @@ module _ (p : Plan) (before : List Step) (within : IsWithin p) where
       (λ _. h)
 
   -- all numbers below what the world's configuration says
-  all_below : (bound : ℕ) (item : Going → ℕ → Going) → ((g : Going) (n : ℕ) → n < bound → IsGoing p before g → IsGoing p before (item g n)) → (count : ℕ) → count ≡ bound
+  pub all_below : (bound : ℕ) (item : Going → ℕ → Going) → ((g : Going) (n : ℕ) → n < bound → IsGoing p before g → IsGoing p before (item g n)) → (count : ℕ) → count ≡ bound
       → (g : Going) → IsGoing p before g → IsGoing p before (each_number item g (below count))
   all_below bound item keeps count same g h = each_number-going p before bound item keeps 0 count (omega arith) g h
 
-  nodes_of : (g : Going) → IsGoing p before g → g.world.config.nodes ≡ p.config.nodes
+  pub nodes_of : (g : Going) → IsGoing p before g → g.world.config.nodes ≡ p.config.nodes
   nodes_of g h = let k = going-known p before g within h in ap (λ (c : Config). c.nodes) k.config
 
-  tries_of-going : (g : Going) (n : ℕ) → n < p.config.nodes → IsGoing p before g → IsGoing p before (tries_of p.kill g n)
+  pub tries_of-going : (g : Going) (n : ℕ) → n < p.config.nodes → IsGoing p before g → IsGoing p before (tries_of p.kill g n)
   tries_of-going g n there h =
       let k = going-known p before g within h in
       all_below p.config.slots (try_item p.kill n) (try_item-going n there) g.world.config.slots (ap (λ (c : Config). c.slots) k.config) g h
 
-  deliveries_between-going : (sender : ℕ) → sender < p.config.nodes → (g : Going) (receiver : ℕ) → receiver < p.config.nodes → IsGoing p before g → IsGoing p before (deliveries_between p.kill sender g receiver)
+  pub deliveries_between-going : (sender : ℕ) → sender < p.config.nodes → (g : Going) (receiver : ℕ) → receiver < p.config.nodes → IsGoing p before g → IsGoing p before (deliveries_between p.kill sender g receiver)
   deliveries_between-going sender s g receiver r h = all_below 16 (delivery_item p.kill sender receiver) (delivery_item-going sender receiver s r) 16 refl g h
 
-  deliveries_from-going : (g : Going) (sender : ℕ) → sender < p.config.nodes → IsGoing p before g → IsGoing p before (deliveries_from p.kill g sender)
+  pub deliveries_from-going : (g : Going) (sender : ℕ) → sender < p.config.nodes → IsGoing p before g → IsGoing p before (deliveries_from p.kill g sender)
   deliveries_from-going g sender s h = all_below p.config.nodes (deliveries_between p.kill sender) (deliveries_between-going sender s) g.world.config.nodes (nodes_of g h) g h
 
-  views_and_installs-going : (g : Going) → IsGoing p before g → IsGoing p before (views_and_installs p.kill g)
+  pub views_and_installs-going : (g : Going) → IsGoing p before g → IsGoing p before (views_and_installs p.kill g)
   views_and_installs-going g h = all_below p.config.nodes (install_item p.kill) install_item-going g.world.config.nodes (nodes_of g h) (view_item p.kill g) (view_item-going g h)
 
-  begins_and_tries-going : (g : Going) → IsGoing p before g → IsGoing p before (begins_and_tries p.kill g)
+  pub begins_and_tries-going : (g : Going) → IsGoing p before g → IsGoing p before (begins_and_tries p.kill g)
   begins_and_tries-going g h =
       let k = going-known p before g within h in
       let begun = all_below (length p.txs) (begin_item p.kill) begin_item-going (length g.world.txs) (ap (λ (ts : List TxDecl). length ts) k.declared) g h in
@@ -387,7 +387,7 @@ module _ (p : Plan) (before : List Step) (within : IsWithin p) where
       let delivered = all_below p.config.nodes (deliveries_from p.kill) deliveries_from-going g.world.config.nodes (nodes_of g h) g h in
       all_below p.config.nodes (tick_item p.kill) tick_item-going g.world.config.nodes (nodes_of g h) (each_number (deliveries_from p.kill) g (all_nodes g)) delivered
 
-  round-going : (g : Going) → IsGoing p before g → IsGoing p before (round p.kill g)
+  pub round-going : (g : Going) → IsGoing p before g → IsGoing p before (round p.kill g)
   unfolding round
   round-going g h =
       let first = views_and_installs-going g h in
@@ -399,15 +399,19 @@ module _ (p : Plan) (before : List Step) (within : IsWithin p) where
   rounds-going zero g h = h
   rounds-going (suc n) g h = rounds-going n (round p.kill g) (round-going g h)
 
--- a drive behind a live run
-pub drive-going : (p : Plan) (before : List Step) (rounds : ℕ) → IsWithin p → IsLiveRun p before
-    → IsGoing p before (drive (run (start p.config p.txs) before) rounds p.kill (count_of p.kill p.txs before))
-unfolding drive
-drive-going p before rounds within live =
-    rounds-going p before within (20 * rounds) (drive_start (run (start p.config p.txs) before) (count_of p.kill p.txs before))
+-- where a drive begins
+pub start-going : (p : Plan) (before : List Step) → IsLiveRun p before → IsGoing p before (drive_start (run (start p.config p.txs) before) (count_of p.kill p.txs before))
+start-going p before live =
     record {
       world = ap (λ (xs : List Step). run (start p.config p.txs) xs) (sym (append-nil before));
       live = subst (λ (xs : List Step). IsLiveRun p xs) (sym (append-nil before)) live;
       count = ap (λ (xs : List Step). count_of p.kill p.txs xs) (sym (append-nil before));
       ended = λ over. absurd cc;
     }
+
+-- a drive behind a live run
+pub drive-going : (p : Plan) (before : List Step) (rounds : ℕ) → IsWithin p → IsLiveRun p before
+    → IsGoing p before (drive (run (start p.config p.txs) before) rounds p.kill (count_of p.kill p.txs before))
+unfolding drive
+drive-going p before rounds within live =
+    rounds-going p before within (20 * rounds) (drive_start (run (start p.config p.txs) before) (count_of p.kill p.txs before)) (start-going p before live)

@@ -4,6 +4,7 @@ pub mod BookSteps
 pub mod Begun
 pub mod Books
 pub mod Causes
+pub mod Costs
 pub mod Driving
 pub mod Early
 pub mod LiveRuns

@@ -1,5 +1,6 @@
 -- What holds of the steps of a live run, of its cells and of its drive alike.
-use Rattle.std.specs.Prelude.{ℕ, ◌≡◌, ◌+◌, Bool, true, false, ◌||◌, List, [], ◌∷◌, All, Option}
+use Rattle.std.specs.Prelude.{ℕ, ◌≡◌, ◌+◌, ◌*◌, Bool, true, false, ◌||◌, List, [], ◌∷◌, All, Option}
+use Rattle.zeus_base.specs.declared.config.Config.{Config}
 use Rattle.zeus_base.specs.declared.step.Step.{Step}
 use Rattle.zeus_base.specs.declared.step.Step.TheVariants.{Stop, View, Install}
 use Rattle.zeus_txn.specs.declared.tx.TxDecl.{TxDecl}
@@ -46,3 +47,7 @@ pub record IsLiveRun (p : Plan) (steps : List Step) : Type 0 where
 -- the drive behind the steps of a run
 abbrev pub driven : Plan → List Step → ℕ → Going
 driven p before rounds = drive (run (start p.config p.txs) before) rounds p.kill (count_of p.kill p.txs before)
+
+-- how many steps a round of a drive has at most, begins aside
+unfoldable pub per_round : Config → ℕ
+per_round c = 1 + c.nodes + c.nodes * c.slots + c.nodes * (c.nodes * 16) + c.nodes
