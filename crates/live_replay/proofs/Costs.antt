@@ -1,7 +1,7 @@
 -- How many steps a drive makes at most: some for each round, one for each transaction that is begun, and the stop.
 use Rattle.std.specs.Prelude.{ℕ, zero, suc, ◌≡◌, ◌+◌, ◌*◌, ◌<◌, ◌≤◌, Bool, true, false, ◌&&◌, not, nat_lt, List, [], ◌∷◌, ◌++◌, length, Option, Some, None, is_some, if◌then◌else◌}
 use Rattle.std.proofs.Common.{arith, refl, sym, ap, inl, inr, subst, length-append, eq-eqb}
-use Rattle.std.proofs.Math.Nat.{suc-mul, mul-one}
+use Rattle.std.proofs.Math.Nat.{suc-mul, mul-one, mul-le-mul}
 use Rattle.std.proofs.lemmas.Bool.{cond_both, cases_Bool, eqb-true, ltb-true, ltb-false, false_from_ne_true}
 use Rattle.zeus_base.specs.declared.config.Config.{Config}
 use Rattle.zeus_base.specs.declared.step.Step.{Step}
@@ -243,4 +243,30 @@ drive-few p before rounds within live =
     let unbegun_at = unbegun-most (below (length p.txs)) g.world.book in
     let counted = count-below 0 (length p.txs) in
     let stops = stop_left-most p.kill g.count in
+    omega arith
+
+-- ---- numbers
+
+product-most : (a b c d : ℕ) → a ≤ c → b ≤ d → a * b ≤ c * d
+product-most a b c d h g = mul-le-mul h g
+
+per_round-most : (c : Config) → c.nodes ≤ 8 → c.slots ≤ 8 → per_round c ≤ 1105
+unfolding per_round
+per_round-most c n s =
+    let a : c.nodes * c.slots ≤ 8 * 8 = product-most c.nodes c.slots 8 8 n s in
+    let b : c.nodes * (c.nodes * 16) ≤ 8 * 128 = product-most c.nodes (c.nodes * 16) 8 128 n (omega arith) in
+    omega arith
+
+-- a live run with its drive stays within what the world can count
+pub drive-bound : (p : Plan) (before : List Step) (rounds : ℕ) → IsWithin p → IsLiveRun p before → rounds ≤ 1000 → length p.txs ≤ 1000 → length before ≤ 40000100
+    → length (before ++ (driven p before rounds).steps) < 67000000
+drive-bound p before rounds within live few txs long =
+    let steps = (driven p before rounds).steps in
+    let h = drive-few p before rounds within live in
+    let limits = within.limits in
+    let nodes = limits.nodes in
+    let slots = limits.slots in
+    let round = per_round-most p.config nodes.1 slots.1 in
+    let all : 20 * rounds * per_round p.config ≤ 20000 * 1105 = product-most (20 * rounds) (per_round p.config) 20000 1105 (omega arith) round in
+    let sum : length (before ++ steps) ≡ length before + length steps = length-append before steps in
     omega arith

@@ -1,12 +1,12 @@
 //! The journals of cells that keep their rules merge to one run of the machine, with the same answers.
 #![tactic(auto)]
 
-ghost use Rattle.std.specs.Prelude.{All, IfSome, List, map, is_some, true, ℕ, ◌<◌, ◌≡◌, ◌++◌, ◌∷◌};
+ghost use Rattle.std.specs.Prelude.{All, IfSome, List, length, map, is_some, true, ℕ, ◌<◌, ◌≤◌, ◌≡◌, ◌+◌, ◌*◌, ◌++◌, ◌∷◌};
 ghost use Rattle.zeus_base.specs.Limits.{KeepsLimits};
 ghost use Rattle.zeus_base.specs.declared.step.Step.{Step};
 ghost use Rattle.zeus_model.specs.Readers.{all_closed};
 ghost use Rattle.zeus_model.specs.Scripts.{FitsTxs};
-ghost use Rattle.live_replay.specs.LiveRun.{IsLiveRun, driven};
+ghost use Rattle.live_replay.specs.LiveRun.{IsLiveRun, driven, per_round};
 ghost use Rattle.zeus_model.specs.Book.{record_of};
 ghost use Rattle.zeus_model.specs.Sound.{Sound};
 ghost use Rattle.zeus_model.specs.World.{happens, link, node, run, start};
@@ -94,4 +94,10 @@ pub fn drives_go_on_live_runs()
     // It has ended before its last round only where all transactions are closed.
     ensures ended { (p : Plan) (before : List Step) (rounds : ℕ) → KeepsLimits p.config → FitsTxs p.config p.txs → IsLiveRun p before
         → (driven p before rounds).over ≡ true → all_closed (driven p before rounds).world ≡ true }
+    // It makes at most so many steps a round, and beside these one for each transaction that it begins, and the stop.
+    ensures few { (p : Plan) (before : List Step) (rounds : ℕ) → KeepsLimits p.config → FitsTxs p.config p.txs → IsLiveRun p before
+        → length (driven p before rounds).steps ≤ 20 * rounds * per_round p.config + length p.txs + 1 }
+    // So a live run with its drive stays within what a world can count.
+    ensures bound { (p : Plan) (before : List Step) (rounds : ℕ) → KeepsLimits p.config → FitsTxs p.config p.txs → IsLiveRun p before
+        → rounds ≤ 1000 → length p.txs ≤ 1000 → length before ≤ 40000100 → length (before ++ (driven p before rounds).steps) < 67000000 }
 {}
