@@ -4,6 +4,7 @@ pub mod BookSteps
 pub mod Begun
 pub mod Books
 pub mod Causes
+pub mod Closings
 pub mod Costs
 pub mod Driving
 pub mod Early

@@ -40,7 +40,7 @@ pub split-mirrors : (p : Plan) (k : Cluster) (es : Events) (past future : List T
 split-mirrors p k es past future h is =
     let txs = h.txs in order-mirrors p k es past future h.limits txs.each h.cluster (split-order p k es past future h is)
 
-whole-mirrors : (p : Plan) (k : Cluster) (es : Events) → IsLive p k es → Mirrors p.config p.txs (turns p.config es) (run (start p.config p.txs) (merged p.config k))
+pub whole-mirrors : (p : Plan) (k : Cluster) (es : Events) → IsLive p k es → Mirrors p.config p.txs (turns p.config es) (run (start p.config p.txs) (merged p.config k))
 whole-mirrors p k es h =
     rw (merged-turns p k es h.cluster) (split-mirrors p k es (turns p.config es) [] h (append-nil (turns p.config es)))
 
