@@ -8,6 +8,7 @@ pub mod Closings
 pub mod Costs
 pub mod Driving
 pub mod Early
+pub mod Lengths
 pub mod LiveRuns
 pub mod MergedLive
 pub mod Merging

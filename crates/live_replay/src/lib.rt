@@ -4,8 +4,9 @@
 ghost use Rattle.std.specs.Prelude.{All, IfSome, List, length, map, is_some, true, ℕ, ◌<◌, ◌≤◌, ◌≡◌, ◌+◌, ◌*◌, ◌++◌, ◌∷◌};
 ghost use Rattle.zeus_base.specs.Limits.{KeepsLimits};
 ghost use Rattle.zeus_base.specs.declared.step.Step.{Step};
-ghost use Rattle.zeus_model.specs.Readers.{all_closed};
+ghost use Rattle.zeus_model.specs.Readers.{all_closed, is_closed};
 ghost use Rattle.zeus_model.specs.Scripts.{FitsTxs};
+ghost use Rattle.live_replay.specs.Closed.{all_closed_at_home, closed_at_home};
 ghost use Rattle.live_replay.specs.LiveRun.{IsLiveRun, driven, per_round};
 ghost use Rattle.zeus_model.specs.Book.{record_of};
 ghost use Rattle.zeus_model.specs.Sound.{Sound};
@@ -37,6 +38,8 @@ pub fn merged_journals_are_a_run()
     ensures clocks { (p : Plan) (k : Cluster) (es : Events) → IsLive p k es → Rises turn_clock (turns p.config es) }
     // Each step fits the configuration and its transactions.
     ensures fit { (p : Plan) (k : Cluster) (es : Events) → IsLive p k es → All (StepFits p.config p.txs) (merged p.config k) }
+    // There are at most 5,000,000 for each node, and one for each that stopped.
+    ensures few { (p : Plan) (k : Cluster) (es : Events) → IsLive p k es → length (merged p.config k) ≤ 40000100 }
 
     // Each step has the answer that its cell, or the service, gave.
     ensures answers { (p : Plan) (k : Cluster) (es : Events) (past : List Turn) (t : Turn) (future : List Turn) → IsLive p k es → past ++ t ∷ future ≡ turns p.config es
@@ -70,6 +73,11 @@ pub fn merged_journals_are_a_run()
     // A transaction is begun, entered, acknowledged and refused just where the book of its node's cell says so, with its reply.
     ensures books { (p : Plan) (k : Cluster) (es : Events) (n id : ℕ) → IsLive p k es → n < p.config.nodes → (declared p.txs id).node ≡ n
         → SameStory (record_of (run (start p.config p.txs) (merged p.config k)).book id) (record_of ((k.cells n).core).book id) }
+    // So a transaction is closed there just where the cells have it closed, and all are just where all are.
+    ensures closed { (p : Plan) (k : Cluster) (es : Events) (id : ℕ) → IsLive p k es
+        → is_closed (run (start p.config p.txs) (merged p.config k)) id ≡ closed_at_home p k id }
+    ensures all_closed { (p : Plan) (k : Cluster) (es : Events) → IsLive p k es
+        → all_closed (run (start p.config p.txs) (merged p.config k)) ≡ all_closed_at_home p k }
 
     // The jobs that a client handed over are those begun at its slot, and then those that are still in the ring.
     ensures jobs { (p : Plan) (k : Cluster) (es : Events) (id : ClientId) → IsLive p k es → IsThere p.config id → IsFront (jobs p.txs id.slot (es.cells id.node)) (k.clients id).jobs }
