@@ -1,5 +1,5 @@
 -- Two events at one clock: the one of the lesser node comes first, and the service behind all nodes.
-use Rattle.std.specs.Prelude.{ℕ, zero, suc, ◌≡◌, List, [], ◌∷◌}
+use Rattle.std.specs.Prelude.{None, ℕ, zero, suc, ◌≡◌, List, [], ◌∷◌}
 use Rattle.std.proofs.Common.{refl}
 use Rattle.zeus_base.specs.declared.step.Step.TheVariants.{Tick, Stop, View}
 use Rattle.worked_runs.proofs.Machine.{machine}
@@ -14,7 +14,7 @@ use Rattle.live_model.proofs.Whole.{cell_of, service_of}
 use Rattle.live_model.proofs.WriteHereReadThere.{two_nodes, at_clock}
 
 abbrev plan : Plan
-plan = record { config = two_nodes; txs = []; kill = Rattle.std.specs.Prelude.None }
+plan = record { config = two_nodes; txs = []; kill = None }
 
 unfoldable events_of : ℕ → List CellEvent
 events_of zero = at_clock 1 Ticked ∷ at_clock 2 Ticked ∷ []

@@ -76,7 +76,7 @@ due-left : (kill : Option Kill) (txs : List TxDecl) (count : ℕ) (s : Step) →
 unfolding is_due stop_left counts_as stop_of is_step_of
 due-left None txs count s due = absurd cc
 due-left (Some k) txs count s due =
-    let parts = both_parts _ _ due in
+    let parts = both_parts (is_step_of txs k.node s) (count == k.event) due in
     let at : count ≡ k.event = eqb-true count k.event parts.1 in
     let now : nat_lt k.event count ≡ false = false_from_ne_true (nat_lt k.event count) (λ less. let h : k.event < count = ltb-true k.event count less in absurd (omega arith)) in
     rw (now, eq-eqb k.node k.node refl) (then-none k.event count at)

@@ -15,7 +15,7 @@ use Rattle.zeus_model.specs.declared.answer.Answer.TheVariants.{NoPacket}
 use Rattle.zeus_model.specs.declared.answer.Made.{Made}
 use Rattle.zeus_model.specs.Scripts.{FitTxs}
 use Rattle.zeus_model.specs.State.{Node}
-use Rattle.zeus_model.specs.Tables.{put}
+use Rattle.zeus_model.specs.Tables.{nth, put}
 use Rattle.zeus_model.specs.Local.{try_slot}
 use Rattle.zeus_model.specs.Membership.{tick}
 use Rattle.zeus_model.specs.World.{World, Event, no_node, node, tx_decl, link, last_view, begin_refused, begin_or_not, step_begin, tried_at, nth_letter, deliver_or_not, received_at, ticked_at, stopped_at, view_refused, view_or_not, step_install, installed_at, refuse_step, happens, stepped, run, start, start_node}
@@ -110,7 +110,7 @@ pub record Quiet (w after : World) : Type 0 where
 quiet-refused : (w : World) (a : Answer) → Quiet w (refuse_step w a).world
 quiet-refused w a = record { config = refl; declared = refl; views = refl; stopped = λ n. refl }
 
-stopped-put : (w : World) (n k : ℕ) (m : Node) → m.stopped ≡ (node w n).stopped → (Rattle.zeus_model.specs.Tables.nth no_node (put no_node w.nodes n m) k).stopped ≡ (node w k).stopped
+stopped-put : (w : World) (n k : ℕ) (m : Node) → m.stopped ≡ (node w n).stopped → (nth no_node (put no_node w.nodes n m) k).stopped ≡ (node w k).stopped
 stopped-put w n k m h =
     elim (cases_eq k n) [
       | inl same ↦ rw (same, nth-put_same no_node w.nodes n m) h

@@ -9,7 +9,7 @@ use Rattle.zeus_model.specs.World.{World, stepped, run, start}
 use Rattle.machine_moves.proofs.Lists.{In-nothing, In-append, In-append_left, In-append_right}
 use Rattle.live_model.specs.Items.{Sight, travels}
 use Rattle.live_model.specs.Cell.{CellEvent, Core, Deed, Began, Tried, Took, Ticked, Halted, Saw, Kill, step_of, stamp, is_halt, is_killed, HaltsOnly, BeginsFresh, halts, halt_of}
-use Rattle.live_model.specs.Service.{ServiceEvent, sights_from, sight_at, start_views, viewed}
+use Rattle.live_model.specs.Service.{sights, HaltsFit, AreServiceClocks, ServiceEvent, sights_from, sight_at, start_views, viewed}
 use Rattle.live_model.specs.Cluster.{Plan, Cluster, Events}
 use Rattle.live_model.specs.Drive.{is_step_of, is_due, counts_as}
 use Rattle.live_model.specs.Merge.{Turn, cell_turn, service_turn, entry_of, turn_step, turns, merged}
@@ -187,9 +187,9 @@ service-behind p k es past e future h is =
     let at = order-at p.config es past (service_turn e) future (split-order p k es past (service_turn e ∷ future) h is) in
     let split : es.service ≡ service_part past ++ e ∷ service_part future = at.service ∙ ap (λ (zs : List ServiceEvent). service_part past ++ zs) (served-part e future) in
     let there : e.node < p.config.nodes =
-        halts-fit-at p.config (service_part past) (service_part future) e (subst (λ (zs : List ServiceEvent). Rattle.live_model.specs.Service.HaltsFit p.config zs) split service.fit) in
+        halts-fit-at p.config (service_part past) (service_part future) e (subst (λ (zs : List ServiceEvent). HaltsFit p.config zs) split service.fit) in
     let less : e.halt < e.clock =
-        service_clock-above 0 (service_part past) (service_part future) e (subst (λ (zs : List ServiceEvent). Rattle.live_model.specs.Service.AreServiceClocks 0 zs) split service.clocks) in
+        service_clock-above 0 (service_part past) (service_part future) e (subst (λ (zs : List ServiceEvent). AreServiceClocks 0 zs) split service.clocks) in
     let halt = subst (λ (zs : List CellEvent). In e.halt (halts zs)) (at.cells e.node there) (stop-made p k es (service_part past) (service_part future) e cluster there split) in
     elim (halts-append e.halt (cell_part e.node past) (cell_part e.node (service_turn e ∷ future)) halt) [
       | inl early ↦ halted-part e.node e.halt past early
@@ -229,7 +229,7 @@ cell-behind p k es past me e future h is (inl none) needs =
     let at = a.at in
     let less : v.clock < e.clock = saw-less e.deed v e.clock saw.1 (at-stamp p k es past me e future (world_after p past) a) in
     let sent = view-sent p k es me v (cell_part me past) (cell_part me future) e a.cluster a.there (at-split p k es past me e future (world_after p past) a) saw.1 in
-    let split = subst (λ (zs : List ServiceEvent). In v (Rattle.live_model.specs.Service.sights me p.config zs)) at.service sent in
+    let split = subst (λ (zs : List ServiceEvent). In v (sights me p.config zs)) at.service sent in
     let none_early = subst (λ (zs : List ServiceEvent). In v (sights_from me (start_views p.config) (zs ++ service_part (cell_turn me e ∷ future)))) none split in
     let low = late_sight p es past me e future v at none_early in
     absurd (omega arith)
