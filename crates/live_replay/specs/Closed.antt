@@ -1,6 +1,6 @@
 -- Which transactions are closed, read off the cells.
 use Rattle.std.specs.Prelude.{ℕ, zero, suc, Bool, true, false, ◌&&◌, ◌||◌, not, List, [], ◌∷◌, length, Option, Some, None, is_some}
-use Rattle.zeus_model.specs.Book.{TxRecord, record_of}
+use Rattle.zeus_model.specs.Book.{record_of}
 use Rattle.zeus_model.specs.Tables.{below}
 use Rattle.live_model.specs.Cell.{Core, declared}
 use Rattle.live_model.specs.Cluster.{Plan, Cluster}
