@@ -1,7 +1,7 @@
 #!/bin/sh
 # How long `zeus run` takes to read a script, by its size. Writes scripts of about 1, 2 and 4 megabytes with many
-# transactions and steps on 256 objects, which the program reads whole and answers `script 0 not yet`, and prints the
-# least time of five runs and the time per megabyte. Not part of the gate.
+# transactions and steps on 256 objects, and with a fault in the last line alone, so that the program reads them whole
+# and runs none; prints the least time of five runs and the time per megabyte. Not part of the gate.
 set -eu
 top=$(CDPATH='' cd "$(dirname "$0")/.." && pwd)
 folder=$(mktemp -d)
@@ -25,13 +25,13 @@ write_script() {
             if (s % 3 == 0) print "try", s % 8, int(s / 8) % 8
             else print "deliver", s % 8, (s + 1) % 8, s
         }
-        print "end"
+        print "ende"
     }'
 }
 
 # The shell script builds the program where that is needed; the program itself is timed.
 "$top/zeus" run </dev/null >/dev/null || true
-program=$top/crates/zeus_cli/out/zeus_cli
+program=$top/crates/zeus/out/zeus
 for part in 1 2 4; do
     write_script $((part * 2000)) $((part * 12000)) >"$folder/script"
     size=$(wc -c <"$folder/script")

@@ -27,7 +27,7 @@ first=${SEED:-1}
 if [ -z "${PROGRAM:-}" ]; then
     # The shell script builds the program if that is needed.
     "$top/zeus" run </dev/null >/dev/null || true
-    PROGRAM=$top/crates/zeus_cli/out/zeus_cli
+    PROGRAM=$top/crates/zeus/out/zeus
 fi
 folder=$(mktemp -d)
 tried=0
