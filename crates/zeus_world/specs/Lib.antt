@@ -1,7 +1,6 @@
 pub mod Order
 pub mod Packets
 pub mod Posting
-pub mod Refusals
 pub mod Reports
 pub mod Settling
 pub mod Shown
