@@ -10,6 +10,7 @@ use Rattle.zeus_model.specs.Tables.{below}
 use Rattle.zeus_model.specs.Book.{Book, record_of, reply_or}
 use Rattle.live_model.specs.Items.{Answered, End, Acked, Refused, Stopped, Note, travels}
 use Rattle.live_model.specs.Cell.{CellEvent, Core, after, start_core, declared, does, notes_down, is_halt}
+use Rattle.zeus_txn.specs.declared.reply.Reply.{Reply}
 
 -- ---- the ends of transactions
 
@@ -34,7 +35,7 @@ ends_at me c txs core e =
 
 -- ---- the answers to a client
 
-unfoldable pub answer_to : Book → Note → End → Option Rattle.zeus_txn.specs.declared.reply.Reply.Reply
+unfoldable pub answer_to : Book → Note → End → Option Reply
 answer_to b note Acked = Some (reply_or (record_of b note.tx).reply)
 answer_to b note Refused = None
 answer_to b note Stopped = None

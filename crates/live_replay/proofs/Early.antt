@@ -153,7 +153,7 @@ halt_of-clock true clock h (here _ _ e) = (e, refl)
 halt_of-clock true clock h (there _ _ is) = In-nothing h is
 halt_of-clock false clock h is = In-nothing h is
 
-halts-late : (bound : ℕ) (es : List CellEvent) (h : ℕ) → NoneBefore bound es → In h (halts es) → bound ≤ h
+pub halts-late : (bound : ℕ) (es : List CellEvent) (h : ℕ) → NoneBefore bound es → In h (halts es) → bound ≤ h
 unfolding halts halt_of NoneBefore
 halts-late bound [] h none is = In-nothing h is
 halts-late bound (e ∷ es) h none is =
@@ -226,7 +226,7 @@ sight_at-view m views e v is =
     let place : v.epoch - 1 ≡ length views = omega arith in
     (ap (λ (x : Sight). x.clock) h.0, rw some (record { first = omega arith; made = omega arith; is = rw (place, members) (nth-last [] views [] e.members) }))
 
-sights-late : (m bound : ℕ) (views : List (List ℕ)) (es : List ServiceEvent) (v : Sight) → NoneServedBefore bound es → In v (sights_from m views es) → bound ≤ v.clock
+pub sights-late : (m bound : ℕ) (views : List (List ℕ)) (es : List ServiceEvent) (v : Sight) → NoneServedBefore bound es → In v (sights_from m views es) → bound ≤ v.clock
 unfolding sights_from NoneServedBefore
 sights-late m bound views [] v none is = In-nothing v is
 sights-late m bound views (e ∷ es) v none is =

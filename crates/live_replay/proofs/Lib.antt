@@ -1,9 +1,16 @@
 pub mod Acks
 pub mod Acts
 pub mod BookSteps
+pub mod Begun
 pub mod Books
 pub mod Causes
+pub mod Closings
+pub mod Costs
+pub mod Driving
 pub mod Early
+pub mod Lengths
+pub mod LiveRuns
+pub mod MergedLive
 pub mod Merging
 pub mod Mirrors
 pub mod Orders

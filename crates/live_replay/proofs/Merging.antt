@@ -168,18 +168,20 @@ no_elements (x ∷ xs) h = absurd (omega arith)
 -- what the merge of so many elements has, the rest of them being merged so
 pub record IsMerged {A B : Type 0} (f : A → List B) (clock : A → ℕ) (ls : List (List A)) (m : List A) : Type 0 where
   pub only : (x : A) → In x m → In x (all_of ls)
+  pub count : length m ≡ length (all_of ls)
   pub rises : EachRises clock ls → Rises clock m
   pub found : Apart f ls → part f m ≡ part f (all_of ls)
 
 nothing-merged : {A B : Type 0} (f : A → List B) (clock : A → ℕ) (ls : List (List A)) → all_of ls ≡ [] → IsMerged f clock ls []
 unfolding Rises part
-nothing-merged f clock ls none = record { only = λ x is. In-nothing x is; rises = λ r. tt; found = λ a. rw none refl }
+nothing-merged f clock ls none = record { only = λ x is. In-nothing x is; count = rw none refl; rises = λ r. tt; found = λ a. rw none refl }
 
 first-merged : {A B : Type 0} (f : A → List B) (clock : A → ℕ) (ls : List (List A)) (p : Pick A) (m : List A) → IsPicked f clock ls p → IsMerged f clock p.rest m → IsMerged f clock ls (p.first ∷ m)
 unfolding Rises part
 first-merged {A = A} {B = B} f clock ls p m h rest =
     record {
       only = λ x is. in_all x is;
+      count = ap suc rest.count ∙ sym h.count;
       rises = λ r. (λ y is. h.least r y (h.only y (rest.only y is)), rest.rises (h.rises r));
       found = λ a. ap (λ (zs : List B). f p.first ++ zs) (rest.found (h.apart a)) ∙ sym (h.found a);
     }

@@ -11,7 +11,7 @@ use Rattle.zeus_model.specs.World.{World, Event, no_node, node, link, last_view,
 use Rattle.machine_moves.specs.Fits.{StepFits}
 use Rattle.machine_moves.proofs.Lists.{nth-put_same, nth-put_other}
 use Rattle.soundness.proofs.Runs.{IsReached}
-use Rattle.live_model.specs.Cell.{CellEvent, Core, Deed, step_of, does, notes_down, after, core_from, core, start_core, posts, posts_from, posts_to}
+use Rattle.live_model.specs.Cell.{Posted, CellEvent, Core, Deed, step_of, does, notes_down, after, core_from, core, start_core, posts, posts_from, posts_to}
 use Rattle.live_model.specs.Service.{ServiceEvent, views_made}
 use Rattle.live_model.specs.Merge.{Turn, cell_turn}
 use Rattle.live_replay.specs.Parts.{part, of_cell, of_service, cell_part, service_part}
@@ -80,7 +80,7 @@ posts-own c txs me receiver past e =
     ap (λ (es : List CellEvent). letters (posts me c txs receiver es)) (cell_part-own me past e)
     ∙ (ap letters (posts_from-append me c txs receiver (start_core me c txs) (cell_part me past) (e ∷ []))
     ∙ (letters-append (posts me c txs receiver (cell_part me past)) (posts_from me c txs receiver k (e ∷ []))
-    ∙ ap (λ (ps : List Rattle.live_model.specs.Cell.Posted). letters (posts me c txs receiver (cell_part me past)) ++ letters ps) (posts_from-one me c txs receiver k e)))
+    ∙ ap (λ (ps : List Posted). letters (posts me c txs receiver (cell_part me past)) ++ letters ps) (posts_from-one me c txs receiver k e)))
 
 -- what an event of a cell needs in the world
 pub record CellStep (c : Config) (txs : List TxDecl) (past : List Turn) (w : World) (me : ℕ) (e : CellEvent) : Type 0 where

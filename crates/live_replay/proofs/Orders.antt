@@ -48,7 +48,7 @@ cell-silent m es t is = let h = In-map (cell_turn m) es t is in rw (h.2) refl
 -- ---- the lists of some nodes, and that of the service
 
 -- the events of these nodes and of the service
-abbrev lists : Events → ℕ → ℕ → List (List Turn)
+abbrev pub lists : Events → ℕ → ℕ → List (List Turn)
 lists es first count = cell_turns es (numbers_from first count) ++ map service_turn es.service ∷ []
 
 above-silent : (n : ℕ) (es : Events) (first count : ℕ) → n < first → Silent (of_cell n) (all_of (lists es first count))

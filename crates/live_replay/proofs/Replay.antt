@@ -1,21 +1,21 @@
 -- Events of cells and service in an order of rising clocks are a run of the machine, step by step.
 use Rattle.std.specs.Prelude.{ℕ, ◌≡◌, ◌-◌, ◌<◌, ◌≤◌, Bool, true, false, ◌==◌, List, [], ◌∷◌, ◌++◌, length, IfSome, Option, Some, None, is_some, is_none, if◌then◌else◌}
-use Rattle.std.proofs.Common.{arith, refl, sym, ap, ◌∙◌, inl, inr, subst, append_assoc, append-nil}
+use Rattle.std.proofs.Common.{eq-eqb, arith, refl, sym, ap, ◌∙◌, inl, inr, subst, append_assoc, append-nil}
 use Rattle.zeus_base.specs.declared.config.Config.{Config}
 use Rattle.zeus_txn.specs.declared.tx.TxDecl.{TxDecl}
 use Rattle.zeus_model.specs.declared.answer.Answer.TheVariants.{Twice, Waits, Begin as BeginAnswer}
 use Rattle.zeus_model.specs.declared.answer.Begin.TheVariants.{Begun, Stopped}
 use Rattle.zeus_model.specs.In.{In, here, there}
 use Rattle.zeus_model.specs.Scripts.{FitTxs}
-use Rattle.zeus_model.specs.State.{Node}
+use Rattle.zeus_model.specs.State.{slot, Node}
 use Rattle.zeus_model.specs.Tables.{or_else, where_true}
 use Rattle.zeus_model.specs.Act.{Did, just}
 use Rattle.zeus_model.specs.Book.{record_of}
-use Rattle.zeus_model.specs.Local.{begin}
+use Rattle.zeus_model.specs.Local.{begin_free, begin}
 use Rattle.zeus_model.specs.World.{World, node, link, nth_letter, waits_for, begin_refused}
 use Rattle.live_model.specs.Items.{Job, Stamped, Sight}
-use Rattle.live_model.specs.Cell.{CellEvent, Core, Deed, Began, Tried, Took, Ticked, Halted, Saw, step_of, stamp, declared, start_core, core, core_from, posts, posts_from, numbered, sends, AreClocks, BeginsFresh, IsFresh, DeedFits, does, notes_down}
-use Rattle.live_model.specs.Service.{ServiceEvent, made, start_views, views_made, views_from}
+use Rattle.live_model.specs.Cell.{Posted, DeedsFit, BeginFresh, CellEvent, Core, Deed, Began, Tried, Took, Ticked, Halted, Saw, step_of, stamp, declared, start_core, core, core_from, posts, posts_from, numbered, sends, AreClocks, BeginsFresh, IsFresh, DeedFits, does, notes_down}
+use Rattle.live_model.specs.Service.{sights, ServiceEvent, made, start_views, views_made, views_from}
 use Rattle.live_model.specs.Cluster.{Plan, Cluster, Events, IsCluster}
 use Rattle.live_model.specs.Merge.{Turn, cell_turn, service_turn, entry_of, turn_clock}
 use Rattle.live_replay.specs.Parts.{part, of_cell, of_service, cell_part, service_part}
@@ -26,6 +26,10 @@ use Rattle.live_replay.proofs.Merging.{part-append}
 use Rattle.live_replay.specs.Replayed.{core_of}
 use Rattle.live_replay.proofs.Mirrors.{Mirrors}
 use Rattle.live_replay.proofs.Posting.{NoneBefore, numbered-early, posts_from-append, posts_from-late}
+use Rattle.zeus_model.specs.declared.answer.Begin.{Begin as BeginOutcome}
+use Rattle.std.proofs.lemmas.Option.{IfSome_then}
+use Rattle.zeus_txn.specs.declared.ops.Op.{Op}
+use Rattle.live_model.specs.Ends.{notes}
 
 -- the turns have the events of each cell and of the service, each in their order, and their clocks rise
 pub record IsOrder (c : Config) (es : Events) (ts : List Turn) : Type 0 where
@@ -89,7 +93,7 @@ unfolding part of_cell
 own-part me e future = rw (eq_same me) refl
   where
     eq_same : (n : ℕ) → (n == n) ≡ true
-    eq_same n = Rattle.std.proofs.Common.eq-eqb n n refl
+    eq_same n = eq-eqb n n refl
 
 pub served-part : (e : ServiceEvent) (future : List Turn) → service_part (service_turn e ∷ future) ≡ e ∷ service_part future
 unfolding part of_service
@@ -97,19 +101,19 @@ served-part e future = refl
 
 -- ---- what the world finds
 
-begun-live : (n : Node) (s id : ℕ) (tx : List Rattle.zeus_txn.specs.declared.ops.Op.Op) → (begin n s id tx).answer ≡ Begun → n.stopped ≡ false
+begun-live : (n : Node) (s id : ℕ) (tx : List Op) → (begin n s id tx).answer ≡ Begun → n.stopped ≡ false
 unfolding begin
-begun-live n s id tx h = live n.stopped (Rattle.zeus_model.specs.Local.begin_free n s record { id = id; tx = tx } (Rattle.zeus_model.specs.State.slot n s).current) h
+begun-live n s id tx h = live n.stopped (begin_free n s record { id = id; tx = tx } (slot n s).current) h
   where
-    live : (b : Bool) (d : Did Rattle.zeus_model.specs.declared.answer.Begin.Begin) → (if b then just n Stopped else d).answer ≡ Begun → b ≡ false
+    live : (b : Bool) (d : Did BeginOutcome) → (if b then just n Stopped else d).answer ≡ Begun → b ≡ false
     live true d h = absurd cc
     live false d h = refl
 
-where_false : {A : Type 0} (b : Bool) (a : A) → b ≡ false → where_true b a ≡ None
+pub where_false : {A : Type 0} (b : Bool) (a : A) → b ≡ false → where_true b a ≡ None
 unfolding where_true
 where_false b a h = rw h refl
 
-three_none : {A : Type 0} (a b c : Option A) → a ≡ None → b ≡ None → c ≡ None → or_else a (or_else b c) ≡ None
+pub three_none : {A : Type 0} (a b c : Option A) → a ≡ None → b ≡ None → c ≡ None → or_else a (or_else b c) ≡ None
 unfolding or_else
 three_none a b c ha hb hc = rw (ha, hb, hc) refl
 
@@ -132,8 +136,8 @@ pub noted-acked : (p : Plan) (es : Events) (past : List Turn) (t : Turn) (future
 noted-acked p es past t future w j i m at less noted =
     let n = (declared p.txs i).node in
     let seen = noted.seen in
-    let split : In noted.note (Rattle.live_model.specs.Ends.notes n p.config p.txs noted.client (cell_part n past ++ cell_part n (t ∷ future))) =
-        subst (λ (zs : List CellEvent). In noted.note (Rattle.live_model.specs.Ends.notes n p.config p.txs noted.client zs)) (at.cells n noted.there) noted.is in
+    let split : In noted.note (notes n p.config p.txs noted.client (cell_part n past ++ cell_part n (t ∷ future))) =
+        subst (λ (zs : List CellEvent). In noted.note (notes n p.config p.txs noted.client zs)) (at.cells n noted.there) noted.is in
     let here_acked = noted-early n p.config p.txs noted.client (turn_clock t) (start_core n p.config p.txs) (cell_part n past) (cell_part n (t ∷ future)) noted.note
         (at.late n) (omega arith) noted.acked split in
     let agree = m.books n noted.there in
@@ -166,7 +170,7 @@ at-fits p k es past me e future w a =
     let h = a.cluster in
     let cell = h.cells me a.there in
     fits-at p.config p.txs (cell_part me past) (cell_part me future) e
-    (subst (λ (zs : List CellEvent). Rattle.live_model.specs.Cell.DeedsFit p.config p.txs zs) (at-split p k es past me e future w a) cell.fit)
+    (subst (λ (zs : List CellEvent). DeedsFit p.config p.txs zs) (at-split p k es past me e future w a) cell.fit)
 
 pub at-fresh : (p : Plan) (k : Cluster) (es : Events) (past : List Turn) (me : ℕ) (e : CellEvent) (future : List Turn) (w : World) → AtCell p k es past me e future w
     → BeginsFresh me p.txs (core_of p.config p.txs me past) e.deed
@@ -174,7 +178,7 @@ at-fresh p k es past me e future w a =
     let h = a.cluster in
     let cell = h.cells me a.there in
     fresh-at me p.config p.txs (start_core me p.config p.txs) (cell_part me past) (cell_part me future) e
-    (subst (λ (zs : List CellEvent). Rattle.live_model.specs.Cell.BeginFresh me p.config p.txs (start_core me p.config p.txs) zs) (at-split p k es past me e future w a) cell.begins)
+    (subst (λ (zs : List CellEvent). BeginFresh me p.config p.txs (start_core me p.config p.txs) zs) (at-split p k es past me e future w a) cell.begins)
 
 pub finds-begin : (p : Plan) (k : Cluster) (es : Events) (past : List Turn) (me : ℕ) (e : CellEvent) (future : List Turn) (w : World) (j : Job) → AtCell p k es past me e future w
     → e.deed ≡ Began j → IsFresh me p.txs (core_of p.config p.txs me past) j → j.tx < length p.txs → j.seen < e.clock → begin_refused w j.tx ≡ None
@@ -191,7 +195,7 @@ finds-begin p k es past me e future w j a began fresh less seen =
     let noted : IfSome (declared p.txs j.tx).after (λ i. WasNoted p es j i) =
         after-noted p k es me j (cell_part me past) (cell_part me future) e a.cluster a.fit a.there (at-split p k es past me e future w a) began fresh.own less in
     let acked : IfSome (declared p.txs j.tx).after (λ i. is_some (record_of w.book i).acked ≡ true) =
-        Rattle.std.proofs.lemmas.Option.IfSome_then (declared p.txs j.tx).after noted (λ i n. noted-acked p es past (cell_turn me e) future w j i m a.at seen n) in
+        IfSome_then (declared p.txs j.tx).after noted (λ i n. noted-acked p es past (cell_turn me e) future w j i m a.at seen n) in
     three_none _ _ _ (where_false _ Twice unbegun) (where_false _ (BeginAnswer Stopped) running)
     (waits-none (declared w.txs j.tx).after w (subst (λ (ts : List TxDecl). IfSome (declared ts j.tx).after (λ i. is_some (record_of w.book i).acked ≡ true)) (sym m.declared) acked))
 
@@ -205,7 +209,7 @@ finds-packet p k es past me e future w sender q a took there_sender less =
     let sent = packet-sent p k es me sender q (cell_part me past) (cell_part me future) e a.cluster a.there there_sender (at-split p k es past me e future w a) took in
     let later = cell_part sender (cell_turn me e ∷ future) in
     let split : In q (numbered 0 (posts sender c p.txs me (cell_part sender past) ++ posts_from sender c p.txs me (core_of c p.txs sender past) later)) =
-        subst (λ (ps : List Rattle.live_model.specs.Cell.Posted). In q (numbered 0 ps)) (posts_from-append sender c p.txs me (start_core sender c p.txs) (cell_part sender past) later)
+        subst (λ (ps : List Posted). In q (numbered 0 ps)) (posts_from-append sender c p.txs me (start_core sender c p.txs) (cell_part sender past) later)
         (subst (λ (zs : List CellEvent). In q (numbered 0 (posts sender c p.txs me zs))) (at.cells sender there_sender) sent) in
     let early = numbered-early 0 e.clock (posts sender c p.txs me (cell_part sender past)) (posts_from sender c p.txs me (core_of c p.txs sender past) later) q
         (posts_from-late sender c p.txs me e.clock (core_of c p.txs sender past) later (at.late sender)) less split in
@@ -221,4 +225,4 @@ finds-view p k es past me e future w v a saw less =
     let sent = view-sent p k es me v (cell_part me past) (cell_part me future) e a.cluster a.there (at-split p k es past me e future w a) saw in
     rw (m.views)
     (seen-early me e.clock (start_views p.config) (service_part past) (service_part (cell_turn me e ∷ future)) v at.served_late less
-    (subst (λ (zs : List ServiceEvent). In v (Rattle.live_model.specs.Service.sights me p.config zs)) at.service sent))
+    (subst (λ (zs : List ServiceEvent). In v (sights me p.config zs)) at.service sent))

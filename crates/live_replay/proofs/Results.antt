@@ -1,6 +1,6 @@
 -- What the run of the merged journals gives, clause by clause.
 use Rattle.std.specs.Prelude.{ℕ, suc, ◌≡◌, ◌<◌, true, List, [], ◌∷◌, ◌++◌, length, map, All, IfSome, is_some}
-use Rattle.std.proofs.Common.{refl, sym, ap, ◌∙◌, subst, append-nil}
+use Rattle.std.proofs.Common.{append_assoc, refl, sym, ap, ◌∙◌, subst, append-nil}
 use Rattle.std.proofs.lemmas.List.Elements.{All-nil, All-cons}
 use Rattle.std.proofs.lemmas.Option.{IfSome_then}
 use Rattle.zeus_base.specs.declared.config.Config.{Config}
@@ -17,7 +17,7 @@ use Rattle.soundness.proofs.Runs.{reached-sound}
 use Rattle.live_model.specs.Items.{Stamped, Job, Answered}
 use Rattle.live_model.specs.Cell.{CellEvent, Core, Deed, Began, Tried, Took, Ticked, Halted, Saw, Posted, core, declared, does, jobs, posts, numbered, sends, BeginsFresh, DeedFits, stamp}
 use Rattle.live_model.specs.Ends.{ClientId, answers}
-use Rattle.live_model.specs.Service.{ServiceEvent}
+use Rattle.live_model.specs.Service.{views_made, ServiceEvent}
 use Rattle.live_model.specs.Cluster.{Plan, Cluster, Events, IsThere, IsFront}
 use Rattle.live_model.specs.Merge.{Turn, cell_turn, service_turn, entry_of, turn_step, turn_clock, turns, merged}
 use Rattle.live_replay.specs.Parts.{cell_part, service_part}
@@ -33,14 +33,14 @@ use Rattle.live_replay.proofs.Turns.{order-mirrors, turn-answer, turn-acked, at-
 abbrev pub Split : Plan → Events → List Turn → List Turn → Type 0
 Split p es past future = past ++ future ≡ turns p.config es
 
-split-order : (p : Plan) (k : Cluster) (es : Events) (past future : List Turn) → IsLive p k es → Split p es past future → IsOrder p.config es (past ++ future)
+pub split-order : (p : Plan) (k : Cluster) (es : Events) (past future : List Turn) → IsLive p k es → Split p es past future → IsOrder p.config es (past ++ future)
 split-order p k es past future h is = subst (λ (ts : List Turn). IsOrder p.config es ts) (sym is) (turns-order p k es h.cluster)
 
-split-mirrors : (p : Plan) (k : Cluster) (es : Events) (past future : List Turn) → IsLive p k es → Split p es past future → Mirrors p.config p.txs past (world_after p past)
+pub split-mirrors : (p : Plan) (k : Cluster) (es : Events) (past future : List Turn) → IsLive p k es → Split p es past future → Mirrors p.config p.txs past (world_after p past)
 split-mirrors p k es past future h is =
     let txs = h.txs in order-mirrors p k es past future h.limits txs.each h.cluster (split-order p k es past future h is)
 
-whole-mirrors : (p : Plan) (k : Cluster) (es : Events) → IsLive p k es → Mirrors p.config p.txs (turns p.config es) (run (start p.config p.txs) (merged p.config k))
+pub whole-mirrors : (p : Plan) (k : Cluster) (es : Events) → IsLive p k es → Mirrors p.config p.txs (turns p.config es) (run (start p.config p.txs) (merged p.config k))
 whole-mirrors p k es h =
     rw (merged-turns p k es h.cluster) (split-mirrors p k es (turns p.config es) [] h (append-nil (turns p.config es)))
 
@@ -64,7 +64,7 @@ each-fits p k es past (t ∷ ts) h is =
     let txs = h.txs in
     All-cons (StepFits p.config p.txs) (turn_step t) (map turn_step ts)
     (turn-fits t p k es past ts (world_after p past) h.cluster txs.each (split-order p k es past (t ∷ ts) h is) (split-mirrors p k es past (t ∷ ts) h is))
-    (each-fits p k es (past ++ t ∷ []) ts h (Rattle.std.proofs.Common.append_assoc past (t ∷ []) ts ∙ is))
+    (each-fits p k es (past ++ t ∷ []) ts h (append_assoc past (t ∷ []) ts ∙ is))
 
 pub replay-fits : (p : Plan) (k : Cluster) (es : Events) → IsLive p k es → All (StepFits p.config p.txs) (merged p.config k)
 replay-fits p k es h = rw (merged-turns p k es h.cluster) (each-fits p k es [] (turns p.config es) h refl)
@@ -103,7 +103,7 @@ replay-hits p k es past t future h is missed = given-hits t p past (subst IsMiss
 
 -- ---- begins
 
-at-begin : (p : Plan) (k : Cluster) (es : Events) (past : List Turn) (n : ℕ) (e : CellEvent) (future : List Turn) → IsLive p k es → Split p es past (cell_turn n e ∷ future)
+pub at-begin : (p : Plan) (k : Cluster) (es : Events) (past : List Turn) (n : ℕ) (e : CellEvent) (future : List Turn) → IsLive p k es → Split p es past (cell_turn n e ∷ future)
     → AtCell p k es past n e future (world_after p past)
 at-begin p k es past n e future h is =
     let txs = h.txs in
@@ -177,7 +177,7 @@ replay-views p k es h =
     let m = whole-mirrors p k es h in
     let cluster = h.cluster in
     let service = cluster.service in
-    m.views ∙ (ap (λ (zs : List ServiceEvent). Rattle.live_model.specs.Service.views_made p.config zs) (replay-service p k es h) ∙ sym service.views)
+    m.views ∙ (ap (λ (zs : List ServiceEvent). views_made p.config zs) (replay-service p k es h) ∙ sym service.views)
 
 pub replay-book : (p : Plan) (k : Cluster) (es : Events) (n id : ℕ) → IsLive p k es → n < p.config.nodes → (declared p.txs id).node ≡ n
     → SameStory (record_of (run (start p.config p.txs) (merged p.config k)).book id) (record_of ((k.cells n).core).book id)

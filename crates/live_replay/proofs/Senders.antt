@@ -34,6 +34,10 @@ use Rattle.zeus_model.specs.Receive.{on_recovered, row, receive_or_not, receive}
 use Rattle.zeus_model.specs.Local.{Hindrance, Missing, Unready, begin_free, begin, ask, read_missing, read_row, invalidation, committed, commit_entry, commit, write_row, try_current, try_slot}
 use Rattle.zeus_model.specs.Membership.{install, stop, letters_of, repeat_report, repeat_entries, repeat_own, repeat_kept, repeat_requests, own_acknowledgement, repeat_proposal, repeat_proposals, repeat_done, repeat_leave, repeats, tick}
 use Rattle.machine_moves.proofs.Within.{Keeps-settle, Keeps-raise, Keeps-bring}
+use Rattle.zeus_model.specs.declared.answer.Install.{Install as InstallOutcome}
+use Rattle.zeus_model.specs.declared.answer.Ticked.{Ticked}
+use Rattle.zeus_model.specs.declared.answer.Begin.{Begin as BeginOutcome}
+use Rattle.zeus_model.specs.declared.answer.Stop.{Stop as StopOutcome}
 
 -- each of the letters is from the node
 unfoldable pub AllFrom : ℕ → List Letter → Type 0
@@ -310,7 +314,7 @@ own-begin_free None n s c = record { node = refl; sent = from-none n.me }
 
 pub own-begin : (n : Node) (s id : ℕ) (tx : List Op) → IsOwn n.me (begin n s id tx)
 unfolding begin
-own-begin n s id tx = if_holds (λ (d : Did Rattle.zeus_model.specs.declared.answer.Begin.Begin). IsOwn n.me d) _ _ _ (own-just n _) (own-begin_free _ n s _)
+own-begin n s id tx = if_holds (λ (d : Did BeginOutcome). IsOwn n.me d) _ _ _ (own-just n _) (own-begin_free _ n s _)
 
 from-ask : (driver : Option ℕ) (n : Node) (want : Want) (xs : List ℕ) → AllFrom n.me (ask n want xs driver)
 unfolding ask AllFrom
@@ -418,16 +422,16 @@ from-repeats n =
 pub own-tick : (n : Node) → IsOwn n.me (tick n)
 unfolding tick
 own-tick n =
-    if_holds (λ (d : Did Rattle.zeus_model.specs.declared.answer.Ticked.Ticked). IsOwn n.me d) _ _ _ (own-just n _) (record { node = refl; sent = from-repeats n })
+    if_holds (λ (d : Did Ticked). IsOwn n.me d) _ _ _ (own-just n _) (record { node = refl; sent = from-repeats n })
 
 pub own-stop : (n : Node) → IsOwn n.me (stop n)
 unfolding stop
 own-stop n =
-    if_holds (λ (d : Did Rattle.zeus_model.specs.declared.answer.Stop.Stop). IsOwn n.me d) _ _ _ (own-just n _) (record { node = refl; sent = from-none n.me })
+    if_holds (λ (d : Did StopOutcome). IsOwn n.me d) _ _ _ (own-just n _) (record { node = refl; sent = from-none n.me })
 
 pub own-install : (n : Node) (v : View) → IsOwn n.me (install n v)
 unfolding install
 own-install n v =
-    let P : Did Rattle.zeus_model.specs.declared.answer.Install.Install → Type 0 = λ d. IsOwn n.me d in
+    let P : Did InstallOutcome → Type 0 = λ d. IsOwn n.me d in
     if_holds P n.stopped _ _ (own-just n _)
     (if_holds P (nat_lt n.epoch v.epoch) _ _ (own-then_finish n.me (just _ _) (record { node = refl; sent = from-none n.me })) (own-just n _))

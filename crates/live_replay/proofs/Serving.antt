@@ -48,7 +48,7 @@ nth-none_row d m n i k =
       | inr past ↦ rw past (nth-past d [] k (omega arith))
     ]
 
-start-node : (c : Config) (txs : List TxDecl) (n : ℕ) → n < c.nodes → node (start c txs) n ≡ start_node c n
+pub start-node : (c : Config) (txs : List TxDecl) (n : ℕ) → n < c.nodes → node (start c txs) n ≡ start_node c n
 unfolding start
 start-node c txs n less = let at : 0 + n ≡ n = omega arith in nth-map_numbers no_node (start_node c) 0 c.nodes n less ∙ ap (start_node c) at
 
@@ -160,7 +160,7 @@ views_from-one : (views : List (List ℕ)) (e : ServiceEvent) → views_from vie
 unfolding views_from
 views_from-one views e = refl
 
-last_view-more : (views : List (List ℕ)) (set : List ℕ) → last_view (views ++ set ∷ []) ≡ set
+pub last_view-more : (views : List (List ℕ)) (set : List ℕ) → last_view (views ++ set ∷ []) ≡ set
 unfolding last_view
 last_view-more [] set = refl
 last_view-more (v ∷ []) set = refl

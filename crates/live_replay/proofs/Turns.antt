@@ -27,6 +27,7 @@ use Rattle.live_replay.proofs.Reached.{reached-current}
 use Rattle.live_replay.proofs.Replay.{IsOrder, IsAt, order-at, served-part, AtCell, at-stamp, at-fits, at-fresh, finds-begin, finds-packet, finds-view}
 use Rattle.live_replay.proofs.Serving.{ServiceStep, service-mirrors, start-mirrors, happens-serves}
 use Rattle.live_replay.proofs.Tries.{own-try_slot}
+use Rattle.live_model.specs.Items.{Sight}
 
 -- ---- an event of a cell
 
@@ -50,7 +51,7 @@ deed-names Ticked p past w me m fresh = tt
 deed-names Halted p past w me m fresh = tt
 deed-names (Saw v) p past w me m fresh = tt
 
-view-there : (w : World) (v : Rattle.live_model.specs.Items.Sight) → HasView w.views v → nat_lt (length w.views) v.epoch ≡ false
+view-there : (w : World) (v : Sight) → HasView w.views v → nat_lt (length w.views) v.epoch ≡ false
 view-there w v h =
     let made = h.made in
     false_from_ne_true (nat_lt (length w.views) v.epoch) (λ less. let past : length w.views < v.epoch = ltb-true (length w.views) v.epoch less in absurd (omega arith))

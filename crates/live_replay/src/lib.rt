@@ -1,7 +1,13 @@
 //! The journals of cells that keep their rules merge to one run of the machine, with the same answers.
 #![tactic(auto)]
 
-ghost use Rattle.std.specs.Prelude.{All, IfSome, List, map, is_some, true, ℕ, ◌<◌, ◌≡◌, ◌++◌, ◌∷◌};
+ghost use Rattle.std.specs.Prelude.{All, IfSome, List, length, map, is_some, true, ℕ, ◌<◌, ◌≤◌, ◌≡◌, ◌+◌, ◌*◌, ◌++◌, ◌∷◌};
+ghost use Rattle.zeus_base.specs.Limits.{KeepsLimits};
+ghost use Rattle.zeus_base.specs.declared.step.Step.{Step};
+ghost use Rattle.zeus_model.specs.Readers.{all_closed, is_closed};
+ghost use Rattle.zeus_model.specs.Scripts.{FitsTxs};
+ghost use Rattle.live_replay.specs.Closed.{all_closed_at_home, closed_at_home};
+ghost use Rattle.live_replay.specs.LiveRun.{IsLiveRun, driven, per_round};
 ghost use Rattle.zeus_model.specs.Book.{record_of};
 ghost use Rattle.zeus_model.specs.Sound.{Sound};
 ghost use Rattle.zeus_model.specs.World.{happens, link, node, run, start};
@@ -32,6 +38,8 @@ pub fn merged_journals_are_a_run()
     ensures clocks { (p : Plan) (k : Cluster) (es : Events) → IsLive p k es → Rises turn_clock (turns p.config es) }
     // Each step fits the configuration and its transactions.
     ensures fit { (p : Plan) (k : Cluster) (es : Events) → IsLive p k es → All (StepFits p.config p.txs) (merged p.config k) }
+    // There are at most 5,000,000 for each node, and one for each that stopped.
+    ensures few { (p : Plan) (k : Cluster) (es : Events) → IsLive p k es → length (merged p.config k) ≤ 40000100 }
 
     // Each step has the answer that its cell, or the service, gave.
     ensures answers { (p : Plan) (k : Cluster) (es : Events) (past : List Turn) (t : Turn) (future : List Turn) → IsLive p k es → past ++ t ∷ future ≡ turns p.config es
@@ -65,10 +73,39 @@ pub fn merged_journals_are_a_run()
     // A transaction is begun, entered, acknowledged and refused just where the book of its node's cell says so, with its reply.
     ensures books { (p : Plan) (k : Cluster) (es : Events) (n id : ℕ) → IsLive p k es → n < p.config.nodes → (declared p.txs id).node ≡ n
         → SameStory (record_of (run (start p.config p.txs) (merged p.config k)).book id) (record_of ((k.cells n).core).book id) }
+    // So a transaction is closed there just where the cells have it closed, and all are just where all are.
+    ensures closed { (p : Plan) (k : Cluster) (es : Events) (id : ℕ) → IsLive p k es
+        → is_closed (run (start p.config p.txs) (merged p.config k)) id ≡ closed_at_home p k id }
+    ensures all_closed { (p : Plan) (k : Cluster) (es : Events) → IsLive p k es
+        → all_closed (run (start p.config p.txs) (merged p.config k)) ≡ all_closed_at_home p k }
 
     // The jobs that a client handed over are those begun at its slot, and then those that are still in the ring.
     ensures jobs { (p : Plan) (k : Cluster) (es : Events) (id : ClientId) → IsLive p k es → IsThere p.config id → IsFront (jobs p.txs id.slot (es.cells id.node)) (k.clients id).jobs }
     // The answers that a client took are the front of those that its cell's events give it.
     ensures client_answers { (p : Plan) (k : Cluster) (es : Events) (id : ClientId) → IsLive p k es → IsThere p.config id
         → IsFront (k.clients id).answers (answers id.node p.config p.txs id.slot (es.cells id.node)) }
+{}
+
+/// A live run is one that its cells have made, and then its drive.
+///
+/// `IsLiveRun` says that each step fits, that none finds a transaction begun or waiting, a packet or a view missing, that with a
+/// kill the node's step of the kill's number is its stop, that no other step is a stop, and that views and installs stand behind it.
+pub fn drives_go_on_live_runs()
+    // The steps of merged journals are those of a live run.
+    ensures merged { (p : Plan) (k : Cluster) (es : Events) → IsLive p k es → IsLiveRun p (merged p.config k) }
+    // With the steps of a drive behind it a live run is still one.
+    ensures driven { (p : Plan) (before : List Step) (rounds : ℕ) → KeepsLimits p.config → FitsTxs p.config p.txs → IsLiveRun p before
+        → IsLiveRun p (before ++ (driven p before rounds).steps) }
+    // The steps lead to the drive's world.
+    ensures world { (p : Plan) (before : List Step) (rounds : ℕ) → KeepsLimits p.config → FitsTxs p.config p.txs → IsLiveRun p before
+        → (driven p before rounds).world ≡ run (start p.config p.txs) (before ++ (driven p before rounds).steps) }
+    // It has ended before its last round only where all transactions are closed.
+    ensures ended { (p : Plan) (before : List Step) (rounds : ℕ) → KeepsLimits p.config → FitsTxs p.config p.txs → IsLiveRun p before
+        → (driven p before rounds).over ≡ true → all_closed (driven p before rounds).world ≡ true }
+    // It makes at most so many steps a round, and beside these one for each transaction that it begins, and the stop.
+    ensures few { (p : Plan) (before : List Step) (rounds : ℕ) → KeepsLimits p.config → FitsTxs p.config p.txs → IsLiveRun p before
+        → length (driven p before rounds).steps ≤ 20 * rounds * per_round p.config + length p.txs + 1 }
+    // So a live run with its drive stays within what a world can count.
+    ensures bound { (p : Plan) (before : List Step) (rounds : ℕ) → KeepsLimits p.config → FitsTxs p.config p.txs → IsLiveRun p before
+        → rounds ≤ 1000 → length p.txs ≤ 1000 → length before ≤ 40000100 → length (before ++ (driven p before rounds).steps) < 67000000 }
 {}

@@ -61,6 +61,7 @@ unfolding letters_at
 letters-append bytes [] start = refl
 letters-append bytes (first ∷ starts) start = ap (λ ls. letter_at bytes first ∷ ls) (letters-append bytes starts start)
 
+-- as many letters as places
 pub length-letters_at : (bytes starts : List ℕ) → length (letters_at bytes starts) ≡ length starts
 unfolding letters_at
 length-letters_at bytes [] = refl
@@ -76,12 +77,14 @@ begins_last bytes p is fit = record {
   fit = fit;
 }
 
+-- one packet more begins at the end of the bytes
 pub pushed_at : (bytes starts : List ℕ) (number : ℕ) (l : Letter) → number ≡ length starts → AreAt bytes 0 starts → IsPacket (numbered number l) → fits l (largest 2) ≡ true
     → AreAt (bytes ++ packet_bytes 2 (numbered number l)) 0 (starts ++ length bytes ∷ [])
 pushed_at bytes starts number l e h is fit =
     let p : Packet = numbered number l in
     one_more_at (bytes ++ packet_bytes 2 p) 0 starts (length bytes) number l (omega arith) (still_at bytes (packet_bytes 2 p) 0 starts h) (begins_last bytes p is fit)
 
+-- one packet more is one letter more
 pub pushed_letters : (bytes starts : List ℕ) (number : ℕ) (l : Letter) → AreAt bytes 0 starts → IsPacket (numbered number l) → fits l (largest 2) ≡ true
     → letters_at (bytes ++ packet_bytes 2 (numbered number l)) (starts ++ length bytes ∷ []) ≡ letters_at bytes starts ++ l ∷ []
 pushed_letters bytes starts number l h is fit =

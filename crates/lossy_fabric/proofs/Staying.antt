@@ -46,9 +46,11 @@ posted_has links l a b there h =
       | inr other ↦ record { from = omega (arith, senders, h.from); to = rw (nth-put_other [] links l.from a row (λ e. other (sym e))) h.to }
     ]
 
+-- a link that there is stays when a letter is sent
 pub sent_stays : (old new : List (List LinkState)) (l : Letter) → letters new ≡ posted (letters old) l → IsLink old l.from l.to → (a b : ℕ) → IsLink old a b → IsLink new a b
 sent_stays old new l is there a b h =
     has_link new a b (rw is (posted_has (letters old) l a b (link_has old l.from l.to there) (link_has old a b h)))
 
+-- a link that there is stays when the letters stay
 pub same_stays : (old new : List (List LinkState)) → letters new ≡ letters old → (a b : ℕ) → IsLink old a b → IsLink new a b
 same_stays old new is a b h = has_link new a b (rw is (link_has old a b h))

@@ -1,6 +1,6 @@
 -- What the parts of a node make of it, as the definitions of ownership say it.
 use Rattle.std.specs.Prelude.{◌==◌}
-use Rattle.std.proofs.Common.{ℕ, ◌≡◌, ◌<◌, ◌⊎◌, inl, inr, true, false, List, Option, Some, None, length, refl, sym, ap, ◌∙◌}
+use Rattle.std.proofs.Common.{ℕ, ◌≡◌, ◌<◌, ◌⊎◌, inl, inr, true, false, List, Option, Some, None, length, refl}
 use Rattle.std.proofs.lemmas.Bool.{cond_both}
 use Rattle.zeus_base.specs.Order.{is_below}
 use Rattle.zeus_base.specs.declared.order.Stamp.{Stamp}

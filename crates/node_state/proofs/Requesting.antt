@@ -1,12 +1,11 @@
 -- Requests for objects, one after another.
-use Rattle.std.proofs.Common.{All, ℕ, ◌+◌, ◌≡◌, ◌≤◌, ◌<◌, Bool, true, false, List, [], ◌∷◌, ◌++◌, Option, Some, None, length, take, drop, refl, sym, ap, ◌∙◌, add-one, drop-cons, append-nil, arith}
-use Rattle.std.specs.Prelude.{not, nat_lt, is_none, if◌then◌else◌}
+use Rattle.std.proofs.Common.{All, ℕ, ◌+◌, ◌≡◌, ◌≤◌, ◌<◌, Bool, true, false, List, [], ◌∷◌, ◌++◌, Option, Some, None, length, take, drop, refl, sym, ◌∙◌, add-one, drop-cons, append-nil}
+use Rattle.std.specs.Prelude.{not, nat_lt, is_none}
 use Rattle.std.specs.Prelude.{cond, ◌==◌}
 use Rattle.std.specs.Option.{is_some}
 use Rattle.std.specs.Ordering.{is_ge, nat_cmp}
 use Rattle.std.specs.declared.cmp.Ordering.TheVariants.{Less, Equal, Greater}
 use Rattle.std.proofs.Math.ListN.{get_or}
-use Rattle.std.proofs.lemmas.Bool.Decides.{nat_tests}
 use Rattle.std.proofs.lemmas.List.{drop_all, take_all}
 use Rattle.zeus_packet.specs.declared.letter.Body.TheVariants.{OReq}
 use Rattle.zeus_packet.specs.declared.letter.Letter.{Letter}

@@ -142,7 +142,7 @@ pub struct Effect {
 }
 
 impl Effect {
-    /// An effect with room for 64 letters and 72 passes, and nothing in it; `NoMemory` where that room is not there.
+    /// An effect with room for 64 letters and 72 passes, and nothing in it; `NoMemory` if that room is not there.
     pub fn new(alloc: Global) -> Result<Effect, NoMemory>
         ensures { IfOk result IsCleared }
     {

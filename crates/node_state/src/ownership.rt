@@ -15,7 +15,7 @@ use zeus_base::{NodeId, ObjId, SlotId, Stamp};
 use zeus_packet::{Cause, Content, Place, Proposal, Want, source};
 
 impl NodeState {
-    /// Settles a stamp and its placement of the object where the stamp is above the settled one, and then drops a held
+    /// Settles a stamp and its placement of the object if the stamp is above the settled one, and then drops a held
     /// proposal and a gather that are not above it. Else nothing changes.
     pub fn settle(&mut self, obj: ObjId, stamp: Stamp, place: Place)
         requires object { obj < length self.old.entries }
@@ -29,8 +29,8 @@ impl NodeState {
         }
     }
 
-    /// Holds the proposal for the object in place of any other, whatever their stamps. True exactly where this one was
-    /// not held.
+    /// Holds the proposal for the object in place of any other, whatever their stamps. True exactly if this one was not
+    /// held.
     pub fn hold(&mut self, obj: ObjId, p: &Proposal) -> bool
         requires object { obj < length self.old.entries }
         requires proposal { proposal_fits (limits_of self.old) p.now ≡ true }
@@ -101,7 +101,7 @@ impl NodeState {
         cause_of(give_up(&self.copies, obj, self.me, requester, keeper))
     }
 
-    /// The content of the node's copy, where the node is the source of the placement and has one.
+    /// The content of the node's copy, if the node is the source of the placement and has one.
     #[tactic(auto, unfolding(zeus_model::specs::Ownership::own_content, zeus_model::specs::Ownership::content_of))]
     pub fn own_content(&self, obj: ObjId, place: &Place) -> Option<Content>
         ensures { result ≡ own_content self.now obj place.now }
@@ -116,8 +116,8 @@ impl NodeState {
         })
     }
 
-    /// Notes that the sender has acknowledged the proposal, and the content where none came before; in the gather of
-    /// the proposal's stamp, or in a new one in place of a lesser one. Where a greater one stands, nothing changes.
+    /// Notes that the sender has acknowledged the proposal, and the content if none came before; in the gather of the
+    /// proposal's stamp, or in a new one in place of a lesser one. If a greater one stands, nothing changes.
     pub fn take_ack(
         &mut self,
         obj: ObjId,
@@ -142,8 +142,8 @@ impl NodeState {
         self.gathers.decided(obj, self.members, self.dir.nodes())
     }
 
-    /// The node takes the content as its copy, valid, where it is the requester of the proposal, and drops its copy
-    /// where it wished to leave. At another node nothing changes.
+    /// The requester of the proposal takes the content as its copy, valid, or drops its copy if it wished to leave. At
+    /// another node nothing changes.
     pub fn bring(&mut self, obj: ObjId, p: &Proposal, content: &Content)
         requires { obj < length self.old.entries }
         ensures { self.new ≡ bring self.old obj p.now content.now }

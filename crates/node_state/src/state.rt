@@ -55,7 +55,7 @@ impl NodeState {
     ///
     /// # Errors
     ///
-    /// `NoMemory` where that memory is not there.
+    /// `NoMemory` if that memory is not there.
     pub fn new(alloc: Global, config: &Config, me: NodeId) -> Result<NodeState, NoMemory>
         requires limits { KeepsLimits config.now }
         requires me { me < config.now.nodes }

@@ -1,20 +1,18 @@
 -- What a collector gathers and decides.
 use Rattle.std.specs.Prelude.{if◌then◌else◌}
-use Rattle.std.proofs.Common.{ℕ, ◌≡◌, ◌<◌, ◌≤◌, Bool, true, false, List, Option, Some, None, length, refl, sym, ap, ◌∙◌}
+use Rattle.std.proofs.Common.{ℕ, ◌≡◌, ◌<◌, Bool, true, false, List, Option, Some, None, length, refl, ap, ◌∙◌}
 use Rattle.zeus_base.specs.TableLaws.{put-nth}
 use Rattle.zeus_base.specs.declared.order.Stamp.{Stamp}
 use Rattle.zeus_packet.specs.Fits.{proposal_fits}
 use Rattle.zeus_packet.specs.declared.place.Proposal.{Proposal}
 use Rattle.zeus_packet.specs.declared.write.Content.{Content}
-use Rattle.zeus_model.specs.declared.answer.Outcome.{Outcome}
 use Rattle.zeus_model.specs.declared.state.Gather.{Gather}
 use Rattle.zeus_model.specs.Act.{Act, just}
-use Rattle.zeus_model.specs.Ownership.{collect_or_refuse, decide, decide_with, gather_for, gather_or_older, greater_gather, is_decidable, is_noted}
+use Rattle.zeus_model.specs.Ownership.{decide, decide_with, greater_gather, is_decidable, is_noted}
 use Rattle.zeus_model.specs.State.{Node, gather, with_gather}
-use Rattle.arbitration.specs.declared.gathers.Ack.{Ack}
 use Rattle.arbitration.specs.declared.gathers.Ack.TheVariants.{New, Again, Older}
 use Rattle.arbitration.specs.declared.gathers.Decision.{Decision}
-use Rattle.arbitration.specs.Gathering.{ack_at, ack_by, decision_of, decision_with, gathered, gathered_by, outcome_of}
+use Rattle.arbitration.specs.Gathering.{ack_by, decision_of, decision_with, gathered, gathered_by}
 use Rattle.arbitration.specs.GatheringLaws.{carried_out, decide-carried_out}
 use Rattle.node_ranges.specs.Ranges.{FitsGather, limits_of}
 

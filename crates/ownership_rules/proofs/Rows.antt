@@ -1,6 +1,6 @@
 -- The rules of ownership, case by case.
 use Rattle.std.specs.Prelude.{◌&&◌, not, if◌then◌else◌}
-use Rattle.std.proofs.Common.{ℕ, ◌≡◌, ◌<◌, Bool, true, false, List, [], ◌∷◌, Option, Some, None, length, refl, sym, ap, ◌∙◌}
+use Rattle.std.proofs.Common.{ℕ, ◌≡◌, ◌<◌, Bool, true, false, Option, Some, None, length, refl}
 use Rattle.std.proofs.lemmas.Bool.{cond_both}
 use Rattle.zeus_base.specs.Nodes.{has}
 use Rattle.zeus_base.specs.Order.{is_below}
@@ -14,7 +14,7 @@ use Rattle.zeus_packet.specs.declared.place.Want.{Want}
 use Rattle.zeus_packet.specs.declared.write.Content.{Content}
 use Rattle.zeus_model.specs.declared.answer.Outcome.TheVariants.{Taken, Again, Refused}
 use Rattle.zeus_model.specs.Act.{just}
-use Rattle.zeus_model.specs.Ownership.{accept_cause, answer_settled, collect_cause, collect_or_refuse, drive_cause, driven, greater_cause, hold_cause, hold_or_refuse, is_held, is_source, oack_on_base, oinv_on_base, on_oack, on_oinv, on_oval, rebased, refuse_proposal, request_cause, settle, source_cause, takes_over, unready_cause}
+use Rattle.zeus_model.specs.Ownership.{accept_cause, answer_settled, collect_cause, collect_or_refuse, drive_cause, greater_cause, hold_cause, hold_or_refuse, is_held, is_source, oack_on_base, oinv_on_base, on_oack, on_oinv, on_oval, rebased, refuse_proposal, request_cause, settle, source_cause, takes_over, unready_cause}
 use Rattle.zeus_model.specs.State.{Node, entry, no_entry}
 use Rattle.zeus_model.specs.Tables.{or_else, where_true}
 use Rattle.directory.specs.declared.drive.Drive.TheVariants.{Yes, No}

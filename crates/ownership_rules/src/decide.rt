@@ -20,7 +20,7 @@ pub(crate) fn decide(node: &mut NodeState, obj: ObjId, out: &mut Effect)
     }
 }
 
-/// Tells the other members the new placement and settles it, and takes the content where the node is the requester.
+/// Tells the other members the new placement and settles it, and takes the content if the node is the requester.
 fn carry_out(node: &mut NodeState, obj: ObjId, p: &Proposal, content: &Content, out: &mut Effect)
     requires object { obj < length node.old.entries }
     requires proposal { proposal_fits (limits_of node.old) p.now ≡ true }

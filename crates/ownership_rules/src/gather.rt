@@ -14,10 +14,10 @@ use zeus_base::{NodeId, ObjId};
 use zeus_model::Outcome;
 use zeus_packet::{Cause, Content, Proposal, new_place};
 
-/// An acknowledgement of a proposal for the object by the node `from`, with the content where that is the source. Where
-/// the proposal's stamp is not above the settled one, the settled placement is the answer. Else its base is settled where
-/// that is above; then the sender and the content are noted, and the node decides if it can. It is refused where the
-/// requester is a member and another node, or where a placement would make the node the owner without its own request.
+/// An acknowledgement of a proposal for the object by the node `from`, with the content if that is the source. If the
+/// proposal's stamp is not above the settled one, the settled placement is the answer. Else its base is settled if that
+/// is above; then the sender and the content are noted, and the node decides if it can. It is refused if the requester
+/// is a member and another node, or if a placement would make the node the owner without its own request.
 pub fn on_oack(
     node: &mut NodeState,
     from: NodeId,
@@ -60,7 +60,7 @@ fn collect_cause(node: &NodeState, obj: ObjId, p: &Proposal) -> Option<Cause>
     None
 }
 
-/// Notes the sender and the content where no greater proposal is gathered, and decides if it can.
+/// Notes the sender and the content if no greater proposal is gathered, and decides if it can.
 fn gather(
     node: &mut NodeState,
     from: NodeId,

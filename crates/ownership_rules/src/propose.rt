@@ -12,10 +12,10 @@ use zeus_base::{NodeId, ObjId, Stamp};
 use zeus_model::Outcome;
 use zeus_packet::{Cause, Place, Proposal};
 
-/// A proposal for the object, sent by the node `from`. Where its stamp is not above the settled one, the settled
-/// placement is the answer. Else its base is settled where that is above, and then the proposal is held in place of a
-/// lesser one and acknowledged; or it is refused with the first cause against it, which is told to the requester where
-/// that is a member. A base that was settled stays settled.
+/// A proposal for the object, sent by the node `from`. If its stamp is not above the settled one, the settled placement
+/// is the answer. Else its base is settled if that is above. Then the proposal is held in place of a lesser one and
+/// acknowledged, or it is refused with the first cause against it, which is told to the requester if that is a member. A
+/// base that was settled stays settled.
 pub fn on_oinv(
     node: &mut NodeState,
     from: NodeId,
@@ -40,8 +40,8 @@ pub fn on_oinv(
     }
 }
 
-/// Settles the base of the proposal where it is above the settled stamp. Where the base would make the node the owner,
-/// nothing changes, and the answer is false.
+/// Settles the base of the proposal if it is above the settled stamp. If the base would make the node the owner, nothing
+/// changes, and the answer is false.
 pub(crate) fn settle_base(node: &mut NodeState, obj: ObjId, p: &Proposal) -> bool
     requires object { obj < length node.old.entries }
     requires proposal { proposal_fits (limits_of node.old) p.now ≡ true }
@@ -96,7 +96,7 @@ fn greater_cause(stamp: Stamp, held: &Option<Proposal>) -> Option<Cause>
     }
 }
 
-/// Why a source does not give the object up. That it keeps the object counts only where the proposal is not held yet.
+/// Why a source does not give the object up. That it keeps the object counts only if the proposal is not held yet.
 fn accept_cause(node: &NodeState, obj: ObjId, p: &Proposal) -> Option<Cause>
     requires { obj < length node.now.entries }
     ensures { result ≡ accept_cause node.now obj p.now }
@@ -134,7 +134,7 @@ fn hold(node: &mut NodeState, from: NodeId, obj: ObjId, p: &Proposal, out: &mut 
     }
 }
 
-/// A decided placement of the object: it is settled where its stamp is above the settled one, but where it would make
+/// A decided placement of the object: it is settled if its stamp is above the settled one, and refused if it would make
 /// the node the owner. Nothing is sent.
 pub fn on_oval(node: &mut NodeState, obj: ObjId, stamp: Stamp, place: Place) -> Outcome
     requires object { obj < length node.old.entries }

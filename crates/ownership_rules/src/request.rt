@@ -53,7 +53,7 @@ fn may_drive(node: &NodeState, obj: ObjId, requester: NodeId, want: Want) -> Dri
     }
 }
 
-/// The first cause of the source against the requester, where the node is the source of the settled placement.
+/// The first cause of the source against the requester, if the node is the source of the settled placement.
 fn settled_source_cause(node: &NodeState, obj: ObjId, requester: NodeId) -> Option<Cause>
     requires { obj < length node.now.entries }
     ensures { result ≡ (if is_source node.now (entry node.now obj).place then source_cause node.now obj requester else None) }

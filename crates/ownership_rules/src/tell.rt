@@ -8,7 +8,7 @@ use zeus_base::{NodeId, ObjId};
 use zeus_model::Outcome;
 use zeus_packet::{Body, Cause, Proposal};
 
-/// Refuses the proposal, and tells the requester why where it is a member.
+/// Refuses the proposal, and tells the requester why if that is a member.
 pub(crate) fn refuse(
     node: &NodeState,
     obj: ObjId,

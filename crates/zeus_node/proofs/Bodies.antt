@@ -1,6 +1,6 @@
 -- The rules of letters, body by body.
 use Rattle.std.specs.Prelude.{◌&&◌, ◌==◌, not}
-use Rattle.std.proofs.Common.{ℕ, ◌≡◌, ◌<◌, Bool, true, false, List, [], ◌∷◌, ◌++◌, Option, Some, None, length, refl, sym, ap, ◌∙◌, arith}
+use Rattle.std.proofs.Common.{ℕ, ◌≡◌, ◌<◌, true, false, [], Option, Some, None, refl, arith}
 use Rattle.std.proofs.lemmas.Bool.{and_parts, cond_both, eq-eqb, ne_eqb}
 use Rattle.zeus_base.specs.Order.{is_below}
 use Rattle.zeus_base.specs.declared.config.Limits.{Limits}
@@ -19,9 +19,9 @@ use Rattle.zeus_packet.specs.declared.write.Content.{Content}
 use Rattle.zeus_model.specs.declared.answer.Outcome.{Outcome}
 use Rattle.zeus_model.specs.declared.answer.Outcome.TheVariants.{Stopped, NotMine, OtherEpoch, NotOpen}
 use Rattle.zeus_model.specs.declared.state.Gather.{Gather}
-use Rattle.zeus_model.specs.Act.{Act, Did, did_then, just}
+use Rattle.zeus_model.specs.Act.{Act, Did, just}
 use Rattle.zeus_model.specs.Commit.{finish, on_kept_rack, on_own_rack, on_rack, on_rinv, on_rval, stored_rinv}
-use Rattle.zeus_model.specs.Ownership.{answer_request, collect_cause, collect_or_refuse, decide, decide_gathered, decide_on, gather_for, gather_or_older, greater_gather, hold_cause, hold_or_refuse, is_decidable, oack_on_base, oinv_on_base, on_oack, on_oinv, on_oreq, on_oval, rebased, request_cause, take_ack, takes_over}
+use Rattle.zeus_model.specs.Ownership.{answer_request, collect_cause, collect_or_refuse, decide_gathered, decide_on, gather_for, gather_or_older, greater_gather, hold_cause, hold_or_refuse, is_decidable, oack_on_base, oinv_on_base, on_oack, on_oinv, on_oreq, on_oval, rebased, request_cause, take_ack}
 use Rattle.zeus_model.specs.Receive.{needs_open, on_recovered, receive, receive_or_not, row, untaken}
 use Rattle.zeus_model.specs.State.{Node, entry, gather, is_open}
 use Rattle.zeus_model.specs.Tables.{or_else, where_true}

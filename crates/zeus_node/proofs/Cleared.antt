@@ -1,9 +1,9 @@
 -- What a rule leaves in an effect with nothing in it.
-use Rattle.std.proofs.Common.{ℕ, ◌≡◌, ◌<◌, ◌≤◌, [], length, take, refl, arith}
+use Rattle.std.proofs.Common.{◌≡◌, ◌<◌, ◌≤◌, length, take, arith}
 use Rattle.zeus_model.specs.Act.{Did}
 use Rattle.zeus_model.specs.State.{Node}
 use Rattle.node_state.specs.declared.effect.Effect.{Effect}
-use Rattle.node_state.specs.Done.{Adds, IsDone}
+use Rattle.node_state.specs.Done.{IsDone}
 use Rattle.node_state.specs.Effect.{IsCleared}
 
 -- there is room for letters and passes

@@ -3,6 +3,8 @@
 
 mod node;
 mod receiving;
+#[cfg(test)]
+mod tests;
 
 pub use node::Node;
 pub use node_state::{Effect, Letters, PassedList};

@@ -44,7 +44,7 @@ impl Node {
     ///
     /// # Errors
     ///
-    /// `NoMemory` where that memory is not there.
+    /// `NoMemory` if that memory is not there.
     pub fn new(alloc: Global, config: &Config, me: NodeId) -> Result<Node, NoMemory>
         requires limits { KeepsLimits config.now }
         requires me { me < config.now.nodes }
@@ -201,7 +201,7 @@ impl Node {
         entry.place.owner == self.state.me() && entry.proposal.is_none()
     }
 
-    /// The node's copy of the object, where it has one.
+    /// The node's copy of the object, if it has one.
     pub fn copy(&self, obj: ObjId) -> Option<Copy>
         ensures { result ≡ copy self.now obj }
     {

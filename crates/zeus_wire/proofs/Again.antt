@@ -12,6 +12,7 @@ use Rattle.zeus_wire.proofs.Numbers.{u32_again, u8_again}
 use Rattle.zeus_wire.proofs.Fields.{node_again}
 use Rattle.zeus_wire.proofs.Bodies.{body_again}
 
+-- a packet that was written is read again
 pub packet_again : (limits : Limits) (p : Packet) (rest : List ℕ) → AreLimits limits → IsPacket p → fits p.letter limits ≡ true → packet_at limits (packet_bytes limits.version p ++ rest) ≡ Ok (p, rest)
 unfolding packet_at packet_bytes fits and_then
 packet_again limits p rest are is fit =
@@ -41,6 +42,7 @@ one_read p q rest more read first second =
     let same : (p, rest) ≡ (q, more) = one_value (p, rest) (q, more) read first second in
     (ap (λ (x : Packet × List ℕ). x.0) same, ap (λ (x : Packet × List ℕ). x.1) same)
 
+-- no spelling begins another
 pub no_prefix : (limits : Limits) (p q : Packet) (rest more : List ℕ) → AreLimits limits → IsPacket p → fits p.letter limits ≡ true → IsPacket q → fits q.letter limits ≡ true
     → packet_bytes limits.version p ++ rest ≡ packet_bytes limits.version q ++ more → (p ≡ q) × (rest ≡ more)
 no_prefix limits p q rest more are isp fitp isq fitq same =

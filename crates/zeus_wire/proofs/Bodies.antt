@@ -106,6 +106,7 @@ wish_tagged limits Own left bytes = (refl, refl, refl)
 wish_tagged limits Read left bytes = (refl, refl, refl)
 wish_tagged limits Leave left bytes = (refl, refl, refl)
 
+-- what a letter says that was written is read again
 pub body_again : (limits : Limits) (body : Body) (rest : List ℕ) → AreLimits limits → IsBody body → body_fits limits body ≡ true → body_at limits (body_bytes limits.version body ++ rest) ≡ Ok (body, rest)
 unfolding body_at body_behind body_bytes body_fits rinv_at rack_at rval_at onack_at oval_at has_leaver may_own IsBody u8_at and_then
 body_again limits (RInv r) rest are is fits = rw (inv_again limits r rest are is fits) refl

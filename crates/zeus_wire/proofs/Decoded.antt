@@ -23,6 +23,7 @@ front_again limits p rest are is fit =
     let count : length (packet_bytes limits.version p ++ rest) - length rest ≡ length (packet_bytes limits.version p) = omega (arith, length-append (packet_bytes limits.version p) rest) in
     rw (packet_again limits p rest are is fit, count) refl
 
+-- all of a spelling is decoded as its packet
 pub decoded_again : (limits : Limits) (p : Packet) → AreLimits limits → IsPacket p → fits p.letter limits ≡ true → decoded limits (packet_bytes limits.version p) ≡ Ok p
 unfolding decoded without_rest
 decoded_again limits p are is fit =
@@ -43,6 +44,7 @@ whole_found count (Ok x) p within e =
     ap (λ (q : Packet). Ok (q, x.1)) t.1 ∙ ap (λ (rest : List ℕ). Ok (p, rest)) none
 whole_found count (Err fault) p within e = absurd cc
 
+-- what was decoded is spelled so, and fits
 pub decoded_found : (limits : Limits) (bytes : List ℕ) (p : Packet) → AreBytes bytes → decoded limits bytes ≡ Ok p → (bytes ≡ packet_bytes limits.version p) × (fits p.letter limits ≡ true)
 unfolding decoded decoded_front
 decoded_found limits bytes p are e =
@@ -52,6 +54,7 @@ decoded_found limits bytes p are e =
     let found = one_spelling limits bytes p [] are (whole_found (length bytes) (packet_at limits bytes) p within e) in
     (found.0 ∙ append-nil (packet_bytes limits.version p), found.2)
 
+-- the same of a result that may be a fault
 pub is_found : (limits : Limits) (bytes : List ℕ) (r : Result Packet WireFault) → AreBytes bytes → r ≡ decoded limits bytes → IfOk r (λ p. (bytes ≡ packet_bytes limits.version p) × (fits p.letter limits ≡ true))
 is_found limits bytes (Ok p) are e = decoded_found limits bytes p are (sym e)
 is_found limits bytes (Err fault) are e = tt

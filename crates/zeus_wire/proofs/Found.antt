@@ -12,6 +12,7 @@ use Rattle.zeus_wire.specs.Reading.{Reader, and_then, checked, bytes_at, gives, 
 
 -- ---- the steps of a reader that gave a value
 
+-- a reader in two steps gave a value, so each step did
 pub and_then_ok : {A B : Type 0} (r : Result (A × List ℕ) Fault) (next : A → Reader B) (y : B × List ℕ) → and_then r next ≡ Ok y → (x : A × List ℕ) × (r ≡ Ok x) × (next x.0 x.1 ≡ Ok y)
 unfolding and_then
 and_then_ok (Ok x) next y e = (x, refl, e)
@@ -21,6 +22,7 @@ test_ok : {A : Type 0} (b : Bool) (f : Fault) (x y : A) → cond b (Ok x) (Err f
 test_ok true f x y e = (refl, cc)
 test_ok false f x y e = absurd cc
 
+-- a field that was read passed its test
 pub checked_ok : {A : Type 0} (test : A → Bool) (r : Reader A) (bytes : List ℕ) (y : A × List ℕ) → checked test r bytes ≡ Ok y → (r bytes ≡ Ok y) × (test y.0 ≡ true)
 checked_ok {A = A} test r bytes y e =
     let s = and_then_ok (r bytes) (λ (x : A) rest. cond (test x) (Ok (x, rest)) (Err (Field (length bytes)))) y e in
@@ -31,6 +33,7 @@ checked_ok {A = A} test r bytes y e =
 ok_is : {A : Type 0} (x y : A) (f : Fault) → cond true (Ok x) (Err f) ≡ Ok y → x ≡ y
 ok_is x y f e = cc
 
+-- what is given without a byte is what was given
 pub gives_ok : {A : Type 0} (x : A) (bytes : List ℕ) (y : A × List ℕ) → gives x bytes ≡ Ok y → y ≡ (x, bytes)
 gives_ok x bytes y e = sym (ok_is (x, bytes) y Short e)
 
@@ -44,6 +47,7 @@ pub record Took (bytes text behind : List ℕ) : Type 0 where
   pub parts : bytes ≡ text ++ behind
   pub left : AreBytes behind
 
+-- two parts that were taken one after the other
 pub took_both : (a x b y c : List ℕ) → Took a x b → Took b y c → Took a (x ++ y) c
 took_both a x b y c p q = record { parts = p.parts ∙ ap (λ t. x ++ t) q.parts ∙ sym (append_assoc x y c); left = q.left }
 
@@ -59,6 +63,7 @@ AreBytes-take n bytes h i =
       | inr le ↦ rw (get_or_past (take n bytes) i 0 (omega (arith, length-take n bytes))) (omega arith)
     ]
 
+-- a byte that was read was written so, and keeps its range
 pub u8_found : (bytes : List ℕ) (y : ℕ × List ℕ) → AreBytes bytes → u8_at bytes ≡ Ok y → Took bytes (y.0 ∷ []) y.1 × (y.0 < 256)
 unfolding u8_at
 u8_found [] y are e = absurd cc
@@ -69,6 +74,7 @@ short_ok : {A : Type 0} (b : Bool) (f : Fault) (x y : A) → cond b (Err f) (Ok 
 short_ok true f x y e = absurd cc
 short_ok false f x y e = (refl, cc)
 
+-- bytes that were read stood at the front
 pub bytes_found : (n : ℕ) (bytes : List ℕ) (y : List ℕ × List ℕ) → AreBytes bytes → bytes_at n bytes ≡ Ok y → Took bytes y.0 y.1 × (length y.0 ≡ n) × AreBytes y.0
 unfolding bytes_at
 bytes_found n bytes y are e =
@@ -77,6 +83,7 @@ bytes_found n bytes y are e =
     subst (λ (z : List ℕ × List ℕ). Took bytes z.0 z.1 × (length z.0 ≡ n) × AreBytes z.0) t.1
     (record { parts = sym (take-append-drop n bytes); left = AreBytes-drop n bytes are }, omega (arith, length-take n bytes), AreBytes-take n bytes are)
 
+-- a number of 32 bits that was read was written so, and keeps its range
 pub u32_found : (bytes : List ℕ) (y : ℕ × List ℕ) → AreBytes bytes → u32_at bytes ≡ Ok y → Took bytes (u32_bytes y.0) y.1 × (y.0 < 2 ^ 32)
 unfolding u32_at u32_bytes
 u32_found bytes y are e =
@@ -86,6 +93,7 @@ u32_found bytes y are e =
     let text : to_be_bytes w32 (from_be_bytes w32 s.0.0) ≡ s.0.0 = be_bytes_4 s.0.0 _ front.1 front.2 refl in
     rw is (rw text front.0, omega (arith, front.2 0, front.2 1, front.2 2, front.2 3))
 
+-- a number of 16 bits that was read was written so, and keeps its range
 pub u16_found : (bytes : List ℕ) (y : ℕ × List ℕ) → AreBytes bytes → u16_at bytes ≡ Ok y → Took bytes (u16_bytes y.0) y.1 × (y.0 < 2 ^ 16)
 unfolding u16_at u16_bytes
 u16_found bytes y are e =
@@ -95,6 +103,7 @@ u16_found bytes y are e =
     let text : to_be_bytes w16 (from_be_bytes w16 s.0.0) ≡ s.0.0 = be_bytes_2 s.0.0 _ front.1 front.2 refl in
     rw is (rw text front.0, omega (arith, front.2 0, front.2 1))
 
+-- a number of 64 bits that was read was written so, and keeps its range
 pub u64_found : (bytes : List ℕ) (y : ℕ × List ℕ) → AreBytes bytes → u64_at bytes ≡ Ok y → Took bytes (u64_bytes y.0) y.1 × (y.0 < 2 ^ 64)
 unfolding u64_at u64_bytes
 u64_found bytes y are e =

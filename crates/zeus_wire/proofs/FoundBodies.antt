@@ -302,6 +302,7 @@ told limits left tag bytes y are e =
     (tag_found limits tag 21 (oinv_at limits true) _ bytes y (oinv_found limits true bytes y are)
     (tag_found limits tag 22 (oack_at limits true) _ bytes y (oack_found limits true bytes y are) (λ none. absurd cc)))))))))))) e
 
+-- what a letter says that was read was written so, and keeps its range
 pub body_found : (limits : Limits) (bytes : List ℕ) (y : Body × List ℕ) → AreBytes bytes → body_at limits bytes ≡ Ok y → Took bytes (body_bytes limits.version y.0) y.1 × IsBody y.0 × (body_fits limits y.0 ≡ true)
 unfolding body_at
 body_found limits bytes y are e =

@@ -19,18 +19,21 @@ use Rattle.zeus_wire.proofs.Sets.{set_of_byte}
 use Rattle.zeus_wire.proofs.Fields.{has_wish}
 use Rattle.zeus_wire.proofs.Found.{Took, took_both, and_then_ok, checked_ok, gives_ok, u8_found, u16_found, u64_found}
 
+-- a node that was read was written so, and keeps its range
 pub node_found : (limits : Limits) (bytes : List ℕ) (y : ℕ × List ℕ) → AreBytes bytes → node_at limits bytes ≡ Ok y → Took bytes (y.0 ∷ []) y.1 × (nat_lt y.0 limits.nodes ≡ true)
 unfolding node_at
 node_found limits bytes y are e =
     let c = checked_ok (λ n. nat_lt n limits.nodes) u8_at bytes y e in
     ((u8_found bytes y are c.0).0, c.1)
 
+-- a slot that was read was written so, and keeps its range
 pub slot_found : (limits : Limits) (bytes : List ℕ) (y : ℕ × List ℕ) → AreBytes bytes → slot_at limits bytes ≡ Ok y → Took bytes (y.0 ∷ []) y.1 × (nat_lt y.0 limits.slots ≡ true)
 unfolding slot_at
 slot_found limits bytes y are e =
     let c = checked_ok (λ s. nat_lt s limits.slots) u8_at bytes y e in
     ((u8_found bytes y are c.0).0, c.1)
 
+-- an object that was read was written so, and keeps its range
 pub object_found : (limits : Limits) (bytes : List ℕ) (y : ℕ × List ℕ) → AreBytes bytes → object_at limits bytes ≡ Ok y → Took bytes (u16_bytes y.0) y.1 × (object_fits limits y.0 ≡ true)
 unfolding object_at object_fits
 object_found limits bytes y are e =
@@ -46,6 +49,7 @@ any_set_found bytes y are e =
     let set = set_of_byte a.0.0 (nodes_of a.0.0) refl (omega (arith, byte.1)) in
     rw made (rw set.1 byte.0, set.0)
 
+-- a set of nodes that was read was written so, and keeps its range
 pub set_found : (limits : Limits) (bytes : List ℕ) (y : List ℕ × List ℕ) → AreBytes bytes → set_at limits bytes ≡ Ok y → Took bytes (set_bytes y.0) y.1 × IsSet y.0 × (nodes_fit limits y.0 ≡ true)
 unfolding set_at
 set_found limits bytes y are e =
@@ -53,6 +57,7 @@ set_found limits bytes y are e =
     let set = any_set_found bytes y are c.0 in
     (set.0, set.1, c.1)
 
+-- a stream that was read was written so, and keeps its range
 pub stream_found : (limits : Limits) (bytes : List ℕ) (y : Stream × List ℕ) → AreBytes bytes → stream_at limits bytes ≡ Ok y → Took bytes (stream_bytes y.0) y.1 × (stream_fits limits y.0 ≡ true)
 unfolding stream_at stream_bytes stream_fits
 stream_found limits bytes y are e =
@@ -62,6 +67,7 @@ stream_found limits bytes y are e =
     let slot = slot_found limits a.0.1 b.0 node.0.left b.1 in
     rw (gives_ok _ _ _ b.2) (took_both _ _ _ _ _ node.0 slot.0, rw (node.1, slot.1) refl)
 
+-- a stamp that was read was written so, and keeps its range
 pub stamp_found : (limits : Limits) (bytes : List ℕ) (y : Stamp × List ℕ) → AreBytes bytes → stamp_at limits bytes ≡ Ok y → Took bytes (stamp_bytes y.0) y.1 × (y.0.ver < 2 ^ 64) × (stamp_fits limits y.0 ≡ true)
 unfolding stamp_at stamp_bytes stamp_fits
 stamp_found limits bytes y are e =
@@ -71,6 +77,7 @@ stamp_found limits bytes y are e =
     let driver = node_found limits a.0.1 b.0 ver.0.left b.1 in
     rw (gives_ok _ _ _ b.2) (took_both _ _ _ _ _ ver.0 driver.0, ver.1, driver.1)
 
+-- a placement that was read was written so, and keeps its range
 pub place_found : (limits : Limits) (leaver : Option ℕ) (bytes : List ℕ) (y : Place × List ℕ) → AreBytes bytes → place_at limits leaver bytes ≡ Ok y
     → Took bytes (place_bytes y.0) y.1 × IsSet y.0.replicas × (place_fits limits y.0 ≡ true) × (may_own leaver y.0.owner ≡ true) × (has_leaver leaver y.0.replicas ≡ true)
 unfolding place_at place_bytes place_fits
@@ -90,6 +97,7 @@ wish_fits Own requester base own leaves = refl
 wish_fits Read requester base own leaves = refl
 wish_fits Leave requester base own leaves = rw (own, leaves) refl
 
+-- a proposal that was read was written so, and keeps its range
 pub proposal_found : (limits : Limits) (want : Want) (bytes : List ℕ) (y : Proposal × List ℕ) → AreBytes bytes → proposal_at limits want bytes ≡ Ok y
     → Took bytes (proposal_bytes y.0) y.1 × IsProposal y.0 × (proposal_fits limits y.0 ≡ true) × (y.0.want ≡ want)
 unfolding proposal_at proposal_bytes proposal_fits
@@ -117,6 +125,7 @@ test_want (suc zero) h = (refl, refl)
 test_want (suc (suc zero)) h = (refl, refl)
 test_want (suc (suc (suc n))) h = absurd (grind (arith, nat_tests))
 
+-- a wish that was read was written so, and keeps its range
 pub want_found : (wishes : Bool) (bytes : List ℕ) (y : Want × List ℕ) → AreBytes bytes → want_at wishes bytes ≡ Ok y → Took bytes (wish_bytes y.0) y.1 × (has_wish y.0 ≡ wishes)
 unfolding want_at wish_bytes has_wish
 want_found false bytes y are e = rw (gives_ok Own bytes y e) (record { parts = refl; left = are }, refl)

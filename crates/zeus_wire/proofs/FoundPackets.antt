@@ -11,6 +11,7 @@ use Rattle.zeus_wire.proofs.Found.{Took, took_both, and_then_ok, checked_ok, giv
 use Rattle.zeus_wire.proofs.FoundFields.{node_found}
 use Rattle.zeus_wire.proofs.FoundBodies.{body_found}
 
+-- a packet that was read was written so, and keeps its range
 pub packet_found : (limits : Limits) (bytes : List ℕ) (y : Packet × List ℕ) → AreBytes bytes → packet_at limits bytes ≡ Ok y → Took bytes (packet_bytes limits.version y.0) y.1 × IsPacket y.0 × (fits y.0.letter limits ≡ true)
 unfolding packet_at packet_bytes fits
 packet_found limits bytes y are e =
@@ -36,6 +37,7 @@ packet_found limits bytes y are e =
       rw (from.1, to.1, begun.1, body.2) refl,
     )
 
+-- what is read is spelled so, and fits
 pub one_spelling : (limits : Limits) (bytes : List ℕ) (p : Packet) (rest : List ℕ) → AreBytes bytes → packet_at limits bytes ≡ Ok (p, rest)
     → (bytes ≡ packet_bytes limits.version p ++ rest) × IsPacket p × (fits p.letter limits ≡ true)
 one_spelling limits bytes p rest are e =

@@ -69,6 +69,7 @@ value_found_by limits false bytes y are other e =
     let n = num_found bytes y are (rw other at e) in
     rw (n.1, other) (n.2, n.3, refl)
 
+-- a value that was read was written so, and keeps its range
 pub value_found : (limits : Limits) (bytes : List ℕ) (y : Value × List ℕ) → AreBytes bytes → value_at limits bytes ≡ Ok y → Took bytes (value_bytes limits.version y.0) y.1 × IsValue y.0 × (value_fits limits y.0 ≡ true)
 value_found limits bytes y are e = value_found_by limits (limits.version == 2) bytes y are refl e
 
@@ -83,6 +84,7 @@ flag_content limits (suc zero) bytes y h are e =
     rw (gives_ok _ _ _ b.2) (u64_bytes a.0.0 ++ value_bytes limits.version b.0.0, refl, took_both _ _ _ _ _ ver.0 value.0, (ver.1, value.1), value.2)
 flag_content limits (suc (suc n)) bytes y h are e = absurd (grind (arith, nat_tests))
 
+-- a content that was read was written so, and keeps its range
 pub content_found : (limits : Limits) (bytes : List ℕ) (y : Option Content × List ℕ) → AreBytes bytes → content_at limits bytes ≡ Ok y → Took bytes (content_bytes limits.version y.0) y.1 × IsContent y.0 × (content_fits limits y.0 ≡ true)
 unfolding content_at
 content_found limits bytes y are e =
@@ -124,6 +126,7 @@ pub record Added (limits : Limits) (count : ℕ) (before : List Write) (bytes : 
   pub fit : list_all (write_fits limits) added ≡ true
   pub once : are_once y.0 ≡ true
 
+-- writes that were read were written so, and are of different objects
 pub writes_found : (limits : Limits) (count : ℕ) (before : List Write) (bytes : List ℕ) (y : List Write × List ℕ) → AreBytes bytes → are_once before ≡ true → writes_at limits count before bytes ≡ Ok y → Added limits count before bytes y
 unfolding writes_at writes_bytes AreWrites
 writes_found limits zero before bytes y are once e =

@@ -9,24 +9,29 @@ use Rattle.zeus_wire.specs.Reading.{Reader, and_then, checked, bytes_at, u8_at, 
 
 -- ---- what was written is read again
 
+-- a byte that was written is read again
 pub u8_again : (b : ℕ) (rest : List ℕ) → u8_at (b ∷ rest) ≡ Ok (b, rest)
 unfolding u8_at
 u8_again b rest = refl
 
+-- so many bytes at the front are read again
 pub bytes_again : (n : ℕ) (bytes rest : List ℕ) → length bytes ≡ n → bytes_at n (bytes ++ rest) ≡ Ok (bytes, rest)
 unfolding bytes_at
 bytes_again n bytes rest len =
     let long : ltb (length (bytes ++ rest)) n ≡ false = le-ltb (length (bytes ++ rest)) n (omega (arith, length-append bytes rest)) in
     rw (long, take_at bytes rest n len, drop_at bytes rest n len) refl
 
+-- a number of 16 bits that was written is read again
 pub u16_again : (n : ℕ) (rest : List ℕ) → n < 2 ^ 16 → u16_at (u16_bytes n ++ rest) ≡ Ok (n, rest)
 unfolding u16_at u16_bytes and_then
 u16_again n rest fits = rw (bytes_again 2 (to_be_bytes w16 n) rest refl, from_be_bytes-to_be_bytes_2 n fits) refl
 
+-- a number of 32 bits that was written is read again
 pub u32_again : (n : ℕ) (rest : List ℕ) → n < 2 ^ 32 → u32_at (u32_bytes n ++ rest) ≡ Ok (n, rest)
 unfolding u32_at u32_bytes and_then
 u32_again n rest fits = rw (bytes_again 4 (to_be_bytes w32 n) rest refl, from_be_bytes-to_be_bytes_4 n fits) refl
 
+-- a number of 64 bits that was written is read again
 pub u64_again : (n : ℕ) (rest : List ℕ) → n < 2 ^ 64 → u64_at (u64_bytes n ++ rest) ≡ Ok (n, rest)
 unfolding u64_at u64_bytes and_then
 u64_again n rest fits = rw (bytes_again 8 (to_be_bytes w64 n) rest refl, from_be_bytes-to_be_bytes_8 n fits) refl

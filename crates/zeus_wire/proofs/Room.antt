@@ -15,6 +15,7 @@ pub longest_is : (version : ℕ) → (longest version ≡ 104 + 8 * longest_valu
 unfolding longest longest_value
 longest_is version = (grind (arith, nat_tests), grind (arith, nat_tests))
 
+-- the longest writes, by their count
 pub few_writes : (version : ℕ) (ws : List Write) → longest_writes version ws ≡ length ws * (10 + longest_value version)
 unfolding longest_writes
 few_writes version [] = omega arith
@@ -37,13 +38,16 @@ at_write version all i w before now lt is r =
 pub at_end : (version : ℕ) (all : List Write) (i : ℕ) (before now : Vec ℕ) → length all ≤ i → Remains version all (drop i all) before now → Remains version all [] before now
 at_end version all i before now le r = subst (λ rest. Remains version all rest before now) (at_drop_all (λ rest. rest) all i le) r
 
+-- the next write fits
 pub first_fits : (version : ℕ) (all rest : List Write) (w : Write) (before now : Vec ℕ) → Remains version all (w ∷ rest) before now → write_fits (largest version) w ≡ true
 first_fits version all rest w before now r = (both_true (write_fits (largest version) w) (list_all (write_fits (largest version)) rest) r.fits).0
 
+-- there is room for the next write
 pub first_room : (version : ℕ) (all rest : List Write) (w : Write) (before now : Vec ℕ) → Remains version all (w ∷ rest) before now → 10 + longest_value version ≤ room now
 unfolding longest_writes
 first_room version all rest w before now r = let enough : 10 + longest_value version + longest_writes version rest ≤ room now = r.enough in omega arith
 
+-- the next write is written, and the others remain
 pub first_done : (version : ℕ) (all rest : List Write) (w : Write) (before now after : Vec ℕ) → Remains version all (w ∷ rest) before now
     → after.items ≡ now.items ++ write_bytes version w → room now ≤ room after + (10 + longest_value version) → IsWrite w → Remains version all rest before after
 unfolding longest_writes writes_bytes AreWrites
@@ -58,6 +62,7 @@ first_done version all rest w before now after r bytes spent is =
       writes = λ others. r.writes (is, others);
     }
 
+-- all writes are written
 pub all_done : (version : ℕ) (all : List Write) (before now : Vec ℕ) → Remains version all [] before now
     → (now.items ≡ before.items ++ writes_bytes version all) × (room before ≤ room now + longest_writes version all) × AreWrites all
 unfolding longest_writes writes_bytes AreWrites

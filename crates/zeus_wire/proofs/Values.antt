@@ -48,9 +48,11 @@ value_by_version limits v rest true is second fits =
     rw (second, two) (tagged_again v rest is)
 value_by_version limits v rest false is other fits = rw other (plain_again limits v rest is other fits)
 
+-- a value that was written is read again
 pub value_again : (limits : Limits) (v : Value) (rest : List ℕ) → IsValue v → value_fits limits v ≡ true → value_at limits (value_bytes limits.version v ++ rest) ≡ Ok (v, rest)
 value_again limits v rest is fits = value_by_version limits v rest (limits.version == 2) is refl fits
 
+-- a content that was written is read again
 pub content_again : (limits : Limits) (content : Option Content) (rest : List ℕ) → IsContent content → content_fits limits content ≡ true → content_at limits (content_bytes limits.version content ++ rest) ≡ Ok (content, rest)
 unfolding content_at content_if some_content_at content_bytes content_fits IsContent and_then
 content_again limits None rest is fits = rw (u8_again 0 rest) refl
@@ -80,6 +82,7 @@ are_once-later (v ∷ before) w after h =
     let new : (names v.obj before || ((w.obj == v.obj) || names v.obj after)) ≡ false = sym (names-append v.obj before (w ∷ after)) ∙ not_true (names v.obj (before ++ (w ∷ after))) parts.0 in
     apart v.obj w.obj (names v.obj before) (names v.obj after) (names w.obj before) rest new
 
+-- writes of different objects are read again behind those before them
 pub writes_again : (limits : Limits) (before ws : List Write) (rest : List ℕ) → AreLimits limits → AreWrites ws → list_all (write_fits limits) ws ≡ true → are_once (before ++ ws) ≡ true
     → writes_at limits (length ws) before (writes_bytes limits.version ws ++ rest) ≡ Ok (before ++ ws, rest)
 unfolding writes_at writes_bytes AreWrites and_then

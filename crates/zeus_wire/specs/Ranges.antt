@@ -59,36 +59,44 @@ unfoldable pub IsValue : Value → Type 0
 IsValue (Num n) = n < 2 ^ 64
 IsValue (Text t) = IsText t
 
+-- a stamp's version has 64 bits
 abbrev pub IsStamp : Stamp → Type 0
 IsStamp s = s.ver < 2 ^ 64
 
+-- a proposal's stamps and replicas are such
 pub record IsProposal (p : Proposal) : Type 0 where
   pub stamp : IsStamp p.stamp
   pub base : IsStamp p.base
   pub replicas : IsSet p.base_place.replicas
 
+-- a write's version has 64 bits, and its value is one
 pub record IsWrite (w : Write) : Type 0 where
   pub ver : w.ver < 2 ^ 64
   pub value : IsValue w.value
 
+-- each of the writes is such
 unfoldable pub AreWrites : List Write → Type 0
 AreWrites [] = Unit {0}
 AreWrites (w ∷ ws) = IsWrite w × AreWrites ws
 
+-- a content's version has 64 bits, and its value is one
 unfoldable pub IsContent : Option Content → Type 0
 IsContent None = Unit {0}
 IsContent (Some c) = (c.ver < 2 ^ 64) × IsValue c.value
 
+-- a cause that names a stamp names such
 unfoldable pub IsCause : Cause → Type 0
 IsCause (Proposed s) = IsStamp s
 IsCause _ = Unit {0}
 
+-- an entry's numbers have 32 bits, and its followers and writes are such
 pub record IsInv (r : Inv) : Type 0 where
   pub number : r.number < 2 ^ 32
   pub done : r.done < 2 ^ 32
   pub followers : IsSet r.followers
   pub writes : AreWrites r.writes
 
+-- what a letter says has fields of their widths
 unfoldable pub IsBody : Body → Type 0
 IsBody (RInv r) = IsInv r
 IsBody (RAck s number) = number < 2 ^ 32

@@ -38,6 +38,7 @@ unfoldable pub and_then : {A B : Type 0} → Result (A × List ℕ) Fault → (A
 and_then (Ok x) next = next x.0 x.1
 and_then (Err fault) next = Err fault
 
+-- one reader after the other
 infixl 10 ◌>>=◌
 abbrev pub ◌>>=◌ : {A B : Type 0} → Reader A → (A → Reader B) → Reader B
 r >>= next = λ bytes. and_then (r bytes) next
@@ -54,6 +55,7 @@ checked test r = λ bytes. and_then (r bytes) (λ x rest. if test x then Ok (x, 
 unfoldable pub bytes_at : ℕ → Reader (List ℕ)
 bytes_at n = λ bytes. if nat_lt (length bytes) n then Err Short else Ok (take n bytes, drop n bytes)
 
+-- a byte
 unfoldable pub u8_at : Reader ℕ
 u8_at [] = Err Short
 u8_at (b ∷ rest) = Ok (b, rest)
@@ -94,12 +96,14 @@ any_set_at = do
 unfoldable pub set_at : Limits → Reader (List ℕ)
 set_at limits = checked (nodes_fit limits) any_set_at
 
+-- a stream: the node and the slot
 unfoldable pub stream_at : Limits → Reader Stream
 stream_at limits = do
   node ← node_at limits
   slot ← slot_at limits
   gives (record { node = node; slot = slot })
 
+-- a stamp: the version and the driver
 unfoldable pub stamp_at : Limits → Reader Stamp
 stamp_at limits = do
   ver ← u64_at
@@ -128,6 +132,7 @@ leaver_of Own requester = None
 leaver_of Read requester = None
 leaver_of Leave requester = Some requester
 
+-- a proposal of this wish
 unfoldable pub proposal_at : Limits → Want → Reader Proposal
 proposal_at limits want = do
   stamp ← stamp_at limits
@@ -140,14 +145,17 @@ proposal_at limits want = do
 abbrev pub is_printable : ℕ → Bool
 is_printable b = nat_le 33 b && nat_le b 126
 
+-- a value that is a number
 unfoldable pub num_at : Reader Value
 num_at = do
   n ← u64_at
   gives (Num n)
 
+-- a text of so many bytes
 unfoldable pub text_at : ℕ → Reader (List ℕ)
 text_at len = checked (list_all is_printable) (bytes_at len)
 
+-- a value that is a text
 unfoldable pub text_value_at : ℕ → Reader Value
 text_value_at len = do
   text ← text_at len
@@ -157,6 +165,7 @@ text_value_at len = do
 unfoldable pub num_or_text_at : ℕ → Reader Value
 num_or_text_at len = if len == 0 then num_at else text_value_at len
 
+-- a value of version 2
 unfoldable pub tagged_value_at : Reader Value
 tagged_value_at = do
   len ← checked (λ len. nat_le len 32) u8_at
@@ -183,12 +192,14 @@ unfoldable pub writes_at : Limits → ℕ → List Write → Reader (List Write)
 writes_at limits zero before = gives before
 writes_at limits (suc n) before = λ bytes. and_then (write_at limits before bytes) (λ w. writes_at limits n (before ++ w ∷ []))
 
+-- a content
 unfoldable pub some_content_at : Limits → Reader (Option Content)
 some_content_at limits = do
   ver ← u64_at
   value ← value_at limits
   gives (Some (record { ver = ver; value = value }))
 
+-- what stands behind the flag of a content
 unfoldable pub content_if : Limits → ℕ → Reader (Option Content)
 content_if limits flag = if flag == 0 then gives None else some_content_at limits
 
@@ -198,6 +209,7 @@ content_at limits = do
   flag ← checked (λ flag. nat_le flag 1) u8_at
   content_if limits flag
 
+-- the state of a number
 unfoldable pub state_of : ℕ → State
 state_of byte = if byte == 0 then Valid else (if byte == 1 then Invalid else Writing)
 
@@ -224,21 +236,25 @@ plain_cause byte =
     else (if byte == 15 then NotReader
     else (if byte == 16 then Degree else IsSource))))))))))))
 
+-- the cause that names a stamp
 unfoldable pub proposed_at : Limits → Reader Cause
 proposed_at limits = do
   stamp ← stamp_at limits
   gives (Proposed stamp)
 
+-- the cause that names the slot that holds
 unfoldable pub held_at : Limits → Reader Cause
 held_at limits = do
   slot ← slot_at limits
   gives (Held slot)
 
+-- the cause that names a state
 unfoldable pub not_valid_at : Reader Cause
 not_valid_at = do
   state ← state_at
   gives (NotValid state)
 
+-- the cause that names the slot that keeps
 unfoldable pub kept_at : Limits → Reader Cause
 kept_at limits = do
   slot ← slot_at limits
@@ -258,6 +274,7 @@ cause_at limits = do
   byte ← checked (λ byte. nat_le byte 17) u8_at
   cause_behind limits byte
 
+-- the wish of a number
 unfoldable pub want_of : ℕ → Want
 want_of byte = if byte == 1 then Read else Leave
 
@@ -268,6 +285,7 @@ want_at true = do
   byte ← checked (λ byte. nat_le 1 byte && nat_le byte 2) u8_at
   gives (want_of byte)
 
+-- an entry: its number is below the last, what has passed is not above it, and there are 1 to 8 writes
 unfoldable pub inv_at : Limits → Reader Inv
 inv_at limits = do
   stream ← stream_at limits
@@ -278,29 +296,34 @@ inv_at limits = do
   writes ← writes_at limits count []
   gives (record { stream = stream; number = number; done = done; followers = followers; writes = writes })
 
+-- an entry sent to a follower
 unfoldable pub rinv_at : Limits → Reader Body
 rinv_at limits = do
   inv ← inv_at limits
   gives (RInv inv)
 
+-- the acknowledgement of an entry
 unfoldable pub rack_at : Limits → Reader Body
 rack_at limits = do
   stream ← stream_at limits
   number ← u32_at
   gives (RAck stream number)
 
+-- what of a stream has passed
 unfoldable pub rval_at : Limits → Reader Body
 rval_at limits = do
   stream ← stream_at limits
   done ← u32_at
   gives (RVal stream done)
 
+-- a request
 unfoldable pub oreq_at : Limits → Bool → Reader Body
 oreq_at limits has_wish = do
   obj ← object_at limits
   want ← want_at has_wish
   gives (OReq obj want)
 
+-- a proposal that is to be held
 unfoldable pub oinv_at : Limits → Bool → Reader Body
 oinv_at limits has_wish = do
   obj ← object_at limits
@@ -308,6 +331,7 @@ oinv_at limits has_wish = do
   p ← proposal_at limits want
   gives (OInv obj p)
 
+-- a proposal that is held, with the content of a copy if any
 unfoldable pub oack_at : Limits → Bool → Reader Body
 oack_at limits has_wish = do
   obj ← object_at limits
@@ -316,6 +340,7 @@ oack_at limits has_wish = do
   content ← content_at limits
   gives (OAck obj p content)
 
+-- a refusal
 unfoldable pub onack_at : Limits → Reader Body
 onack_at limits = do
   obj ← object_at limits
@@ -323,6 +348,7 @@ onack_at limits = do
   cause ← cause_at limits
   gives (ONack obj stamp cause)
 
+-- a decided placement
 unfoldable pub oval_at : Limits → Reader Body
 oval_at limits = do
   obj ← object_at limits
@@ -346,6 +372,7 @@ body_behind limits left tag =
     else (if tag == 21 then oinv_at limits true
     else (if tag == 22 then oack_at limits true else (λ rest. Err (Tag left tag)))))))))))))
 
+-- what a letter says: its tag and its fields
 unfoldable pub body_at : Limits → Reader Body
 body_at limits = λ bytes. and_then (u8_at bytes) (body_behind limits (length bytes))
 

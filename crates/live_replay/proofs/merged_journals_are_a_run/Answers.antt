@@ -1,4 +1,6 @@
 -- Each clause is a lemma of its own.
+use Rattle.live_replay.proofs.Closings.{closed-same, all_closed-same}
+use Rattle.live_replay.proofs.Lengths.{merged-few}
 use Rattle.live_replay.proofs.Results.{replay-steps, replay-cells, replay-service, replay-clocks, replay-fits, replay-answer, replay-acked, replay-hits, replay-begun, replay-after, replay-sound, replay-node, replay-views, replay-link, replay-book, replay-jobs, replay-answers}
 use Rattle.live_replay.proofs.merged_journals_are_a_run.Goals as goal
 
@@ -52,3 +54,12 @@ returns-clause-jobs c = replay-jobs
 
 pub returns-clause-client_answers : goal.returns-clause-client_answers
 returns-clause-client_answers c = replay-answers
+
+pub returns-clause-few : goal.returns-clause-few
+returns-clause-few c = merged-few
+
+pub returns-clause-closed : goal.returns-clause-closed
+returns-clause-closed c = closed-same
+
+pub returns-clause-all_closed : goal.returns-clause-all_closed
+returns-clause-all_closed c = all_closed-same

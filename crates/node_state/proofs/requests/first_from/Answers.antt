@@ -1,4 +1,4 @@
-use Rattle.std.proofs.Common.{sym, ◌∙◌}
+use Rattle.std.proofs.Common.{◌∙◌}
 use Rattle.node_state.proofs.Requesting.{from_here, from_later, from_none, from_some}
 use Rattle.node_state.proofs.requests.first_from.Goals as goal
 

@@ -1,6 +1,5 @@
-use Rattle.std.proofs.Common.{ap, sym}
+use Rattle.std.proofs.Common.{ap}
 use Rattle.zeus_base.specs.declared.config.Limits.{Limits}
-use Rattle.zeus_packet.specs.Place.{new_place}
 use Rattle.node_ranges.specs.Places.{new_place-fits, proposal_fits-parts}
 use Rattle.node_ranges.specs.Ranges.{limits_of}
 use Rattle.ownership_rules.proofs.Rows.{limits_of-settle}

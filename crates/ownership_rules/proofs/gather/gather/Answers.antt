@@ -1,4 +1,4 @@
-use Rattle.std.proofs.Common.{◌≡◌, refl, sym, ◌∙◌}
+use Rattle.std.proofs.Common.{refl, sym, ◌∙◌}
 use Rattle.zeus_model.specs.Ownership.{gather_for, greater_gather}
 use Rattle.zeus_model.specs.State.{gather as gather_of}
 use Rattle.arbitration.specs.Gathering.{outcome_of}

@@ -1,4 +1,4 @@
-use Rattle.std.proofs.Common.{refl, sym, ◌∙◌}
+use Rattle.std.proofs.Common.{sym, ◌∙◌}
 use Rattle.node_ranges.specs.Places.{proposal_fits-parts}
 use Rattle.node_ranges.specs.Ranges.{limits_of}
 use Rattle.ownership_rules.proofs.Rows.{limits_of-settle, rebased-not_above, rebased-own, rebased-settled}

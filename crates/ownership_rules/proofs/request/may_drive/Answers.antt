@@ -1,7 +1,7 @@
 use Rattle.std.proofs.Common.{refl, sym, ◌∙◌}
 use Rattle.directory.specs.Driving.{answered}
-use Rattle.zeus_model.specs.Ownership.{drive_cause, driven}
-use Rattle.ownership_rules.proofs.Rows.{answered-no, answered-yes, answered-yes_none, request-refused, request-source}
+use Rattle.zeus_model.specs.Ownership.{drive_cause}
+use Rattle.ownership_rules.proofs.Rows.{answered-no, answered-yes_none, request-refused, request-source}
 use Rattle.ownership_rules.proofs.request.may_drive.Goals as goal
 
 pub returns-in-No-clause-answer : goal.returns-in-No-clause-answer

@@ -1,5 +1,5 @@
 use Rattle.std.proofs.Common.{refl, sym, ◌∙◌}
-use Rattle.zeus_model.specs.Ownership.{answer_request, driven, on_oreq, request_cause}
+use Rattle.zeus_model.specs.Ownership.{answer_request, on_oreq, request_cause}
 use Rattle.node_ranges.specs.OwnershipRules.{driven-fits, request-wants}
 use Rattle.node_ranges.specs.Ranges.{limits_of}
 use Rattle.ownership_rules.proofs.Rows.{answered-no, answered-yes, answered-yes_none}

@@ -1,5 +1,5 @@
 use Rattle.std.proofs.Common.{sym, ap, ◌∙◌}
-use Rattle.zeus_model.specs.State.{Node, Slot}
+use Rattle.zeus_model.specs.State.{Slot}
 use Rattle.node_ranges.specs.Ranges.{limits_of}
 use Rattle.node_state.specs.EffectLaws.{adds_nothing}
 use Rattle.node_state.specs.Shown.{shown}

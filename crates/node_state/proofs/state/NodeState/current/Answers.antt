@@ -1,6 +1,5 @@
-use Rattle.std.proofs.Common.{ap, sym, ◌∙◌}
 use Rattle.zeus_base.specs.TableLaws.{nth_read}
-use Rattle.zeus_model.specs.State.{Slot, no_slot}
+use Rattle.zeus_model.specs.State.{no_slot}
 use Rattle.node_state.proofs.state.NodeState.current.Goals as goal
 
 pub returns : goal.returns

@@ -1,4 +1,4 @@
-use Rattle.std.proofs.Common.{ap, ◌∙◌}
+use Rattle.std.proofs.Common.{◌∙◌}
 use Rattle.node_state.specs.Shown.{shown}
 use Rattle.node_state.proofs.Wanting.{wanted-any}
 use Rattle.node_state.proofs.state.NodeState.is_wanted.Goals as goal

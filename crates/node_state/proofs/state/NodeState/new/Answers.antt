@@ -1,4 +1,4 @@
-use Rattle.std.proofs.Common.{refl, ◌∙◌}
+use Rattle.std.proofs.Common.{refl}
 use Rattle.node_state.proofs.Starting.{IsKept-start, start_by}
 use Rattle.node_state.proofs.state.NodeState.new.Goals as goal
 

@@ -1,5 +1,3 @@
-use Rattle.std.proofs.Common.{ap, sym}
-use Rattle.zeus_model.specs.State.{Node}
 use Rattle.node_state.specs.Shown.{shown}
 use Rattle.node_state.proofs.Slots.{slot_read}
 use Rattle.node_state.proofs.state.NodeState.newest.Goals as goal

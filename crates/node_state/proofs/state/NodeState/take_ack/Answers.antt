@@ -1,5 +1,5 @@
-use Rattle.std.proofs.Common.{refl, ap}
-use Rattle.zeus_model.specs.State.{Node, gather, with_gather}
+use Rattle.std.proofs.Common.{refl}
+use Rattle.zeus_model.specs.State.{gather, with_gather}
 use Rattle.arbitration.specs.Gathering.{gathered}
 use Rattle.node_state.specs.Shown.{shown}
 use Rattle.node_state.proofs.Keeping.{IsKept-beside}

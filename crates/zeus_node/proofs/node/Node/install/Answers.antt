@@ -1,6 +1,5 @@
 use Rattle.std.proofs.Common.{refl, sym, ◌∙◌}
 use Rattle.zeus_model.specs.Membership.{install}
-use Rattle.zeus_model.specs.State.{Node}
 use Rattle.zeus_node.proofs.Cleared.{cleared-passed, cleared-room, cleared-sent}
 use Rattle.zeus_node.proofs.Views.{install-old, install-stopped, installed}
 use Rattle.zeus_node.proofs.node.Node.install.Goals as goal

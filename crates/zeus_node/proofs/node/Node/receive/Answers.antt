@@ -1,4 +1,4 @@
-use Rattle.std.proofs.Common.{refl, sym, ◌∙◌}
+use Rattle.std.proofs.Common.{refl}
 use Rattle.zeus_model.specs.Receive.{receive}
 use Rattle.node_ranges.specs.Places.{fits-body, fits-sender}
 use Rattle.node_ranges.specs.Ranges.{limits_of}
