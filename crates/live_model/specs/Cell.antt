@@ -75,6 +75,7 @@ answered f d = record { node = d.node; answer = f d.answer; sent = cut d.sent; p
 abbrev pub answered_quietly : {A : Type 0} → (A → Answer) → Did A → Did Answer
 answered_quietly f d = record { node = d.node; answer = f d.answer; sent = []; passed = d.passed }
 
+-- a transaction as it is declared
 abbrev pub declared : List TxDecl → ℕ → TxDecl
 declared txs k = nth no_tx txs k
 
@@ -118,6 +119,7 @@ core_from me c txs core (e ∷ es) = core_from me c txs (after me c txs core e) 
 abbrev pub empty_book : List TxDecl → Book
 empty_book txs = record { steps = 0; points = []; records = replicate (length txs) no_record }
 
+-- a cell before its first event
 abbrev pub start_core : ℕ → Config → List TxDecl → Core
 start_core me c txs = record { node = start_node c me; book = empty_book txs; clock = 0 }
 
@@ -138,6 +140,7 @@ pub record IsFresh (me : ℕ) (txs : List TxDecl) (core : Core) (j : Job) : Type
   pub new : is_none (record_of core.book j.tx).begun ≡ true
   pub begun : (begin core.node (declared txs j.tx).slot j.tx (declared txs j.tx).tx).answer ≡ Begun
 
+-- so it is where the event is a begin
 unfoldable pub BeginsFresh : ℕ → List TxDecl → Core → Deed → Type 0
 BeginsFresh me txs core (Began j) = IsFresh me txs core j
 BeginsFresh me txs core _ = Unit {0}
@@ -156,6 +159,7 @@ DeedFits c txs Ticked = Unit {0}
 DeedFits c txs Halted = Unit {0}
 DeedFits c txs (Saw v) = 1 ≤ v.epoch
 
+-- so it is with each event
 unfoldable pub DeedsFit : Config → List TxDecl → List CellEvent → Type 0
 DeedsFit c txs [] = Unit {0}
 DeedsFit c txs (e ∷ es) = DeedFits c txs e.deed × DeedsFit c txs es
@@ -165,14 +169,17 @@ pub record Kill : Type 0 where
   pub node : ℕ
   pub event : ℕ
 
+-- whether the event is the stop
 unfoldable pub is_halt : Deed → Bool
 is_halt Halted = true
 is_halt _ = false
 
+-- whether the kill comes at this event of this node
 unfoldable pub is_killed : Option Kill → ℕ → ℕ → Bool
 is_killed None me place = false
 is_killed (Some k) me place = (k.node == me) && (k.event == place)
 
+-- there are no events
 unfoldable pub IsEmpty : List CellEvent → Type 0
 IsEmpty [] = Unit {0}
 IsEmpty (e ∷ es) = ⊥
@@ -190,6 +197,7 @@ unfoldable pub taken_from : ℕ → Deed → List Stamped
 taken_from sender (Took other p) = if other == sender then p ∷ [] else []
 taken_from sender _ = []
 
+-- all packets that were taken from a sender
 unfoldable pub takes : ℕ → List CellEvent → List Stamped
 takes sender [] = []
 takes sender (e ∷ es) = taken_from sender e.deed ++ takes sender es
@@ -199,6 +207,7 @@ unfoldable pub job_of : List TxDecl → ℕ → Deed → List Job
 job_of txs s (Began j) = if (declared txs j.tx).slot == s then j ∷ [] else []
 job_of txs s _ = []
 
+-- all jobs that were taken for a slot
 unfoldable pub jobs : List TxDecl → ℕ → List CellEvent → List Job
 jobs txs s [] = []
 jobs txs s (e ∷ es) = job_of txs s e.deed ++ jobs txs s es
@@ -208,6 +217,7 @@ unfoldable pub seen_in : Deed → List Sight
 seen_in (Saw v) = v ∷ []
 seen_in _ = []
 
+-- all views that were taken
 unfoldable pub sights_seen : List CellEvent → List Sight
 sights_seen [] = []
 sights_seen (e ∷ es) = seen_in e.deed ++ sights_seen es
@@ -225,6 +235,7 @@ posts_to receiver clock [] = []
 posts_to receiver clock (l ∷ ls) =
     if l.to == receiver then record { clock = clock; letter = l } ∷ posts_to receiver clock ls else posts_to receiver clock ls
 
+-- the letters of events to one node, from a state on
 unfoldable pub posts_from : ℕ → Config → List TxDecl → ℕ → Core → List CellEvent → List Posted
 posts_from me c txs receiver core [] = []
 posts_from me c txs receiver core (e ∷ es) =
@@ -252,6 +263,7 @@ travelling (p ∷ ps) = if travels p.clock then p ∷ travelling ps else travell
 unfoldable pub halt_of : CellEvent → List ℕ
 halt_of e = if is_halt e.deed && travels e.clock then e.clock ∷ [] else []
 
+-- what the cell tells the service
 unfoldable pub halts : List CellEvent → List ℕ
 halts [] = []
 halts (e ∷ es) = halt_of e ++ halts es

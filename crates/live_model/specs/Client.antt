@@ -43,6 +43,7 @@ pub record IsHandedOver (v : ClientView) (k : ℕ) : Type 0 where
   pub is : In job v.jobs
   pub tx : job.tx ≡ k
 
+-- the greatest clock of some answers, 0 where there are none
 unfoldable pub greatest_clock : List Answered → ℕ
 greatest_clock [] = 0
 greatest_clock (a ∷ rest) = max a.clock (greatest_clock rest)

@@ -84,6 +84,7 @@ pub record IsService (p : Plan) (es : List ServiceEvent) (v : ServiceView) : Typ
 
 -- ---- the whole
 
+-- what each cell, each client and the service have
 pub record Cluster : Type 0 where
   -- by node
   pub cells : ℕ → CellView

@@ -45,6 +45,7 @@ unfoldable pub counts_as : Option Kill → List TxDecl → Step → ℕ
 counts_as None txs s = 0
 counts_as (Some k) txs s = if is_step_of txs k.node s then 1 else 0
 
+-- the step, or the stop where the kill is due
 abbrev pub or_stop : Option Kill → List TxDecl → ℕ → Step → Step
 or_stop kill txs count s = if is_due kill txs count s then stop_of kill s else s
 
@@ -80,6 +81,7 @@ abbrev pub install_item : Option Kill → Going → ℕ → Going
 install_item kill g n =
     offer_where (is_live g.world n && nat_lt (node g.world n).epoch (length g.world.views)) kill g (Install n (length g.world.views))
 
+-- a transaction may be begun behind another only where that one is acknowledged
 unfoldable pub may_follow : World → Option ℕ → Bool
 may_follow w None = true
 may_follow w (Some j) = is_acked w j
@@ -90,6 +92,7 @@ can_begin w k =
     is_none (record_of w.book k).begun && is_live w (tx_decl w k).node && may_follow w (tx_decl w k).after
     && is_none (slot (node w (tx_decl w k).node) (tx_decl w k).slot).current
 
+-- the begin of a transaction, where it would be begun
 abbrev pub begin_item : Option Kill → Going → ℕ → Going
 begin_item kill g k = offer_where (can_begin g.world k) kill g (Begin k)
 
@@ -97,6 +100,7 @@ begin_item kill g k = offer_where (can_begin g.world k) kill g (Begin k)
 abbrev pub try_item : Option Kill → ℕ → Going → ℕ → Going
 try_item kill n g s = offer_where (is_live g.world n && is_some (slot (node g.world n) s).current) kill g (Try n s)
 
+-- the tries of a node's slots
 abbrev pub tries_of : Option Kill → Going → ℕ → Going
 tries_of kill g n = each_number (try_item kill n) g (below g.world.config.slots)
 
@@ -104,6 +108,7 @@ tries_of kill g n = each_number (try_item kill n) g (below g.world.config.slots)
 abbrev pub next_of : List (List ℕ) → ℕ → ℕ → ℕ
 next_of next sender receiver = nth 0 (nth [] next sender) receiver
 
+-- the next packet of a link is one further
 abbrev pub next_after : List (List ℕ) → ℕ → ℕ → List (List ℕ)
 next_after next sender receiver = put [] next sender (put 0 (nth [] next sender) receiver (next_of next sender receiver + 1))
 
@@ -116,6 +121,7 @@ with_next before after sender receiver due =
 abbrev pub delivery : Going → ℕ → ℕ → Step
 delivery g sender receiver = Deliver sender receiver (next_of g.next sender receiver)
 
+-- it is offered between live nodes, where there is such a packet
 unfoldable pub delivery_item : Option Kill → ℕ → ℕ → Going → ℕ → Going
 delivery_item kill sender receiver g turn =
     if is_live g.world sender && is_live g.world receiver && nat_lt (next_of g.next sender receiver) (length (link g.world.links sender receiver))
@@ -126,9 +132,11 @@ delivery_item kill sender receiver g turn =
 abbrev pub deliveries_between : Option Kill → ℕ → Going → ℕ → Going
 deliveries_between kill sender g receiver = each_number (delivery_item kill sender receiver) g (below 16)
 
+-- those on all links of a sender
 abbrev pub deliveries_from : Option Kill → Going → ℕ → Going
 deliveries_from kill g sender = each_number (deliveries_between kill sender) g (below g.world.config.nodes)
 
+-- the tick of a live node
 abbrev pub tick_item : Option Kill → Going → ℕ → Going
 tick_item kill g n = offer_where (is_live g.world n) kill g (Tick n)
 
@@ -142,25 +150,31 @@ all_nodes g = below g.world.config.nodes
 abbrev pub views_and_installs : Option Kill → Going → Going
 views_and_installs kill g = each_number (install_item kill) (view_item kill g) (all_nodes g)
 
+-- begins by number, and then tries by node and slot
 abbrev pub begins_and_tries : Option Kill → Going → Going
 begins_and_tries kill g = each_number (tries_of kill) (each_number (begin_item kill) g (below (length g.world.txs))) (all_nodes g)
 
+-- deliveries by link, and then ticks by node
 abbrev pub deliveries_and_ticks : Option Kill → Going → Going
 deliveries_and_ticks kill g = each_number (tick_item kill) (each_number (deliveries_from kill) g (all_nodes g)) (all_nodes g)
 
+-- a whole round
 unfoldable pub round : Option Kill → Going → Going
 round kill g = deliveries_and_ticks kill (begins_and_tries kill (views_and_installs kill g))
 
+-- so many rounds
 unfoldable pub rounds_of : ℕ → Option Kill → Going → Going
 rounds_of zero kill g = g
 rounds_of (suc n) kill g = rounds_of n kill (round kill g)
 
 -- ---- the drive
 
+-- how many letters the links of one sender have
 unfoldable pub lengths : List (List Letter) → List ℕ
 lengths [] = []
 lengths (l ∷ ls) = length l ∷ lengths ls
 
+-- how many letters each link has
 unfoldable pub all_lengths : List (List (List Letter)) → List (List ℕ)
 all_lengths [] = []
 all_lengths (row ∷ rows) = lengths row ∷ all_lengths rows

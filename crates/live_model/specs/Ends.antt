@@ -14,10 +14,12 @@ use Rattle.zeus_txn.specs.declared.reply.Reply.{Reply}
 
 -- ---- the ends of transactions
 
+-- the transactions as acknowledged at this clock
 unfoldable pub acked_at : ℕ → List ℕ → List Note
 acked_at clock [] = []
 acked_at clock (k ∷ ks) = record { tx = k; clock = clock; end = Acked } ∷ acked_at clock ks
 
+-- the transaction that a try's answer refuses
 unfoldable pub refused_by : ℕ → Tried → List Note
 refused_by clock (NoCopy k x) = record { tx = k; clock = clock; end = Refused } ∷ []
 refused_by clock _ = []
@@ -35,6 +37,7 @@ ends_at me c txs core e =
 
 -- ---- the answers to a client
 
+-- the reply of an acknowledged transaction, or none
 unfoldable pub answer_to : Book → Note → End → Option Reply
 answer_to b note Acked = Some (reply_or (record_of b note.tx).reply)
 answer_to b note Refused = None
@@ -48,6 +51,7 @@ answers_at txs s b (n ∷ ns) =
     then record { tx = n.tx; reply = answer_to b n n.end; clock = n.clock } ∷ answers_at txs s b ns
     else answers_at txs s b ns
 
+-- the answers of events to a slot's client, from a state on
 unfoldable pub answers_from : ℕ → Config → List TxDecl → ℕ → Core → List CellEvent → List Answered
 answers_from me c txs s core [] = []
 answers_from me c txs s core (e ∷ es) =
@@ -74,9 +78,11 @@ waits_from txs (suc links) (Some k) j = (k == j) || waits_from txs links (declar
 abbrev pub waits_behind : List TxDecl → ℕ → ℕ → Bool
 waits_behind txs k j = waits_from txs k (declared txs k).after j
 
+-- whether a transaction is the client's
 unfoldable pub is_of : List TxDecl → ClientId → ℕ → Bool
 is_of txs client k = ((declared txs k).node == client.node) && ((declared txs k).slot == client.slot)
 
+-- whether one of these transactions is the client's and waits behind this one
 unfoldable pub some_waits : List TxDecl → ClientId → ℕ → List ℕ → Bool
 some_waits txs client j [] = false
 some_waits txs client j (k ∷ ks) = (is_of txs client k && waits_behind txs k j) || some_waits txs client j ks
@@ -104,9 +110,11 @@ stopped_at me txs core clock (k ∷ ks) =
     then record { tx = k; clock = clock; end = Stopped } ∷ stopped_at me txs core clock ks
     else stopped_at me txs core clock ks
 
+-- what a stop notes; no other event does
 unfoldable pub stops_at : ℕ → List TxDecl → Core → CellEvent → List Note
 stops_at me txs core e = if is_halt e.deed then stopped_at me txs core e.clock (below (length txs)) else []
 
+-- the notes of events to a client, from a state on
 unfoldable pub notes_from : ℕ → Config → List TxDecl → ClientId → Core → List CellEvent → List Note
 notes_from me c txs client core [] = []
 notes_from me c txs client core (e ∷ es) =

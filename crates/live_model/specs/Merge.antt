@@ -12,6 +12,7 @@ pub record Pick (A : Type 0) : Type 0 where
   pub first : A
   pub rest : List (List A)
 
+-- what is picked of lists behind an empty one
 unfoldable pub behind_empty : {A : Type 0} → Option (Pick A) → Option (Pick A)
 behind_empty None = None
 behind_empty (Some p) = Some record { first = p.first; rest = [] ∷ p.rest }
@@ -30,10 +31,12 @@ pick clock [] = None
 pick clock ([] ∷ ls) = behind_empty (pick clock ls)
 pick clock ((x ∷ xs) ∷ ls) = earlier clock x xs ls (pick clock ls)
 
+-- the element that was picked, if any
 unfoldable pub first_in : {A : Type 0} → Option (Pick A) → List A
 first_in None = []
 first_in (Some p) = p.first ∷ []
 
+-- the lists without it
 unfoldable pub rest_in : {A : Type 0} → Option (Pick A) → List (List A)
 rest_in None = []
 rest_in (Some p) = p.rest
@@ -43,6 +46,7 @@ unfoldable pub merge_of : {A : Type 0} → (A → ℕ) → ℕ → List (List A)
 merge_of clock zero ls = []
 merge_of clock (suc count) ls = first_in (pick clock ls) ++ merge_of clock count (rest_in (pick clock ls))
 
+-- how many elements the lists have together
 unfoldable pub count_all : {A : Type 0} → List (List A) → ℕ
 count_all [] = 0
 count_all (l ∷ ls) = length l + count_all ls
@@ -51,9 +55,11 @@ count_all (l ∷ ls) = length l + count_all ls
 abbrev pub merge : {A : Type 0} → (A → ℕ) → List (List A) → List A
 merge clock ls = merge_of clock (count_all ls) ls
 
+-- the clock of an entry
 unfoldable pub clock_in : Entry → ℕ
 clock_in e = e.clock
 
+-- the step of an entry
 unfoldable pub step_in : Entry → Step
 step_in e = e.step
 
@@ -62,6 +68,7 @@ unfoldable pub cell_journals : Cluster → List ℕ → List (List Entry)
 cell_journals k [] = []
 cell_journals k (n ∷ ns) = (k.cells n).journal ∷ cell_journals k ns
 
+-- all journals, that of the service last
 unfoldable pub journals : Config → Cluster → List (List Entry)
 journals c k = cell_journals k (below c.nodes) ++ k.service.journal ∷ []
 
@@ -76,20 +83,25 @@ pub data Turn : Type 0 where
   cell_turn : ℕ → CellEvent → Turn
   service_turn : ServiceEvent → Turn
 
+-- the journal's entry of an event
 unfoldable pub entry_of : Turn → Entry
 entry_of (cell_turn n e) = entry n e
 entry_of (service_turn e) = service_entry e
 
+-- its clock
 abbrev pub turn_clock : Turn → ℕ
 turn_clock t = (entry_of t).clock
 
+-- its step
 abbrev pub turn_step : Turn → Step
 turn_step t = (entry_of t).step
 
+-- the events of some nodes, by node
 unfoldable pub cell_turns : Events → List ℕ → List (List Turn)
 cell_turns es [] = []
 cell_turns es (n ∷ ns) = map (cell_turn n) (es.cells n) ∷ cell_turns es ns
 
+-- the events of all nodes, and then those of the service
 unfoldable pub all_turns : Config → Events → List (List Turn)
 all_turns c es = cell_turns es (below c.nodes) ++ map service_turn es.service ∷ []
 

@@ -17,6 +17,7 @@ pub record ServiceEvent : Type 0 where
   pub halt : ℕ
   pub members : List ℕ
 
+-- the journal's entry of an event
 abbrev pub service_entry : ServiceEvent → Entry
 service_entry e = record { clock = e.clock; step = View e.members }
 
@@ -28,10 +29,12 @@ made views members = if is_empty members then Empty else Installed (length views
 unfoldable pub viewed : List (List ℕ) → List ℕ → List (List ℕ)
 viewed views members = if is_empty members then views else views ++ members ∷ []
 
+-- the views after events, from some views on
 unfoldable pub views_from : List (List ℕ) → List ServiceEvent → List (List ℕ)
 views_from views [] = views
 views_from views (e ∷ es) = views_from (viewed views e.members) es
 
+-- the run begins with the view of all nodes
 abbrev pub start_views : Config → List (List ℕ)
 start_views c = below c.nodes ∷ []
 
@@ -66,6 +69,7 @@ unfoldable pub sight_at : ℕ → List (List ℕ) → ServiceEvent → List Sigh
 sight_at m views e =
     if has m e.members && travels e.clock then record { clock = e.clock; epoch = length views + 1; members = e.members } ∷ [] else []
 
+-- the views that events send to a node, from some views on
 unfoldable pub sights_from : ℕ → List (List ℕ) → List ServiceEvent → List Sight
 sights_from m views [] = []
 sights_from m views (e ∷ es) = sight_at m views e ++ sights_from m (viewed views e.members) es

@@ -156,9 +156,10 @@ can_begin-begins w k can =
     let a = both_parts _ _ can in
     let b = both_parts _ _ a.0 in
     let c = both_parts _ _ b.0 in
-    let t = tx_decl w k in
-    (ap is_some_of (no_current (record_of w.book k).begun c.0),
-    begun-free (begin_refused w k) w k (can_begin-free w k can) (begin-begun (node w t.node) t.slot k t.tx (not_false (node w t.node).stopped c.1) (no_current (slot (node w t.node) t.slot).current a.1)))
+    let t = tx_decl w k in (
+      ap is_some_of (no_current (record_of w.book k).begun c.0),
+      begun-free (begin_refused w k) w k (can_begin-free w k can) (begin-begun (node w t.node) t.slot k t.tx (not_false (node w t.node).stopped c.1) (no_current (slot (node w t.node) t.slot).current a.1)),
+    )
   where
     is_some_of : Option ℕ → Bool
     is_some_of o = is_some o

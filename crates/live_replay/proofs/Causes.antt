@@ -120,7 +120,7 @@ packet-sent p k es me sender q xs ys e h there_me there_sender is took =
     let other_cell = h.cells sender there_sender in
     let meets = h.meets in
     let received : In q ((k.cells me).received sender) =
-        rw (me_cell.received sender) (subst (λ (zs : List CellEvent). In q (takes sender zs)) (sym is) (took-In sender q xs ys e took)) in
+    rw (me_cell.received sender) (subst (λ (zs : List CellEvent). In q (takes sender zs)) (sym is) (took-In sender q xs ys e took)) in
     travelling-In (sends sender p.config p.txs me (es.cells sender)) q
     (part-In ((k.cells sender).sent me) (travelling (sends sender p.config p.txs me (es.cells sender))) q (other_cell.sent me)
     (front-In ((k.cells me).received sender) ((k.cells sender).sent me) q (meets.packets sender me there_sender there_me) received))
@@ -143,7 +143,7 @@ stop-made p k es xs ys e h there_node is =
     let service = h.service in
     let meets = h.meets in
     let taken : In e.halt (k.service.halts e.node) =
-        rw (service.halts e.node) (subst (λ (zs : List ServiceEvent). In e.halt (halts_taken e.node zs)) (sym is) (halt-In xs ys e)) in
+    rw (service.halts e.node) (subst (λ (zs : List ServiceEvent). In e.halt (halts_taken e.node zs)) (sym is) (halt-In xs ys e)) in
     subst (λ (zs : List ℕ). In e.halt zs) cell.halts (front-In (k.service.halts e.node) (k.cells e.node).halts e.halt (meets.halts e.node there_node) taken)
 
 -- the acknowledgement that a begun transaction waited for was noted

@@ -1,8 +1,7 @@
 -- What is closed in the run is closed at home.
-use Rattle.std.specs.Prelude.{ℕ, zero, suc, ◌≡◌, ◌+◌, ◌<◌, ◌≤◌, Bool, true, false, ◌&&◌, ◌||◌, not, List, [], ◌∷◌, length, Option, Some, None, is_some}
-use Rattle.std.proofs.Common.{arith, refl, sym, ap, ◌∙◌, inl, inr, subst}
+use Rattle.std.specs.Prelude.{ℕ, zero, suc, ◌≡◌, ◌<◌, Bool, ◌||◌, List, [], ◌∷◌, length, Option, Some, None}
+use Rattle.std.proofs.Common.{arith, refl, ap, ◌∙◌, inl, inr}
 use Rattle.std.proofs.lemmas.Bool.{cases_lt}
-use Rattle.zeus_base.specs.declared.config.Config.{Config}
 use Rattle.zeus_txn.specs.declared.tx.TxDecl.{TxDecl}
 use Rattle.zeus_model.specs.Book.{record_of}
 use Rattle.zeus_model.specs.Readers.{is_acked, is_ended, waits_in_vain, is_closed, each_closed, all_closed}
@@ -10,13 +9,12 @@ use Rattle.zeus_model.specs.State.{Node}
 use Rattle.zeus_model.specs.Tables.{below}
 use Rattle.zeus_model.specs.World.{World, node, tx_decl, no_tx, run, start}
 use Rattle.machine_moves.proofs.Lists.{nth-past}
-use Rattle.live_model.specs.Cell.{Core, declared}
+use Rattle.live_model.specs.Cell.{declared}
 use Rattle.live_model.specs.Cluster.{Plan, Cluster, Events}
 use Rattle.live_model.specs.Merge.{merged}
 use Rattle.live_replay.specs.Closed.{home, acked_at_home, ended_at_home, in_vain, closed_at_home, each_closed_at_home, all_closed_at_home}
-use Rattle.live_replay.specs.Replayed.{IsLive, SameStory}
+use Rattle.live_replay.specs.Replayed.{IsLive}
 use Rattle.live_replay.proofs.Causes.{tx-fits}
-use Rattle.live_replay.proofs.Mirrors.{Mirrors}
 use Rattle.live_replay.proofs.Results.{whole-mirrors, replay-node, replay-book}
 
 -- each transaction is of a node that there is

@@ -1,5 +1,5 @@
 -- How many steps a drive makes at most: some for each round, one for each transaction that is begun, and the stop.
-use Rattle.std.specs.Prelude.{ℕ, zero, suc, ◌≡◌, ◌+◌, ◌*◌, ◌<◌, ◌≤◌, Bool, true, false, ◌&&◌, not, nat_lt, List, [], ◌∷◌, ◌++◌, length, Option, Some, None, is_some, if◌then◌else◌}
+use Rattle.std.specs.Prelude.{◌==◌, ℕ, zero, suc, ◌≡◌, ◌+◌, ◌*◌, ◌<◌, ◌≤◌, Bool, true, false, ◌&&◌, not, nat_lt, List, [], ◌∷◌, ◌++◌, length, Option, Some, None, is_some, if◌then◌else◌}
 use Rattle.std.proofs.Common.{arith, refl, sym, ap, inl, inr, subst, length-append, eq-eqb}
 use Rattle.std.proofs.Math.Nat.{suc-mul, mul-one, mul-le-mul}
 use Rattle.std.proofs.lemmas.Bool.{cond_both, cases_Bool, eqb-true, ltb-true, ltb-false, false_from_ne_true}
@@ -39,6 +39,7 @@ stop_left-falls (Some k) count more = falls (nat_lt k.event count) (nat_lt k.eve
     falls true b h = rw (h refl) (omega arith)
     falls false true h = omega arith
     falls false false h = omega arith
+
     later : (e c m : ℕ) → nat_lt e c ≡ true → nat_lt e (c + m) ≡ true
     later e c m less = let h : e < c = ltb-true e c less in below_test e (c + m) (omega arith)
 
@@ -163,7 +164,7 @@ module _ (p : Plan) (before : List Step) (within : IsWithin p) where
   tries_of-cost g n there h =
       let k = going-known p before g within h in
       let c = below-cost p.config.slots 1 (try_item p.kill n) (try_item-going p before within n there) (λ x s less at. one-cost (is_live x.world n && is_some (slot (node x.world n) s).current) x (Try n s) at)
-          g.world.config.slots (ap (λ (c : Config). c.slots) k.config) g h in
+      g.world.config.slots (ap (λ (c : Config). c.slots) k.config) g h in
       let one : p.config.slots * 1 ≡ p.config.slots = mul-one p.config.slots in
       omega arith
 
@@ -202,7 +203,7 @@ module _ (p : Plan) (before : List Step) (within : IsWithin p) where
       let at_viewed = view_item-going p before within g h in
       let a = one-cost (nat_lt (length (live_among g.world last)) (length last)) g (View (live_among g.world last)) h in
       let b = each_node-cost 1 (install_item p.kill) (install_item-going p before within)
-          (λ x n less at. one-cost (is_live x.world n && nat_lt (node x.world n).epoch (length x.world.views)) x (Install n (length x.world.views)) at) g viewed h at_viewed in
+      (λ x n less at. one-cost (is_live x.world n && nat_lt (node x.world n).epoch (length x.world.views)) x (Install n (length x.world.views)) at) g viewed h at_viewed in
       let installed = views_and_installs p.kill g in
       let at_installed = views_and_installs-going p before within g h in
       let k = going-known p before installed within at_installed in

@@ -63,8 +63,8 @@ going-step p before g s h ongoing fits found due behind =
     let xs = before ++ g.steps in
     let same : xs ++ s ∷ [] ≡ before ++ (g.steps ++ s ∷ []) = append_assoc before g.steps (s ∷ []) in
     let live : IsLiveRun p (xs ++ s ∷ []) = live-more p xs s h.live fits
-        (subst (λ (w : World). IsMissed (happens w s).answer → ⊥) h.world found)
-        (subst (λ (n : ℕ). is_stop s ≡ is_due p.kill p.txs n s) h.count due) behind in
+    (subst (λ (w : World). IsMissed (happens w s).answer → ⊥) h.world found)
+    (subst (λ (n : ℕ). is_stop s ≡ is_due p.kill p.txs n s) h.count due) behind in
     record {
       world = ap (λ (w : World). stepped w s) h.world ∙ (sym (run-more (start p.config p.txs) xs s) ∙ ap (λ (ys : List Step). run (start p.config p.txs) ys) same);
       live = subst (λ (ys : List Step). IsLiveRun p ys) same live;

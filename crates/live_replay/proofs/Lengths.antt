@@ -1,21 +1,20 @@
 -- How many steps the merged journals have at most.
 use Rattle.std.specs.Prelude.{ℕ, zero, suc, ◌≡◌, ◌+◌, ◌*◌, ◌<◌, ◌≤◌, Bool, true, false, ◌&&◌, ◌==◌, List, [], ◌∷◌, ◌++◌, length, map, Option, if◌then◌else◌}
-use Rattle.std.proofs.Common.{arith, refl, sym, ap, ◌∙◌, inl, inr, subst, length-append, append-nil, eq-eqb}
-use Rattle.std.proofs.Math.Nat.{suc-mul, mul-le-mul_right}
-use Rattle.std.proofs.lemmas.Bool.{cases_eq, cond_both, ne_eqb}
+use Rattle.std.proofs.Common.{arith, refl, ap, ◌∙◌, inl, inr, subst, length-append, append-nil, eq-eqb}
+use Rattle.std.proofs.lemmas.Bool.{cases_eq}
 use Rattle.std.proofs.lemmas.List.{length-map}
 use Rattle.zeus_base.specs.declared.config.Config.{Config}
 use Rattle.zeus_base.specs.declared.step.Step.{Step}
-use Rattle.zeus_model.specs.Tables.{below, numbers_from}
+use Rattle.zeus_model.specs.Tables.{numbers_from}
 use Rattle.machine_moves.specs.Scene.{all_of}
 use Rattle.live_model.specs.Items.{travels}
-use Rattle.live_model.specs.Cell.{CellEvent, Kill, is_halt, is_killed, IsEmpty, HaltsOnly, halt_of, halts}
+use Rattle.live_model.specs.Cell.{CellEvent, Kill, is_halt, IsEmpty, HaltsOnly, halt_of, halts}
 use Rattle.live_model.specs.Service.{ServiceEvent, HaltsFit, halts_taken}
 use Rattle.live_model.specs.Cluster.{Plan, Cluster, Events, IsCluster, IsFront}
 use Rattle.live_model.specs.Merge.{Turn, cell_turn, service_turn, turn_clock, turn_step, cell_turns, all_turns, turns, merged}
 use Rattle.live_replay.specs.Parts.{of_service}
 use Rattle.live_replay.specs.Replayed.{IsLive}
-use Rattle.live_replay.proofs.Merging.{IsMerged, merge-merged}
+use Rattle.live_replay.proofs.Merging.{merge-merged}
 use Rattle.live_replay.proofs.Orders.{merged-turns, lists}
 
 -- ---- a cell tells of one stop at most

@@ -63,10 +63,13 @@ stops-more : (kill : Option Kill) (txs : List TxDecl) (count : ℕ) (stopped : B
 unfolding StopsAtKill count_of has_stop
 stops-more kill txs count stopped [] s h due behind = let same : 0 + count ≡ count = omega arith in (subst (λ (n : ℕ). is_stop s ≡ is_due kill txs n s) same due, behind, tt)
 stops-more kill txs count stopped (x ∷ xs) s h due behind =
-    let same : counts_as kill txs x + count_of kill txs xs + count ≡ count_of kill txs xs + (counts_as kill txs x + count) = omega arith in
-    (h.0, h.1, stops-more kill txs (counts_as kill txs x + count) (is_stop x || stopped) xs s h.2
-    (subst (λ (n : ℕ). is_stop s ≡ is_due kill txs n s) same due)
-    (λ needs. sym (or_shift (is_stop x) (has_stop xs) stopped) ∙ behind needs))
+    let same : counts_as kill txs x + count_of kill txs xs + count ≡ count_of kill txs xs + (counts_as kill txs x + count) = omega arith in (
+      h.0,
+      h.1,
+      stops-more kill txs (counts_as kill txs x + count) (is_stop x || stopped) xs s h.2
+          (subst (λ (n : ℕ). is_stop s ≡ is_due kill txs n s) same due)
+          (λ needs. sym (or_shift (is_stop x) (has_stop xs) stopped) ∙ behind needs),
+    )
 
 or_false : (b : Bool) → (b || false) ≡ b
 or_false true = refl

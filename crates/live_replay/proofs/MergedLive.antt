@@ -9,7 +9,7 @@ use Rattle.zeus_model.specs.World.{World, stepped, run, start}
 use Rattle.machine_moves.proofs.Lists.{In-nothing, In-append, In-append_left, In-append_right}
 use Rattle.live_model.specs.Items.{Sight, travels}
 use Rattle.live_model.specs.Cell.{CellEvent, Core, Deed, Began, Tried, Took, Ticked, Halted, Saw, Kill, step_of, stamp, is_halt, is_killed, HaltsOnly, BeginsFresh, halts, halt_of}
-use Rattle.live_model.specs.Service.{sights, HaltsFit, AreServiceClocks, ServiceEvent, sights_from, sight_at, start_views, viewed}
+use Rattle.live_model.specs.Service.{sights, HaltsFit, AreServiceClocks, ServiceEvent, sights_from, start_views}
 use Rattle.live_model.specs.Cluster.{Plan, Cluster, Events}
 use Rattle.live_model.specs.Drive.{is_step_of, is_due, counts_as}
 use Rattle.live_model.specs.Merge.{Turn, cell_turn, service_turn, entry_of, turn_step, turns, merged}
@@ -91,7 +91,7 @@ unfolding counts_as killed_events entry_of is_step_of of_cell
 counts-service None txs e past = refl
 counts-service (Some k) txs e past =
     let h : length (cell_part k.node (past ++ service_turn e ∷ [])) ≡ length (cell_part k.node past) =
-        ap (λ (es : List CellEvent). length es) (part-one (of_cell k.node) past (service_turn e) ∙ append-nil (cell_part k.node past)) in
+    ap (λ (es : List CellEvent). length es) (part-one (of_cell k.node) past (service_turn e) ∙ append-nil (cell_part k.node past)) in
     omega arith
 
 -- the event at a place of a journal is a stop just where the kill is due there
@@ -187,9 +187,9 @@ service-behind p k es past e future h is =
     let at = order-at p.config es past (service_turn e) future (split-order p k es past (service_turn e ∷ future) h is) in
     let split : es.service ≡ service_part past ++ e ∷ service_part future = at.service ∙ ap (λ (zs : List ServiceEvent). service_part past ++ zs) (served-part e future) in
     let there : e.node < p.config.nodes =
-        halts-fit-at p.config (service_part past) (service_part future) e (subst (λ (zs : List ServiceEvent). HaltsFit p.config zs) split service.fit) in
+    halts-fit-at p.config (service_part past) (service_part future) e (subst (λ (zs : List ServiceEvent). HaltsFit p.config zs) split service.fit) in
     let less : e.halt < e.clock =
-        service_clock-above 0 (service_part past) (service_part future) e (subst (λ (zs : List ServiceEvent). AreServiceClocks 0 zs) split service.clocks) in
+    service_clock-above 0 (service_part past) (service_part future) e (subst (λ (zs : List ServiceEvent). AreServiceClocks 0 zs) split service.clocks) in
     let halt = subst (λ (zs : List CellEvent). In e.halt (halts zs)) (at.cells e.node there) (stop-made p k es (service_part past) (service_part future) e cluster there split) in
     elim (halts-append e.halt (cell_part e.node past) (cell_part e.node (service_turn e ∷ future)) halt) [
       | inl early ↦ halted-part e.node e.halt past early
@@ -269,11 +269,12 @@ turn-stops (cell_turn me e) p k es past future h is quiet =
     let cluster = h.cluster in
     let cell = cluster.cells me a.there in
     let halts_so : is_halt e.deed ≡ is_killed p.kill me (0 + length (cell_part me past)) =
-        halts-at p.kill me 0 (cell_part me past) (cell_part me future) e (subst (λ (zs : List CellEvent). HaltsOnly p.kill me 0 zs) (at-split p k es past me e future (world_after p past) a) cell.halting) in
-    let same : 0 + length (cell_part me past) ≡ length (cell_part me past) = omega arith in
-    (halt-stop e.deed me ∙ (halts_so ∙ (ap (λ (n : ℕ). is_killed p.kill me n) same ∙ due-cell p.kill p.txs core me e past fresh)),
-    cell-behind p k es past me e future h is quiet,
-    counts-cell p.kill p.txs core me e past fresh)
+    halts-at p.kill me 0 (cell_part me past) (cell_part me future) e (subst (λ (zs : List CellEvent). HaltsOnly p.kill me 0 zs) (at-split p k es past me e future (world_after p past) a) cell.halting) in
+    let same : 0 + length (cell_part me past) ≡ length (cell_part me past) = omega arith in (
+      halt-stop e.deed me ∙ (halts_so ∙ (ap (λ (n : ℕ). is_killed p.kill me n) same ∙ due-cell p.kill p.txs core me e past fresh)),
+      cell-behind p k es past me e future h is quiet,
+      counts-cell p.kill p.txs core me e past fresh,
+    )
 turn-stops (service_turn e) p k es past future h is quiet =
     (due-service p.kill p.txs e (killed_events p.kill past), λ needs. service-behind p k es past e future h is, counts-service p.kill p.txs e past)
 
@@ -284,10 +285,12 @@ stops_at_kill p k es past [] h is quiet = tt
 stops_at_kill p k es past (t ∷ ts) h is quiet =
     let one = turn-stops t p k es past ts h is quiet in
     let next : Split p es (past ++ t ∷ []) ts = append_assoc past (t ∷ []) ts ∙ is in
-    let rest = stops_at_kill p k es (past ++ t ∷ []) ts h next (quiet-more p k es past t ts h is quiet) in
-    (one.0, one.1,
-    subst (λ (n : ℕ). StopsAtKill p.kill p.txs n (is_stop (turn_step t) || has_halt past) (map turn_step ts)) (sym one.2)
-    (subst (λ (b : Bool). StopsAtKill p.kill p.txs (killed_events p.kill (past ++ t ∷ [])) b (map turn_step ts)) (has_halt-one past t) rest))
+    let rest = stops_at_kill p k es (past ++ t ∷ []) ts h next (quiet-more p k es past t ts h is quiet) in (
+      one.0,
+      one.1,
+      subst (λ (n : ℕ). StopsAtKill p.kill p.txs n (is_stop (turn_step t) || has_halt past) (map turn_step ts)) (sym one.2)
+          (subst (λ (b : Bool). StopsAtKill p.kill p.txs (killed_events p.kill (past ++ t ∷ [])) b (map turn_step ts)) (has_halt-one past t) rest),
+    )
 
 none_killed : (kill : Option Kill) → killed_events kill [] ≡ 0
 unfolding killed_events part

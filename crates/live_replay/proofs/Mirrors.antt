@@ -11,7 +11,7 @@ use Rattle.zeus_model.specs.World.{World, Event, no_node, node, link, last_view,
 use Rattle.machine_moves.specs.Fits.{StepFits}
 use Rattle.machine_moves.proofs.Lists.{nth-put_same, nth-put_other}
 use Rattle.soundness.proofs.Runs.{IsReached}
-use Rattle.live_model.specs.Cell.{Posted, CellEvent, Core, Deed, step_of, does, notes_down, after, core_from, core, start_core, posts, posts_from, posts_to}
+use Rattle.live_model.specs.Cell.{Posted, CellEvent, Core, step_of, does, notes_down, after, core_from, core, start_core, posts, posts_from, posts_to}
 use Rattle.live_model.specs.Service.{ServiceEvent, views_made}
 use Rattle.live_model.specs.Merge.{Turn, cell_turn}
 use Rattle.live_replay.specs.Parts.{part, of_cell, of_service, cell_part, service_part}
@@ -106,7 +106,7 @@ acted_link c txs past w me receiver e m there =
     let sent = (does w.txs (node w me) e.deed).sent in
     let from : AllFrom me sent = subst (λ (n : ℕ). AllFrom n sent) (m.numbers me there) own.sent in
     let same : sent ≡ (does txs (core_of c txs me past).node e.deed).sent =
-        ap (λ (ts : List TxDecl). (does ts (node w me) e.deed).sent) m.declared ∙ ap (λ (n : Node). (does txs n e.deed).sent) (m.nodes me there) in
+    ap (λ (ts : List TxDecl). (does ts (node w me) e.deed).sent) m.declared ∙ ap (λ (n : Node). (does txs n e.deed).sent) (m.nodes me there) in
     all_posted-own w.links sent me receiver e.clock from
     ∙ (ap (λ (ls : List Letter). ls ++ letters (posts_to receiver e.clock sent)) (m.links me receiver there)
     ∙ (ap (λ (ls : List Letter). letters (posts me c txs receiver (cell_part me past)) ++ letters (posts_to receiver e.clock ls)) same

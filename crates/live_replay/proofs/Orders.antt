@@ -128,9 +128,10 @@ clocks-above before (x ∷ xs) e h (there _ _ at) = let is = h.0 in let later = 
 cell-rises : (n before : ℕ) (es : List CellEvent) → AreClocks before es → Rises turn_clock (map (cell_turn n) es)
 unfolding AreClocks Rises entry_of
 cell-rises n before [] h = tt
-cell-rises n before (e ∷ es) h =
-    (λ t is. let at = In-map (cell_turn n) es t is in let less = clocks-above e.clock es at.0 h.1 at.1 in subst (λ (u : Turn). e.clock ≤ turn_clock u) (sym at.2) (omega arith),
-    cell-rises n e.clock es h.1)
+cell-rises n before (e ∷ es) h = (
+  λ t is. let at = In-map (cell_turn n) es t is in let less = clocks-above e.clock es at.0 h.1 at.1 in subst (λ (u : Turn). e.clock ≤ turn_clock u) (sym at.2) (omega arith),
+  cell-rises n e.clock es h.1,
+)
 
 service_clocks-above : (before : ℕ) (es : List ServiceEvent) (e : ServiceEvent) → AreServiceClocks before es → In e es → before < e.clock
 unfolding AreServiceClocks
@@ -141,9 +142,10 @@ service_clocks-above before (x ∷ xs) e h (there _ _ at) = let is = h.0 in let 
 service-rises : (before : ℕ) (es : List ServiceEvent) → AreServiceClocks before es → Rises turn_clock (map service_turn es)
 unfolding AreServiceClocks Rises entry_of
 service-rises before [] h = tt
-service-rises before (e ∷ es) h =
-    (λ t is. let at = In-map service_turn es t is in let less = service_clocks-above e.clock es at.0 h.1 at.1 in subst (λ (u : Turn). e.clock ≤ turn_clock u) (sym at.2) (omega arith),
-    service-rises e.clock es h.1)
+service-rises before (e ∷ es) h = (
+  λ t is. let at = In-map service_turn es t is in let less = service_clocks-above e.clock es at.0 h.1 at.1 in subst (λ (u : Turn). e.clock ≤ turn_clock u) (sym at.2) (omega arith),
+  service-rises e.clock es h.1,
+)
 
 each-rises : (p : Plan) (k : Cluster) (es : Events) (first count : ℕ) → IsCluster p k es → first + count ≤ p.config.nodes → EachRises turn_clock (lists es first count)
 unfolding cell_turns numbers_from EachRises

@@ -1,6 +1,6 @@
 -- Events of cells and service in an order of rising clocks are a run of the machine, step by step.
 use Rattle.std.specs.Prelude.{ℕ, ◌≡◌, ◌-◌, ◌<◌, ◌≤◌, Bool, true, false, ◌==◌, List, [], ◌∷◌, ◌++◌, length, IfSome, Option, Some, None, is_some, is_none, if◌then◌else◌}
-use Rattle.std.proofs.Common.{eq-eqb, arith, refl, sym, ap, ◌∙◌, inl, inr, subst, append_assoc, append-nil}
+use Rattle.std.proofs.Common.{eq-eqb, arith, refl, sym, ap, ◌∙◌, subst}
 use Rattle.zeus_base.specs.declared.config.Config.{Config}
 use Rattle.zeus_txn.specs.declared.tx.TxDecl.{TxDecl}
 use Rattle.zeus_model.specs.declared.answer.Answer.TheVariants.{Twice, Waits, Begin as BeginAnswer}
@@ -14,8 +14,8 @@ use Rattle.zeus_model.specs.Book.{record_of}
 use Rattle.zeus_model.specs.Local.{begin_free, begin}
 use Rattle.zeus_model.specs.World.{World, node, link, nth_letter, waits_for, begin_refused}
 use Rattle.live_model.specs.Items.{Job, Stamped, Sight}
-use Rattle.live_model.specs.Cell.{Posted, DeedsFit, BeginFresh, CellEvent, Core, Deed, Began, Tried, Took, Ticked, Halted, Saw, step_of, stamp, declared, start_core, core, core_from, posts, posts_from, numbered, sends, AreClocks, BeginsFresh, IsFresh, DeedFits, does, notes_down}
-use Rattle.live_model.specs.Service.{sights, ServiceEvent, made, start_views, views_made, views_from}
+use Rattle.live_model.specs.Cell.{Posted, DeedsFit, BeginFresh, CellEvent, Began, Took, Saw, stamp, declared, start_core, posts, posts_from, numbered, sends, AreClocks, BeginsFresh, IsFresh, DeedFits}
+use Rattle.live_model.specs.Service.{sights, ServiceEvent, start_views}
 use Rattle.live_model.specs.Cluster.{Plan, Cluster, Events, IsCluster}
 use Rattle.live_model.specs.Merge.{Turn, cell_turn, service_turn, entry_of, turn_clock}
 use Rattle.live_replay.specs.Parts.{part, of_cell, of_service, cell_part, service_part}
@@ -137,9 +137,9 @@ noted-acked p es past t future w j i m at less noted =
     let n = (declared p.txs i).node in
     let seen = noted.seen in
     let split : In noted.note (notes n p.config p.txs noted.client (cell_part n past ++ cell_part n (t ∷ future))) =
-        subst (λ (zs : List CellEvent). In noted.note (notes n p.config p.txs noted.client zs)) (at.cells n noted.there) noted.is in
+    subst (λ (zs : List CellEvent). In noted.note (notes n p.config p.txs noted.client zs)) (at.cells n noted.there) noted.is in
     let here_acked = noted-early n p.config p.txs noted.client (turn_clock t) (start_core n p.config p.txs) (cell_part n past) (cell_part n (t ∷ future)) noted.note
-        (at.late n) (omega arith) noted.acked split in
+    (at.late n) (omega arith) noted.acked split in
     let agree = m.books n noted.there in
     let story = agree.own i refl in
     story.acked ∙ subst (λ (x : ℕ). is_some (record_of (core_of p.config p.txs n past).book x).acked ≡ true) noted.tx here_acked
@@ -191,11 +191,11 @@ finds-begin p k es past me e future w j a began fresh less seen =
     let unbegun : is_some (record_of w.book j.tx).begun ≡ false = story.begun ∙ none_some (record_of core.book j.tx).begun fresh.new in
     let live : core.node.stopped ≡ false = begun-live core.node _ _ _ fresh.begun in
     let running : (node w (declared w.txs j.tx).node).stopped ≡ false =
-        rw (m.declared, fresh.own) (ap (λ (n : Node). n.stopped) (m.nodes me a.there) ∙ live) in
+    rw (m.declared, fresh.own) (ap (λ (n : Node). n.stopped) (m.nodes me a.there) ∙ live) in
     let noted : IfSome (declared p.txs j.tx).after (λ i. WasNoted p es j i) =
-        after-noted p k es me j (cell_part me past) (cell_part me future) e a.cluster a.fit a.there (at-split p k es past me e future w a) began fresh.own less in
+    after-noted p k es me j (cell_part me past) (cell_part me future) e a.cluster a.fit a.there (at-split p k es past me e future w a) began fresh.own less in
     let acked : IfSome (declared p.txs j.tx).after (λ i. is_some (record_of w.book i).acked ≡ true) =
-        IfSome_then (declared p.txs j.tx).after noted (λ i n. noted-acked p es past (cell_turn me e) future w j i m a.at seen n) in
+    IfSome_then (declared p.txs j.tx).after noted (λ i n. noted-acked p es past (cell_turn me e) future w j i m a.at seen n) in
     three_none _ _ _ (where_false _ Twice unbegun) (where_false _ (BeginAnswer Stopped) running)
     (waits-none (declared w.txs j.tx).after w (subst (λ (ts : List TxDecl). IfSome (declared ts j.tx).after (λ i. is_some (record_of w.book i).acked ≡ true)) (sym m.declared) acked))
 
@@ -209,10 +209,10 @@ finds-packet p k es past me e future w sender q a took there_sender less =
     let sent = packet-sent p k es me sender q (cell_part me past) (cell_part me future) e a.cluster a.there there_sender (at-split p k es past me e future w a) took in
     let later = cell_part sender (cell_turn me e ∷ future) in
     let split : In q (numbered 0 (posts sender c p.txs me (cell_part sender past) ++ posts_from sender c p.txs me (core_of c p.txs sender past) later)) =
-        subst (λ (ps : List Posted). In q (numbered 0 ps)) (posts_from-append sender c p.txs me (start_core sender c p.txs) (cell_part sender past) later)
-        (subst (λ (zs : List CellEvent). In q (numbered 0 (posts sender c p.txs me zs))) (at.cells sender there_sender) sent) in
+    subst (λ (ps : List Posted). In q (numbered 0 ps)) (posts_from-append sender c p.txs me (start_core sender c p.txs) (cell_part sender past) later)
+    (subst (λ (zs : List CellEvent). In q (numbered 0 (posts sender c p.txs me zs))) (at.cells sender there_sender) sent) in
     let early = numbered-early 0 e.clock (posts sender c p.txs me (cell_part sender past)) (posts_from sender c p.txs me (core_of c p.txs sender past) later) q
-        (posts_from-late sender c p.txs me e.clock (core_of c p.txs sender past) later (at.late sender)) less split in
+    (posts_from-late sender c p.txs me e.clock (core_of c p.txs sender past) later (at.late sender)) less split in
     let place : q.number - 0 ≡ q.number = omega arith in
     rw (m.links sender me there_sender) (rw place at early.1)
 

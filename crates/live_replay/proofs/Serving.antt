@@ -183,7 +183,7 @@ unfolding viewed StepFits
 service-mirrors c txs past w e m s =
     let serves_so : happens w (View e.members) ≡ serves w e.members = happens-serves w e.node e.members s.members s.stopped in
     let next : IsRising e.members × IsBelow c.nodes e.members =
-        rw (s.members) (RisesFrom-without 0 e.node (last_view w.views) m.last.0, IsBelow-without c.nodes e.node (last_view w.views) m.last.1) in
+    rw (s.members) (RisesFrom-without 0 e.node (last_view w.views) m.last.0, IsBelow-without c.nodes e.node (last_view w.views) m.last.1) in
     let reached : IsReached (serves w e.members).world = subst (λ (x : Event). IsReached x.world) serves_so (step-reached c txs w (View e.members) m.config m.declared m.reached next) in
     subst (λ (x : Event). Mirrors c txs (past ++ service_turn e ∷ []) x.world) (sym serves_so)
     record {

@@ -16,7 +16,7 @@ use Rattle.zeus_model.specs.Membership.{install, stop, tick}
 use Rattle.zeus_model.specs.Receive.{untaken, receive_or_not, receive}
 use Rattle.live_model.specs.Cell.{Deed, Began, Tried as TriedDeed, Took, Ticked, Halted, Saw, declared, does}
 use Rattle.live_replay.proofs.BookSteps.{TriesOwn}
-use Rattle.zeus_model.specs.declared.answer.Stop.TheVariants.{Done}
+use Rattle.zeus_model.specs.declared.answer.Stop.TheVariants.{Stopped as StopStopped, Done}
 
 -- ---- causes against a write transaction name no transaction
 
@@ -122,6 +122,6 @@ pub stop-stops : (txs : List TxDecl) (n : Node) → (does txs n Halted).node.sto
 unfolding does stop
 stop-stops txs n = stops n.stopped n refl
   where
-    stops : (b : Bool) (n : Node) → n.stopped ≡ b → (if b then just n Rattle.zeus_model.specs.declared.answer.Stop.TheVariants.Stopped else just (record n { stopped = true }) Done).node.stopped ≡ true
+    stops : (b : Bool) (n : Node) → n.stopped ≡ b → (if b then just n StopStopped else just (record n { stopped = true }) Done).node.stopped ≡ true
     stops true n is = is
     stops false n is = refl

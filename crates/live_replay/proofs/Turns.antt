@@ -89,14 +89,14 @@ service-step p k es past e future w h at m =
     let service = h.service in
     let split : es.service ≡ service_part past ++ e ∷ service_part future = at.service ∙ ap (λ (zs : List ServiceEvent). service_part past ++ zs) (served-part e future) in
     let there : e.node < p.config.nodes =
-        halts-fit-at p.config (service_part past) (service_part future) e (subst (λ (zs : List ServiceEvent). HaltsFit p.config zs) split service.fit) in
+    halts-fit-at p.config (service_part past) (service_part future) e (subst (λ (zs : List ServiceEvent). HaltsFit p.config zs) split service.fit) in
     let less : e.halt < e.clock =
-        service_clock-above 0 (service_part past) (service_part future) e (subst (λ (zs : List ServiceEvent). AreServiceClocks 0 zs) split service.clocks) in
+    service_clock-above 0 (service_part past) (service_part future) e (subst (λ (zs : List ServiceEvent). AreServiceClocks 0 zs) split service.clocks) in
     let members : e.members ≡ without e.node (last_view (views_made p.config (service_part past))) =
-        views-at (start_views p.config) (service_part past) (service_part future) e (subst (λ (zs : List ServiceEvent). AreViews (start_views p.config) zs) split service.made) in
+    views-at (start_views p.config) (service_part past) (service_part future) e (subst (λ (zs : List ServiceEvent). AreViews (start_views p.config) zs) split service.made) in
     let halt = subst (λ (zs : List CellEvent). In e.halt (halts zs)) (at.cells e.node there) (stop-made p k es (service_part past) (service_part future) e h there split) in
     let stopped : (core_of p.config p.txs e.node past).node.stopped ≡ true =
-        halted-early e.node p.config p.txs e.clock (start_core e.node p.config p.txs) (cell_part e.node past) (cell_part e.node (service_turn e ∷ future)) e.halt (at.late e.node) less halt in
+    halted-early e.node p.config p.txs e.clock (start_core e.node p.config p.txs) (cell_part e.node past) (cell_part e.node (service_turn e ∷ future)) e.halt (at.late e.node) less halt in
     record {
       members = members ∙ ap (λ (vs : List (List ℕ)). without e.node (last_view vs)) (sym m.views);
       stopped = ap (λ (n : Node). n.stopped) (m.nodes e.node there) ∙ stopped;

@@ -16,6 +16,7 @@ unfoldable pub NoneMissed : World → List Step → Type 0
 NoneMissed w [] = Unit {0}
 NoneMissed w (s ∷ ss) = (IsMissed (happens w s).answer → ⊥) × NoneMissed (stepped w s) ss
 
+-- whether a step is a stop
 unfoldable pub is_stop : Step → Bool
 is_stop (Stop n) = true
 is_stop _ = false
@@ -26,6 +27,7 @@ needs_stop (View set) = true
 needs_stop (Install n e) = true
 needs_stop _ = false
 
+-- whether a stop is among the steps
 unfoldable pub has_stop : List Step → Bool
 has_stop [] = false
 has_stop (s ∷ ss) = is_stop s || has_stop ss

@@ -9,10 +9,12 @@ unfoldable pub part : {A B : Type 0} → (A → List B) → List A → List B
 part f [] = []
 part f (x ∷ xs) = f x ++ part f xs
 
+-- the event, where it is this node's
 unfoldable pub of_cell : ℕ → Turn → List CellEvent
 of_cell n (cell_turn m e) = if m == n then e ∷ [] else []
 of_cell n (service_turn e) = []
 
+-- the event, where it is the service's
 unfoldable pub of_service : Turn → List ServiceEvent
 of_service (cell_turn m e) = []
 of_service (service_turn e) = e ∷ []

@@ -1,12 +1,15 @@
 -- Letters of one sender put on their links one after another.
-use Rattle.std.proofs.Common.{ℕ, zero, suc, ◌≡◌, ◌<◌, ◌≤◌, ◌+◌, List, [], ◌∷◌, ◌++◌, length, drop, get_or, refl, sym, ap, ◌∙◌, add-one, append_assoc, append-nil, arith}
+use Rattle.std.proofs.Common.{ℕ, zero, suc, true, Option, Some, None, ◌≡◌, ◌<◌, ◌≤◌, ◌+◌, List, [], ◌∷◌, ◌++◌, length, drop, get_or, refl, sym, ap, ◌∙◌, add-one, append_assoc, append-nil, arith}
 use Rattle.std.proofs.Math.Seq.{drop-cons}
 use Rattle.zeus_base.specs.TableLaws.{length-put, nth-put_same}
+use Rattle.std.specs.Option.{option_map}
+use Rattle.zeus_packet.specs.Fits.{fits}
 use Rattle.zeus_packet.specs.declared.letter.Letter.{Letter}
 use Rattle.zeus_packet.specs.declared.letter.Packet.{Packet}
 use Rattle.zeus_model.specs.Tables.{nth}
 use Rattle.zeus_model.specs.World.{all_posted, link, packets, posted}
-use Rattle.zeus_world.specs.Links.{LinkState, letters, room, row_letters, HasRoom, IsLink}
+use Rattle.zeus_wire.specs.Ranges.{largest}
+use Rattle.lossy_fabric.specs.Links.{LinkState, letters, numbered, room, row_letters, HasRoom, IsLink}
 use Rattle.zeus_world.specs.Posting.{AreFrom, CanPost}
 use Rattle.zeus_world.proofs.Sending.{letters-nth}
 
@@ -39,6 +42,10 @@ first_link rows l ls c =
       from = rw (from) c.there;
       to = rw (from) c.receivers.0.1;
     }
+
+pub first_fits : (rows : List (List LinkState)) (l : Letter) (ls : List Letter) → CanPost rows (l ∷ ls) → fits l (largest 2) ≡ true
+unfolding AreFrom
+first_fits rows l ls c = c.receivers.0.2
 
 pub first_room : (rows : List (List LinkState)) (l : Letter) (ls : List Letter) → CanPost rows (l ∷ ls) → 0 < room rows l.from l.to
 unfolding AreFrom HasRoom
@@ -97,3 +104,13 @@ noted_first before links l ls n e = rw (append_assoc, e) refl
 pub noted_none : (before : List Packet) (links : List (List (List Letter))) → before ≡ before ++ packets links []
 unfolding packets
 noted_none before links = sym (append-nil before)
+
+-- the letter of a packet that a link gives
+pub found_letter : (number : ℕ) (found : Option Letter) (p : Packet) → Some p ≡ option_map (numbered number) found → found ≡ Some p.letter
+found_letter number (Some l) p e = cc e
+found_letter number None p e = absurd (cc e)
+
+-- a link that gives none has no letter there
+pub no_letter : (number : ℕ) (found : Option Letter) → None ≡ option_map (numbered number) found → found ≡ None
+no_letter number (Some l) e = absurd (cc e)
+no_letter number None e = refl

@@ -6,7 +6,7 @@ use Rattle.std.specs.List.{slice_get}
 use Rattle.zeus_base.specs.TableLaws.{nth-set_same}
 use Rattle.zeus_model.specs.Tables.{nth, put}
 use Rattle.zeus_model.specs.World.{nth_letter}
-use Rattle.zeus_world.specs.Links.{LinkState, letters_of, row_letters, letters, no_link, room, HasRoom}
+use Rattle.lossy_fabric.specs.Links.{LinkState, letters_of, row_letters, letters, no_link, room, HasRoom}
 
 pub length-set : {A : Type 0} (xs : List A) (i : ℕ) (v : A) → length (set xs i v) ≡ length xs
 length-set [] i v = refl

@@ -1,7 +1,8 @@
 -- What is written down when a node has acted, by the words of the machine.
 use Rattle.std.proofs.Common.{ℕ, zero, suc, ◌≡◌, ◌<◌, ◌≤◌, ◌+◌, ◌^◌, ◌++◌, List, [], ◌∷◌, Option, Some, None, length, take, refl, sym, ap, ◌∙◌, subst, arith, append-nil}
 use Rattle.std.specs.List.{All}
-use Rattle.zeus_base.specs.Limits.{limits_of}
+use Rattle.zeus_base.specs.Limits.{KeepsLimits, limits_of}
+use Rattle.zeus_base.specs.declared.config.Config.{Config}
 use Rattle.zeus_base.specs.declared.config.Limits.{Limits}
 use Rattle.std.proofs.Math.ListN.{set}
 use Rattle.zeus_base.specs.TableLaws.{put-set}
@@ -24,7 +25,9 @@ use Rattle.reached_worlds.specs.Ranged.{IsRanged}
 use Rattle.reached_worlds.proofs.Passes.{book_passes-sized}
 use Rattle.reached_worlds.proofs.Ranging.{fits_ends, first_fits, rest_fits}
 use Rattle.reached_worlds.proofs.Signed.{AreBy, by_take}
-use Rattle.zeus_world.specs.Links.{LinkState, HasRoom, IsLink, letters}
+use Rattle.lossy_fabric.proofs.Largest.{fits_largest}
+use Rattle.zeus_wire.specs.Ranges.{AreLimits}
+use Rattle.lossy_fabric.specs.Links.{LinkState, HasRoom, IsLink, letters}
 use Rattle.zeus_world.specs.Posting.{AreFrom, CanPost}
 use Rattle.zeus_world.specs.Reports.{HasSpace, Reports}
 use Rattle.zeus_world.specs.Settling.{CanSettle, IsSettled}
@@ -58,11 +61,16 @@ passes_counted b c me ps before points acked e f h =
 
 -- ---- letters that can be posted
 
-are_from : (n nodes : ℕ) (limits : Limits) (ls : List Letter) → nodes ≡ limits.nodes → AreBy n ls → AllFit limits ls → AreFrom n nodes ls
+-- the limits of a configuration are within the largest
+are_limits : (c : Config) → KeepsLimits c → AreLimits (limits_of c)
+are_limits c keeps = record { version = keeps.version; nodes = keeps.nodes.1; slots = keeps.slots.1; objects = keeps.objects.1 }
+
+are_from : (n nodes : ℕ) (limits : Limits) (ls : List Letter) → AreLimits limits → nodes ≡ limits.nodes → AreBy n ls → AllFit limits ls → AreFrom n nodes ls
 unfolding AreBy AreFrom
-are_from n nodes limits [] e by fit = tt
-are_from n nodes limits (l ∷ ls) e by fit =
-    ((by.0, rw e (fits_ends limits l (first_fits limits l ls fit)).to), are_from n nodes limits ls e by.1 (rest_fits limits l ls fit))
+are_from n nodes limits [] are e by fit = tt
+are_from n nodes limits (l ∷ ls) are e by fit =
+    let first = first_fits limits l ls fit in
+    ((by.0, rw e (fits_ends limits l first).to, fits_largest limits l are first), are_from n nodes limits ls are e by.1 (rest_fits limits l ls fit))
 
 length-take-most : {A : Type 0} (n : ℕ) (xs : List A) → length (take n xs) ≤ n
 length-take-most zero xs = omega arith
@@ -80,7 +88,7 @@ can_post w n all said L is r h e by fit room =
     rw is (record {
       sender = n;
       there = rw size h;
-      receivers = are_from n (length (nth [] L n)) (limits_of w.config) (take 64 all) row (by_take n 64 all by) (AllFit-take (limits_of w.config) 64 all fit);
+      receivers = are_from n (length (nth [] L n)) (limits_of w.config) (take 64 all) (are_limits w.config r.limits) row (by_take n 64 all by) (AllFit-take (limits_of w.config) 64 all fit);
       room = room_most (nth [] L n) (length (take 64 all)) 64 (length-take-most 64 all) room;
     })
 

@@ -8,7 +8,7 @@ use Rattle.zeus_model.specs.State.{Node}
 use Rattle.zeus_model.specs.Tables.{below, nth, numbers_from}
 use Rattle.zeus_model.specs.World.{World, start, start_node}
 use Rattle.history_book.specs.Books.{BookState}
-use Rattle.zeus_world.specs.Links.{LinkState, letters, letters_of, no_link, row_letters}
+use Rattle.lossy_fabric.specs.Links.{LinkState, letters, letters_of, no_link, row_letters}
 
 map_push : {A : Type 0} (f : ℕ → A) (i n : ℕ) → map f (numbers_from i n) ++ f (i + n) ∷ [] ≡ map f (numbers_from i (suc n))
 unfolding numbers_from

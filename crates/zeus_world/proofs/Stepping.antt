@@ -45,7 +45,7 @@ use Rattle.reached_worlds.proofs.Passes.{IsOfBelow, book_tried-sized}
 use Rattle.reached_worlds.proofs.Reaching.{IsKnown}
 use Rattle.reached_worlds.proofs.Telling.{can_note, try_of_below}
 use Rattle.reached_worlds.proofs.Signed.{AreBy, tick-passed}
-use Rattle.zeus_world.specs.Links.{LinkState, HasRoom, letters}
+use Rattle.lossy_fabric.specs.Links.{LinkState, HasRoom, letters}
 use Rattle.zeus_world.specs.Settling.{CanSettle, IsSettled}
 use Rattle.zeus_world.specs.Taken.{IsAlone, IsTaken}
 use Rattle.zeus_world.specs.declared.report.Report.{Report}

@@ -1,4 +1,3 @@
-pub mod Links
 pub mod Order
 pub mod Packets
 pub mod Posting

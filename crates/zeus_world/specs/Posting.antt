@@ -1,13 +1,15 @@
 -- Letters that one sender puts on its links.
-use Rattle.std.specs.Prelude.{ℕ, ◌≡◌, ◌<◌, List, [], ◌∷◌, length}
+use Rattle.std.specs.Prelude.{ℕ, true, ◌≡◌, ◌<◌, List, [], ◌∷◌, length}
+use Rattle.zeus_packet.specs.Fits.{fits}
 use Rattle.zeus_packet.specs.declared.letter.Letter.{Letter}
+use Rattle.zeus_wire.specs.Ranges.{largest}
 use Rattle.zeus_model.specs.Tables.{nth}
-use Rattle.zeus_world.specs.Links.{LinkState, HasRoom}
+use Rattle.lossy_fabric.specs.Links.{LinkState, HasRoom}
 
--- letters of a sender to nodes that there are
+-- letters of a sender to nodes that there are, which fit the largest limits
 unfoldable pub AreFrom : ℕ → ℕ → List Letter → Type 0
 AreFrom sender nodes [] = Unit {0}
-AreFrom sender nodes (l ∷ ls) = ((l.from ≡ sender) × (l.to < nodes)) × AreFrom sender nodes ls
+AreFrom sender nodes (l ∷ ls) = ((l.from ≡ sender) × (l.to < nodes) × (fits l (largest 2) ≡ true)) × AreFrom sender nodes ls
 
 -- the letters are of one sender, whose links are there and have room for all of them
 pub record CanPost (rows : List (List LinkState)) (ls : List Letter) : Type 0 where

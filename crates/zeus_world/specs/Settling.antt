@@ -5,7 +5,7 @@ use Rattle.zeus_packet.specs.declared.letter.Letter.{Letter}
 use Rattle.zeus_model.specs.Book.{BookChange, book_passes, counted, in_stream_order}
 use Rattle.zeus_model.specs.World.{all_posted, packets}
 use Rattle.history_book.specs.Books.{BookState, HasLists, with_book}
-use Rattle.zeus_world.specs.Links.{LinkState, letters}
+use Rattle.lossy_fabric.specs.Links.{LinkState, letters}
 use Rattle.zeus_world.specs.Posting.{CanPost}
 use Rattle.zeus_world.specs.declared.report.Report.{Report}
 

@@ -2,7 +2,7 @@
 use Rattle.std.specs.Prelude.{◌≡◌}
 use Rattle.zeus_model.specs.World.{World}
 use Rattle.history_book.specs.Books.{BookState}
-use Rattle.zeus_world.specs.Links.{letters}
+use Rattle.lossy_fabric.specs.Links.{letters}
 use Rattle.reached_worlds.specs.Reached.{IsReached}
 use Rattle.zeus_world.specs.declared.world.World.TheInside.{Inside}
 

@@ -75,7 +75,7 @@ impl<'a> World<'a> {
     {
         report.reserve(self.book.txs() as usize)?;
         self.links.reserve(to)?;
-        let Some(letter) = self.links.get(from, to, number) else {
+        let Some(packet) = self.links.get(from, to, number) else {
             let count = self.links.count(from, to);
             answer_alone(&mut self.book, Answer::NoPacket(count), report);
             return Ok(());
@@ -83,7 +83,7 @@ impl<'a> World<'a> {
         report.clear();
         self.effect.clear();
         let node = &mut self.nodes[to.place()];
-        report.answer = Answer::Receive(node.receive(letter, &mut self.effect));
+        report.answer = Answer::Receive(node.receive(&packet.letter, &mut self.effect));
         settle(
             to,
             &self.effect,

@@ -3,7 +3,6 @@
 
 mod acts;
 mod alone;
-mod links;
 mod order;
 mod posting;
 mod readers;
@@ -13,7 +12,7 @@ mod steps;
 mod world;
 
 pub use history_book::{Book, IdList};
-pub use links::Links;
+pub use lossy_fabric::Links;
 pub use membership::Service;
 pub use report::{Packets, Report};
 pub use world::World;

@@ -1,14 +1,14 @@
 //! What is written down when a node has acted: its passes in the book, and its letters on their links.
 ghost use Rattle.std.specs.Prelude.{◌≡◌, ◌≤◌, ◌+◌, ◌++◌, length};
 ghost use Rattle.zeus_model.specs.World.{all_posted, packets};
-ghost use Rattle.zeus_world.specs.Links.{letters};
+ghost use Rattle.lossy_fabric.specs.Links.{letters};
 ghost use Rattle.zeus_world.specs.Posting.{CanPost};
 ghost use Rattle.zeus_world.specs.Settling.{CanSettle, IsSettled};
 
-use crate::links::Links;
 use crate::order::Passes;
 use crate::report::{Packets, Report};
 use history_book::Book;
+use lossy_fabric::Links;
 use zeus_base::NodeId;
 use zeus_node::Effect;
 use zeus_packet::{Letter, Packet};

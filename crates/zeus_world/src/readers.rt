@@ -3,12 +3,12 @@ ghost use Rattle.std.specs.Prelude.{◌≡◌, ◌<◌, length};
 ghost use Rattle.zeus_model.specs.Readers.{is_closed, is_ended, is_live, is_lost, owner, tx_state, waits_in_vain};
 ghost use Rattle.zeus_model.specs.Sound.{latest_entry, latest_place};
 ghost use Rattle.zeus_model.specs.State.{copy, owns};
-ghost use Rattle.zeus_world.specs.Links.{letters};
+ghost use Rattle.lossy_fabric.specs.Links.{letters};
 ghost use Rattle.zeus_model.specs.World.{node as node_of, tx_decl};
 
-use crate::links::Links;
 use crate::world::World;
 use history_book::Book;
+use lossy_fabric::Links;
 use membership::Service;
 use zeus_base::{NodeId, ObjId, TxId};
 use zeus_model::{Copy, Entry, TxState};

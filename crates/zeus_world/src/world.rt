@@ -8,10 +8,10 @@ ghost use Rattle.zeus_model.specs.World.{happens, start, start_node, stepped};
 ghost use Rattle.zeus_world.specs.Refusals.{IsNoRefusal};
 ghost use Rattle.zeus_world.specs.Reports.{Reports};
 
-use crate::links::Links;
 use crate::order::Passes;
 use crate::report::Report;
 use history_book::Book;
+use lossy_fabric::Links;
 use membership::Service;
 use soundness::every_run_is_sound;
 use std::alloc::Global;

@@ -1,13 +1,18 @@
 use Rattle.std.proofs.Common.{◌+◌, ◌∙◌, ap, drop, arith}
 use Rattle.zeus_model.specs.World.{all_posted}
-use Rattle.zeus_world.specs.Links.{letters}
-use Rattle.zeus_world.proofs.Batches.{drop-here, drop-end, first_link, first_room, later_post, posted_first, posted_none, noted_first, noted_none}
+use Rattle.lossy_fabric.specs.Links.{letters}
+use Rattle.zeus_world.proofs.Batches.{drop-here, drop-end, first_fits, first_link, first_room, later_post, posted_first, posted_none, noted_first, noted_none}
 use Rattle.zeus_world.proofs.posting.post_all.Goals as goal
 
 pub send-number-requires-clause-there : goal.send-number-requires-clause-there
 send-number-requires-clause-there c =
     let rest = drop-here _ _ _ c.loop-letter-test.true c.letter-item.is in
     (first_link _ _ _ (rw rest at c.loop-letter.invariant.can))
+
+pub send-number-requires-clause-fits : goal.send-number-requires-clause-fits
+send-number-requires-clause-fits c =
+    let rest = drop-here _ _ _ c.loop-letter-test.true c.letter-item.is in
+    (first_fits _ _ _ (rw rest at c.loop-letter.invariant.can))
 
 pub send-number-requires-clause-room : goal.send-number-requires-clause-room
 send-number-requires-clause-room c =

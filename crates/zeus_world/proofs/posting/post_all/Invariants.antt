@@ -1,6 +1,6 @@
 use Rattle.std.proofs.Common.{◌≡◌, ◌≤◌, ◌+◌, ◌++◌, drop, length}
 use Rattle.zeus_model.specs.World.{all_posted, packets}
-use Rattle.zeus_world.specs.Links.{letters}
+use Rattle.lossy_fabric.specs.Links.{letters}
 use Rattle.zeus_world.specs.Posting.{CanPost}
 use Rattle.zeus_world.proofs.posting.post_all.Given as goal
 

@@ -5,7 +5,7 @@ use Rattle.zeus_txn.specs.declared.tx.TxDecl.{TxDecl}
 use Rattle.zeus_model.specs.World.{no_tx, refuse_step, tx_decl}
 use Rattle.node_ranges.specs.Transactions.{FitsTx-declared}
 use Rattle.reached_worlds.proofs.Ranging.{tx_fits}
-use Rattle.zeus_world.specs.Links.{letters}
+use Rattle.lossy_fabric.specs.Links.{letters}
 use Rattle.zeus_world.specs.Shown.{shown}
 use Rattle.zeus_world.proofs.Keeping.{kept_after, known}
 use Rattle.zeus_world.proofs.Settling.{alone_as}

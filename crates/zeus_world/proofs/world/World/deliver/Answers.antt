@@ -8,8 +8,9 @@ use Rattle.zeus_model.specs.World.{link, nth_letter, refuse_step}
 use Rattle.zeus_model.specs.declared.answer.Answer.TheVariants.{NoPacket}
 use Rattle.node_ranges.specs.Derived.{fits-shown}
 use Rattle.reached_worlds.proofs.Ranging.{letter_fits}
-use Rattle.zeus_world.specs.Links.{letters}
+use Rattle.lossy_fabric.specs.Links.{letters}
 use Rattle.zeus_world.specs.Shown.{shown}
+use Rattle.zeus_world.proofs.Batches.{found_letter, no_letter}
 use Rattle.zeus_world.proofs.Keeping.{kept_after, known}
 use Rattle.zeus_world.proofs.Settling.{has_lists, sender_there, alone_as, link_there}
 use Rattle.zeus_world.proofs.Stepping.{deliver_fits, deliver_taken, can_settle, node_at, place_there, deliver_none}
@@ -54,7 +55,7 @@ invariant_of-self-in_default c =
     let fits = rw (← c.self.view_is) at c.requires.fits in
     let places = deliver_fits _ _ c.args.from c.args.to c.args.number fits in
     let here = places.receiver in
-    let none = sym (c.in_default.ensures ∙ ap (λ (L : List (List (List Letter))). nth_letter (link L c.args.from c.args.to) c.args.number) c.reserve-2.ensures.letters) in
+    let none = sym (ap (λ (L : List (List (List Letter))). nth_letter (link L c.args.from c.args.to) c.args.number) c.reserve-2.ensures.letters) ∙ no_letter c.args.number _ c.in_default.ensures in
     let count = c.count-count.ensures ∙ ap (λ (L : List (List (List Letter))). length (link L c.args.from c.args.to)) c.reserve-2.ensures.letters in
     let happens = deliver_none w c.args.from c.args.to c.args.number none ∙ ap (λ n. refuse_step w (NoPacket n)) (sym count) in
     let taken = (alone_as w _ c.answer_alone.new.report _ (letters c.reserve-2.new.self) c.answer_alone.new.book.book happens c.reserve-2.ensures.letters (ap (λ (b : BookState). b.book) c.answer_alone.ensures.book) c.answer_alone.ensures.report) in
@@ -66,7 +67,7 @@ returns-in_default-clause-ok c =
     let fits = rw (← c.self.view_is) at c.requires.fits in
     let places = deliver_fits _ _ c.args.from c.args.to c.args.number fits in
     let here = places.receiver in
-    let none = sym (c.in_default.ensures ∙ ap (λ (L : List (List (List Letter))). nth_letter (link L c.args.from c.args.to) c.args.number) c.reserve-2.ensures.letters) in
+    let none = sym (ap (λ (L : List (List (List Letter))). nth_letter (link L c.args.from c.args.to) c.args.number) c.reserve-2.ensures.letters) ∙ no_letter c.args.number _ c.in_default.ensures in
     let count = c.count-count.ensures ∙ ap (λ (L : List (List (List Letter))). length (link L c.args.from c.args.to)) c.reserve-2.ensures.letters in
     let happens = deliver_none w c.args.from c.args.to c.args.number none ∙ ap (λ n. refuse_step w (NoPacket n)) (sym count) in
     rw (← c.self.view_is) (alone_as w _ c.answer_alone.new.report _ (letters c.reserve-2.new.self) c.answer_alone.new.book.book happens c.reserve-2.ensures.letters (ap (λ (b : BookState). b.book) c.answer_alone.ensures.book) c.answer_alone.ensures.report)
@@ -79,9 +80,9 @@ receive-requires-clause-fits c =
     let here = places.receiver in
     let k = rw c.place.ensures at c.index_mut-node.ensures.value in
     let at = node_at w c.args.to _ (known _ _ c.self.invariant).ranged here k in
-    let found = sym (c.in-Some.ensures ∙ ap (λ (L : List (List (List Letter))). nth_letter (link L c.args.from c.args.to) c.args.number) c.reserve-2.ensures.letters) in
+    let found = sym (ap (λ (L : List (List (List Letter))). nth_letter (link L c.args.from c.args.to) c.args.number) c.reserve-2.ensures.letters) ∙ found_letter c.args.number _ _ c.in-Some.ensures in
     let fit = letter_fits w c.args.from c.args.to c.args.number _ (known _ _ c.self.invariant).ranged found in
-    fits-shown _ _ c.in-Some.letter.now at.keeps fit
+    fits-shown _ _ c.in-Some.packet.letter at.keeps fit
 
 pub settle-requires : goal.settle-requires
 settle-requires c =
@@ -91,11 +92,11 @@ settle-requires c =
     let here = places.receiver in
     let k = rw c.place.ensures at c.index_mut-node.ensures.value in
     let at = node_at w c.args.to _ (known _ _ c.self.invariant).ranged here k in
-    let found = sym (c.in-Some.ensures ∙ ap (λ (L : List (List (List Letter))). nth_letter (link L c.args.from c.args.to) c.args.number) c.reserve-2.ensures.letters) in
+    let found = sym (ap (λ (L : List (List (List Letter))). nth_letter (link L c.args.from c.args.to) c.args.number) c.reserve-2.ensures.letters) ∙ found_letter c.args.number _ _ c.in-Some.ensures in
     let fit = letter_fits w c.args.from c.args.to c.args.number _ (known _ _ c.self.invariant).ranged found in
     let counted = rw (← c.self.view_is) at c.requires.counted in
-    let keeps = receive-keeps _ _ c.in-Some.letter.now fit at.keeps in
-    let by = receive-by c.args.to c.in-Some.letter.now _ at.number in
+    let keeps = receive-keeps _ _ c.in-Some.packet.letter fit at.keeps in
+    let by = receive-by c.args.to c.in-Some.packet.letter _ at.number in
     let space = c.in_ok-reserve.ensures.space in
     let points = c.clear.ensures.points_room in
     let acked = c.clear.ensures.acked_room in
@@ -111,10 +112,10 @@ invariant_of-self-2 c =
     let here = places.receiver in
     let k = rw c.place.ensures at c.index_mut-node.ensures.value in
     let at = node_at w c.args.to _ (known _ _ c.self.invariant).ranged here k in
-    let found = sym (c.in-Some.ensures ∙ ap (λ (L : List (List (List Letter))). nth_letter (link L c.args.from c.args.to) c.args.number) c.reserve-2.ensures.letters) in
+    let found = sym (ap (λ (L : List (List (List Letter))). nth_letter (link L c.args.from c.args.to) c.args.number) c.reserve-2.ensures.letters) ∙ found_letter c.args.number _ _ c.in-Some.ensures in
     let fit = letter_fits w c.args.from c.args.to c.args.number _ (known _ _ c.self.invariant).ranged found in
     let taken =
-    (deliver_taken w c.args.from c.args.to c.args.number c.in-Some.letter.now _ c.receive.new.self c.receive.result c.receive.new.out.sent c.receive.new.out.passed c.self.inside.book c.settle.new.book c.reserve-2.new.self c.settle.new.links _ c.settle.new.report at found
+    (deliver_taken w c.args.from c.args.to c.args.number c.in-Some.packet.letter _ c.receive.new.self c.receive.result c.receive.new.out.sent c.receive.new.out.passed c.self.inside.book c.settle.new.book c.reserve-2.new.self c.settle.new.links _ c.settle.new.report at found
     (record { says = c.receive.ensures.answer; becomes = c.receive.ensures.after; sends = c.receive.ensures.sent; passes = c.receive.ensures.passed }) c.reserve-2.ensures.letters refl
     (record { says = refl; points = c.clear.ensures.points; acked = c.clear.ensures.acked; sent = c.clear.ensures.sent }) c.settle.ensures) in
     rw c.place.ensures
@@ -128,9 +129,9 @@ returns-clause-ok c =
     let here = places.receiver in
     let k = rw c.place.ensures at c.index_mut-node.ensures.value in
     let at = node_at w c.args.to _ (known _ _ c.self.invariant).ranged here k in
-    let found = sym (c.in-Some.ensures ∙ ap (λ (L : List (List (List Letter))). nth_letter (link L c.args.from c.args.to) c.args.number) c.reserve-2.ensures.letters) in
+    let found = sym (ap (λ (L : List (List (List Letter))). nth_letter (link L c.args.from c.args.to) c.args.number) c.reserve-2.ensures.letters) ∙ found_letter c.args.number _ _ c.in-Some.ensures in
     let fit = letter_fits w c.args.from c.args.to c.args.number _ (known _ _ c.self.invariant).ranged found in
     rw (← c.self.view_is, c.place.ensures)
-    (deliver_taken w c.args.from c.args.to c.args.number c.in-Some.letter.now _ c.receive.new.self c.receive.result c.receive.new.out.sent c.receive.new.out.passed c.self.inside.book c.settle.new.book c.reserve-2.new.self c.settle.new.links _ c.settle.new.report at found
+    (deliver_taken w c.args.from c.args.to c.args.number c.in-Some.packet.letter _ c.receive.new.self c.receive.result c.receive.new.out.sent c.receive.new.out.passed c.self.inside.book c.settle.new.book c.reserve-2.new.self c.settle.new.links _ c.settle.new.report at found
     (record { says = c.receive.ensures.answer; becomes = c.receive.ensures.after; sends = c.receive.ensures.sent; passes = c.receive.ensures.passed }) c.reserve-2.ensures.letters refl
     (record { says = refl; points = c.clear.ensures.points; acked = c.clear.ensures.acked; sent = c.clear.ensures.sent }) c.settle.ensures)

@@ -8,7 +8,7 @@ use Rattle.zeus_packet.specs.declared.place.View.{View}
 use Rattle.zeus_base.specs.Limits.{limits_of}
 use Rattle.zeus_model.specs.World.{refuse_step}
 use Rattle.zeus_model.specs.declared.answer.Answer.TheVariants.{NoView}
-use Rattle.zeus_world.specs.Links.{letters}
+use Rattle.lossy_fabric.specs.Links.{letters}
 use Rattle.zeus_world.specs.Shown.{shown}
 use Rattle.zeus_world.proofs.Keeping.{kept_after, known}
 use Rattle.zeus_world.proofs.Settling.{has_lists, sender_there, alone_as}

@@ -1,7 +1,7 @@
 use Rattle.std.proofs.Common.{ap, refl, arith}
 use Rattle.history_book.specs.Books.{BookState}
 use Rattle.zeus_model.specs.Book.{Book}
-use Rattle.zeus_world.specs.Links.{letters}
+use Rattle.lossy_fabric.specs.Links.{letters}
 use Rattle.zeus_world.specs.Shown.{shown}
 use Rattle.zeus_world.proofs.Keeping.{kept_after, known}
 use Rattle.zeus_world.proofs.Stepping.{fits_stop, node_at, place_there, stop_taken}

@@ -3,7 +3,7 @@ use Rattle.history_book.specs.Books.{BookState}
 use Rattle.node_ranges.specs.LocalRules.{try_slot-keeps}
 use Rattle.reached_worlds.proofs.Signed.{try_slot-by}
 use Rattle.zeus_model.specs.Book.{book_tried}
-use Rattle.zeus_world.specs.Links.{letters}
+use Rattle.lossy_fabric.specs.Links.{letters}
 use Rattle.zeus_world.specs.Shown.{shown}
 use Rattle.zeus_world.proofs.Keeping.{kept_after, known}
 use Rattle.zeus_world.proofs.Settling.{has_lists, sender_there, made_first}

@@ -1,9 +1,0 @@
-use Rattle.zeus_world.specs.Links.{no_link}
-use Rattle.zeus_base.specs.TableLaws.{nth_read}
-use Rattle.zeus_world.proofs.links.Row.get.Goals as goal
-
-pub returns : goal.returns
-returns c =
-    let link = rw c.place.ensures at c.index-link.ensures in
-    let to = rw (← c.self.view_is) at c.requires in
-    rw (← c.self.view_is, nth_read no_link _ c.args.to _ to link) c.get.ensures
