@@ -21,3 +21,4 @@ pub mod StepChanges
 pub mod Telling
 pub mod Told
 pub mod Written
+pub mod Moments

@@ -1,11 +1,24 @@
 -- The whole promise of a run, in one record.
-use Rattle.std.specs.Prelude.{List}
+use Rattle.std.specs.Prelude.{ℕ, ◌≡◌, ◌≢◌, List}
 use Rattle.zeus_base.specs.declared.step.Step.{Step}
+use Rattle.zeus_packet.specs.declared.letter.Cause.TheVariants.{OwnStream, Window, NotArbiter, NotCollector, OwnPlace}
+use Rattle.zeus_model.specs.declared.answer.Answer.{Answer}
+use Rattle.zeus_model.specs.declared.answer.Answer.TheVariants.{Receive}
+use Rattle.zeus_model.specs.declared.answer.Outcome.TheVariants.{Refused}
 use Rattle.zeus_model.specs.Sound.{Sound}
-use Rattle.zeus_model.specs.World.{World, run}
+use Rattle.zeus_model.specs.World.{World, Event, run, start}
 use Rattle.soundness.specs.History.{IsInOrder}
 use Rattle.soundness.specs.Placements.{IsPlaced}
-use Rattle.soundness.specs.Telling.{IsOnce, IsTold}
+use Rattle.soundness.specs.Telling.{Does, IsOnce, IsTold}
+
+-- no letter is refused because the stream is the receiver's own, because its window for the stream is full, because it is no
+-- arbiter or no collector of the proposal, or because the placement would make it the owner without its own request
+pub record IsNoRefusal (answer : Answer) : Type 0 where
+  pub own_stream : answer ≢ Receive (Refused OwnStream)
+  pub window : answer ≢ Receive (Refused Window)
+  pub arbiter : answer ≢ Receive (Refused NotArbiter)
+  pub collector : answer ≢ Receive (Refused NotCollector)
+  pub own_place : answer ≢ Receive (Refused OwnPlace)
 
 -- what holds after these steps from a world on
 pub record KeepsPromise (w : World) (steps : List Step) : Type 0 where
@@ -19,3 +32,11 @@ pub record KeepsPromise (w : World) (steps : List Step) : Type 0 where
   pub told : IsTold w steps
   -- what happens to a transaction happens once
   pub once : IsOnce w steps
+  -- no step answers a refusal that never comes
+  pub never : (k : ℕ) (e : Event) → Does w steps k e → IsNoRefusal e.answer
+
+-- some steps lead to the world from its start, and their run keeps the promise
+pub record HasPromise (w : World) : Type 0 where
+  pub steps : List Step
+  pub leads : w ≡ run (start w.config w.txs) steps
+  pub kept : KeepsPromise (start w.config w.txs) steps

@@ -150,8 +150,8 @@ pub fn never_refused_so()
         × (answer ≢ Receive (Refused NotCollector)) × (answer ≢ Receive (Refused OwnPlace)) }
 {}
 
-/// Every run keeps the whole promise, after each of its steps: all that `every_run_is_sound` and
-/// `every_run_tells_its_history` say, in one word for who hands it on.
+/// Every run keeps the whole promise, after each of its steps: all that the other theorems here say, in one word for who
+/// hands it on.
 pub fn every_run_keeps_its_promise()
     ensures { (c : Config) (txs : List TxDecl) (steps : List Step) → KeepsLimits c → FitsTxs c txs → All (FitsStep c (length txs)) steps
         → (k : ℕ) → KeepsPromise (start c txs) (take k steps) }

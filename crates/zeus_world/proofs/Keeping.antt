@@ -10,6 +10,7 @@ use Rattle.zeus_txn.specs.declared.tx.TxDecl.{TxDecl}
 use Rattle.zeus_model.specs.Book.{Book}
 use Rattle.zeus_model.specs.Scripts.{FitsStep, FitsTxs}
 use Rattle.zeus_model.specs.Sound.{Sound}
+use Rattle.soundness.specs.Promise.{HasPromise, KeepsPromise}
 use Rattle.zeus_model.specs.World.{World, happens, run, start, stepped}
 use Rattle.history_book.specs.Books.{BookState}
 use Rattle.reached_worlds.specs.Reached.{IsReached}
@@ -60,11 +61,27 @@ reached_step w s r f =
       same_txs = same.txs ∙ r.same_txs;
     }
 
--- a world that is reached is sound, as every run is
-pub reached_sound : (w : World) → IsReached w → ((c : Config) (txs : List TxDecl) (steps : List Step) → KeepsLimits c → FitsTxs c txs → All (FitsStep c (length txs)) steps → (k : ℕ) → Sound (run (start c txs) (take k steps))) → Sound w
-reached_sound w r sound =
-    let all = sound r.config r.txs r.steps r.limits r.fit_txs r.fit_steps (length r.steps) in
-    rw (r.leads) (rw (take-length r.steps) at all)
+-- the theorem that every run keeps its promise
+abbrev pub EveryRunKeepsItsPromise : Type 0
+EveryRunKeepsItsPromise = (c : Config) (txs : List TxDecl) (steps : List Step) → KeepsLimits c → FitsTxs c txs → All (FitsStep c (length txs)) steps → (k : ℕ) → KeepsPromise (start c txs) (take k steps)
+
+-- a world that is reached has the promise, as every run keeps it
+pub reached_promised : (w : World) → IsReached w → EveryRunKeepsItsPromise → HasPromise w
+reached_promised w r promise =
+    let all = promise r.config r.txs r.steps r.limits r.fit_txs r.fit_steps (length r.steps) in
+    let those : KeepsPromise (start r.config r.txs) r.steps = (rw (take-length r.steps) at all) in
+    let config : start w.config w.txs ≡ start r.config w.txs = ap (λ (c : Config). start c w.txs) r.same_config in
+    let same : start w.config w.txs ≡ start r.config r.txs = config ∙ ap (λ (txs : List TxDecl). start r.config txs) r.same_txs in
+    let Kept : World → Type 0 = λ v. KeepsPromise v r.steps in
+    record {
+      steps = r.steps;
+      leads = r.leads ∙ ap (λ (v : World). run v r.steps) (sym same);
+      kept = subst Kept (sym same) those;
+    }
+
+-- so it is sound
+pub promised_sound : (w : World) → HasPromise w → Sound w
+promised_sound w p = rw (p.leads) (p.kept.sound)
 
 -- a step that fits keeps the world reached, and the book one of its configuration
 pub kept_after : (w v : World) (s : Step) (b c : BookState) → IsKept w b → FitsStep w.config (length w.txs) s → v ≡ stepped w s → c.nodes ≡ b.nodes → c.slots ≡ b.slots → IsKept v c
@@ -79,19 +96,15 @@ kept_after w v s b c k f e nodes slots =
 
 -- ---- what a step ensures
 
--- the theorem that every run is sound
-abbrev pub EveryRunIsSound : Type 0
-EveryRunIsSound = (c : Config) (txs : List TxDecl) (steps : List Step) → KeepsLimits c → FitsTxs c txs → All (FitsStep c (length txs)) steps → (k : ℕ) → Sound (run (start c txs) (take k steps))
-
-pub sound_stepped : (w v : World) (s t : Step) → IsReached w → FitsStep w.config (length w.txs) s → EveryRunIsSound → s ≡ t → v ≡ (happens w t).world → Sound v
-sound_stepped w v s t r f sound is e =
+pub promised_stepped : (w v : World) (s t : Step) → IsReached w → FitsStep w.config (length w.txs) s → EveryRunKeepsItsPromise → s ≡ t → v ≡ (happens w t).world → HasPromise v
+promised_stepped w v s t r f promise is e =
     let after : v ≡ stepped w s = e ∙ ap (λ (u : Step). stepped w u) (sym is) in
-    rw after (reached_sound (stepped w s) (reached_step w s r f) sound)
+    rw after (reached_promised (stepped w s) (reached_step w s r f) promise)
 
-pub sound_after : (w v : World) (s t : Step) (report : Report) (r : Result (Unit {0}) NoMemory) → IsReached w → FitsStep w.config (length w.txs) s → EveryRunIsSound → s ≡ t
-    → IfOk r (λ u. IsTaken report v (happens w t)) → OnErr r (v ≡ w) → Sound v
-sound_after w v s t report (Ok u) r f sound is ok err = sound_stepped w v s t r f sound is ok.becomes
-sound_after w v s t report (Err e) r f sound is ok err = rw err (reached_sound w r sound)
+pub promised_after : (w v : World) (s t : Step) (report : Report) (r : Result (Unit {0}) NoMemory) → IsReached w → FitsStep w.config (length w.txs) s → EveryRunKeepsItsPromise → s ≡ t
+    → IfOk r (λ u. IsTaken report v (happens w t)) → OnErr r (v ≡ w) → HasPromise v
+promised_after w v s t report (Ok u) r f promise is ok err = promised_stepped w v s t r f promise is ok.becomes
+promised_after w v s t report (Err e) r f promise is ok err = rw err (reached_promised w r promise)
 
 -- the world at the start is kept
 pub kept_start : (c : Config) (txs : List TxDecl) (w : World) (b : BookState) → KeepsLimits c → FitsTxs c txs → w ≡ start c txs → (book : Book) → b ≡ record { book = book; nodes = c.nodes; slots = c.slots } → IsKept w b

@@ -1,4 +1,5 @@
 pub mod Batches
+pub mod Counting
 pub mod Keeping
 pub mod Refusing
 pub mod Sending

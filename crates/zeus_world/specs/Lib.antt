@@ -1,8 +1,8 @@
 pub mod Order
 pub mod Packets
 pub mod Posting
-pub mod Refusals
 pub mod Reports
+pub mod Serial
 pub mod Settling
 pub mod Shown
 pub mod Taken

@@ -7,6 +7,7 @@ mod order;
 mod posting;
 mod readers;
 mod report;
+mod serial;
 mod steps;
 mod world;
 
@@ -19,4 +20,4 @@ pub use zeus_base::{Config, NoMemory, NodeId, ObjId, Step, TxId};
 pub use zeus_model::{Answer, Copy, TxState};
 pub use zeus_node::Node;
 pub use zeus_packet::{Letter, Packet, Place};
-pub use zeus_txn::{Reply, TxList};
+pub use zeus_txn::{Map, Reply, TxList};

@@ -3,12 +3,12 @@ ghost use Rattle.std.specs.Prelude.{◌≡◌, IfOk, OnErr, length};
 ghost use Rattle.zeus_model.specs.Scripts.{FitsStep};
 ghost use Rattle.zeus_model.specs.Sound.{Sound};
 ghost use Rattle.zeus_model.specs.World.{happens, stepped};
-ghost use Rattle.zeus_world.specs.Refusals.{IsNoRefusal};
+ghost use Rattle.soundness.specs.Promise.{HasPromise, IsNoRefusal};
 ghost use Rattle.zeus_world.specs.Reports.{Reports, SaysSame};
 
 use crate::report::Report;
 use crate::world::World;
-use soundness::{every_run_is_sound, never_refused_so};
+use soundness::{every_run_keeps_its_promise, never_refused_so};
 use zeus_base::{NoMemory, Step};
 
 impl<'a> World<'a> {
@@ -24,9 +24,10 @@ impl<'a> World<'a> {
         ensures err { OnErr result (self.new ≡ self.old) }
         ensures same { OnErr result (SaysSame report.old report.new) }
         ensures sound { Sound self.new }
+        ensures promise { HasPromise self.new }
         ensures never { IsNoRefusal (happens self.old step.now).answer }
     {
-        every_run_is_sound();
+        every_run_keeps_its_promise();
         never_refused_so();
         if self.book.steps() == u64::MAX {
             return Err(NoMemory);

@@ -5,7 +5,7 @@ ghost use Rattle.zeus_model.specs.Scripts.{FitsStep, FitsTxs};
 ghost use Rattle.zeus_model.specs.Sound.{Sound};
 ghost use Rattle.zeus_model.specs.Tables.{below};
 ghost use Rattle.zeus_model.specs.World.{happens, start, start_node, stepped};
-ghost use Rattle.zeus_world.specs.Refusals.{IsNoRefusal};
+ghost use Rattle.soundness.specs.Promise.{HasPromise, IsNoRefusal};
 ghost use Rattle.zeus_world.specs.Reports.{Reports};
 
 use crate::order::Passes;
@@ -13,7 +13,7 @@ use crate::report::Report;
 use history_book::Book;
 use lossy_fabric::Links;
 use membership::Service;
-use soundness::every_run_is_sound;
+use soundness::every_run_keeps_its_promise;
 use std::alloc::Global;
 use std::marker::Model;
 use zeus_base::{Config, NoMemory, NodeId, Step};
@@ -57,8 +57,9 @@ impl<'a> World<'a> {
         requires txs { FitsTxs config.now txs.now }
         ensures start { IfOk result (λ w. w ≡ start config.now txs.now) }
         ensures sound { IfOk result (λ w. Sound w) }
+        ensures promise { IfOk result (λ w. HasPromise w) }
     {
-        every_run_is_sound();
+        every_run_keeps_its_promise();
         Ok(World {
             config,
             txs,
@@ -71,8 +72,8 @@ impl<'a> World<'a> {
         })
     }
 
-    /// Takes a step, and tells what the step does. The world is sound after it, whatever the step; and the step answers
-    /// none of the refusals that never come.
+    /// Takes a step, and tells what the step does. The world is sound after it, whatever the step, and keeps the whole
+    /// promise of the theorem; and the step answers none of the refusals that never come.
     ///
     /// # Errors
     /// `NoMemory` if the room for what the step makes is not there, or if no more steps, views or letters of a link can
@@ -83,6 +84,7 @@ impl<'a> World<'a> {
         ensures after { IfOk result (λ r. self.new ≡ stepped self.old step.now) }
         ensures err { OnErr result (self.new ≡ self.old) }
         ensures sound { Sound self.new }
+        ensures promise { HasPromise self.new }
         ensures never { IsNoRefusal (happens self.old step.now).answer }
     {
         let mut report = Report::new(*self.nodes.allocator());

@@ -1,7 +1,7 @@
 use Rattle.std.proofs.Common.{ap, refl, sym, arith}
 use Rattle.zeus_base.specs.declared.config.Config.{Config}
 use Rattle.zeus_model.specs.World.{start}
-use Rattle.zeus_world.proofs.Keeping.{kept_start, reached_sound, reached_start}
+use Rattle.zeus_world.proofs.Keeping.{kept_start, promised_sound, reached_promised, reached_start}
 use Rattle.zeus_world.proofs.Starting.{started}
 use Rattle.zeus_world.proofs.world.World.start.Goals as goal
 
@@ -18,4 +18,9 @@ returns-clause-start c =
 pub returns-clause-sound : goal.returns-clause-sound
 returns-clause-sound c =
     rw (started c.args.config.now c.args.txs.now _ _ _ c.in_ok-new-3.field-0 c.len.result c.in_ok-start_nodes.ensures c.in_ok-new.ensures c.in_ok-new-2.ensures c.len.ensures c.in_ok-new-3.ensures)
-    (reached_sound _ (reached_start c.args.config.now c.args.txs.now c.requires.limits c.requires.txs) c.every_run_is_sound.ensures.at_every_moment)
+    (promised_sound _ (reached_promised _ (reached_start c.args.config.now c.args.txs.now c.requires.limits c.requires.txs) c.every_run_keeps_its_promise.ensures))
+
+pub returns-clause-promise : goal.returns-clause-promise
+returns-clause-promise c =
+    rw (started c.args.config.now c.args.txs.now _ _ _ c.in_ok-new-3.field-0 c.len.result c.in_ok-start_nodes.ensures c.in_ok-new.ensures c.in_ok-new-2.ensures c.len.ensures c.in_ok-new-3.ensures)
+    (reached_promised _ (reached_start c.args.config.now c.args.txs.now c.requires.limits c.requires.txs) c.every_run_keeps_its_promise.ensures)
