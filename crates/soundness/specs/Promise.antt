@@ -1,10 +1,12 @@
 -- The whole promise of a run, in one record.
-use Rattle.std.specs.Prelude.{ℕ, ◌≡◌, ◌≢◌, List}
+use Rattle.std.specs.Prelude.{ℕ, ◌≡◌, ◌≢◌, List, Some}
 use Rattle.zeus_base.specs.declared.step.Step.{Step}
 use Rattle.zeus_packet.specs.declared.letter.Cause.TheVariants.{OwnStream, Window, NotArbiter, NotCollector, OwnPlace}
 use Rattle.zeus_model.specs.declared.answer.Answer.{Answer}
 use Rattle.zeus_model.specs.declared.answer.Answer.TheVariants.{Receive}
 use Rattle.zeus_model.specs.declared.answer.Outcome.TheVariants.{Refused}
+use Rattle.zeus_model.specs.Book.{Point, record_of}
+use Rattle.zeus_model.specs.In.{In}
 use Rattle.zeus_model.specs.Sound.{Sound}
 use Rattle.zeus_model.specs.World.{World, Event, run, start}
 use Rattle.soundness.specs.History.{IsInOrder}
@@ -30,6 +32,9 @@ pub record KeepsPromise (w : World) (steps : List Step) : Type 0 where
   pub placed : IsPlaced (run w steps)
   -- what the steps tell is what the book has
   pub told : IsTold w steps
+  -- the reply that a transaction has when a step tells its point, which a report prints there, is that of the history
+  pub told_replies : (id k : ℕ) (e : Event) → Does w steps k e → In id e.points
+      → (p : Point) × In p (run w steps).book.points × (p.id ≡ id) × ((record_of e.world.book id).reply ≡ Some p.reply)
   -- what happens to a transaction happens once
   pub once : IsOnce w steps
   -- no step answers a refusal that never comes

@@ -1,9 +1,10 @@
 //! The report of a script.
-ghost use Rattle.std.specs.Prelude.{◌≡◌, ◌++◌, length, All, OnOk, IfOk, option_copied};
+ghost use Rattle.std.specs.Prelude.{◌≡◌, ◌++◌, ℕ, length, take, All, OnOk, IfOk, option_copied};
 ghost use Rattle.zeus_model.specs.Book.{reply_or};
 ghost use Rattle.zeus_model.specs.ReportText.{point_lines, event_text, steps_text, report_head, report, start_of};
 ghost use Rattle.zeus_model.specs.Scripts.{FitsScript, FitsStep};
 ghost use Rattle.zeus_model.specs.World.{happens, stepped, run};
+ghost use Rattle.soundness.specs.Promise.{KeepsPromise};
 ghost use Rattle.zeus_report.specs.Lines.{point_line, step_answer};
 
 use crate::answers::write_answer;
@@ -11,6 +12,7 @@ use crate::letters::write_packets;
 use crate::standing::write_final;
 use crate::steps::write_acked;
 use crate::words::write_reply;
+use soundness::every_run_keeps_its_promise;
 use std::alloc::Global;
 use zeus_base::{NoMemory, Step, TxId};
 use zeus_model::{Answer, Name, Script};
@@ -119,7 +121,9 @@ fn write_report(alloc: Global, script: &Script, world: &mut World) -> Result<Vec
     Ok(out)
 }
 
-/// Runs a script: the report of the run as bytes, and the world that its steps lead to.
+/// Runs a script: the report of the run as bytes, and the world that its steps lead to. The run keeps the whole promise of
+/// the theorem after each step: so the points, replies and acknowledgements that the report prints are those of one
+/// serial history.
 ///
 /// # Errors
 ///
@@ -128,7 +132,10 @@ pub fn report(alloc: Global, script: &Script) -> Result<(Vec<u8>, World), NoMemo
     requires { FitsScript script.now }
     ensures text { IfOk result (λ run. run.0.items ≡ report script.now) }
     ensures world { IfOk result (λ done. done.1 ≡ run (start_of script.now) script.now.steps) }
+    ensures promise { (k : ℕ) → KeepsPromise (start_of script.now) (take k script.now.steps) }
 {
+    // The theorem over every run. The call does nothing.
+    every_run_keeps_its_promise();
     let mut world = World::start(alloc, &script.config, &script.txs)?;
     let text = write_report(alloc, script, &mut world)?;
     Ok((text, world))
