@@ -11,3 +11,5 @@ pub use words::{
     append, write_counted, write_decimal, write_line_end, write_number, write_object, write_value,
     write_word,
 };
+pub use zeus_base::{NoMemory, NodeSet, ObjId, Step, Value};
+pub use zeus_model::Name;
