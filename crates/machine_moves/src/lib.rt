@@ -14,6 +14,8 @@ ghost use Rattle.machine_moves.specs.SystemState.{system, IsNumbered};
 /// In each run of steps that fit the configuration, each step is a sequence of moves, and the live nodes know their
 /// numbers, the directory, the degree, their epochs and the members of these.
 pub fn steps_are_moves()
-    ensures moves { (c : Config) (txs : List TxDecl) (steps : List Step) (s : Step) → KeepsLimits c → All (StepFits c txs) steps → StepFits c txs s → Moves (system (run (start c txs) steps)) (system (stepped (run (start c txs) steps) s)) }
-    ensures numbered { (c : Config) (txs : List TxDecl) (steps : List Step) → KeepsLimits c → All (StepFits c txs) steps → IsNumbered (system (run (start c txs) steps)) }
+    ensures moves { (c : Config) (txs : List TxDecl) (steps : List Step) (s : Step) → KeepsLimits c → All (StepFits c txs) steps → StepFits c txs s
+        → Moves (system (run (start c txs) steps)) (system (stepped (run (start c txs) steps) s)) }
+    ensures numbered { (c : Config) (txs : List TxDecl) (steps : List Step) → KeepsLimits c → All (StepFits c txs) steps
+        → IsNumbered (system (run (start c txs) steps)) }
 {}
