@@ -9,8 +9,10 @@ ghost use Rattle.crash_replay.specs.Replay.{HasStreams, IsNodeWith, is_after, is
 use follower_log::Stored;
 use zeus_base::{NodeId, NodeSet, SlotId, Stream};
 
-/// Whether no entry of a non-member's stream is stored, so whether a node with these streams, members and slots has
-/// nothing to replay. The streams are those of `nodes` nodes with `slots` slots each. Takes no memory.
+/// Whether no stream of a non-member has a stored entry: then there is nothing to replay.
+///
+/// The log has the streams of `nodes` nodes with `slots` slots each. The clause speaks of every node with these streams,
+/// members and slots. Takes no memory.
 pub fn is_recovered(log: &Stored, nodes: u8, slots: u8, members: NodeSet) -> bool
     requires nodes { nodes ≤ 8 }
     requires slots { slots ≤ 8 }
@@ -20,9 +22,11 @@ pub fn is_recovered(log: &Stored, nodes: u8, slots: u8, members: NodeSet) -> boo
     next_replay(log, nodes, slots, members, None).is_none()
 }
 
-/// The first stream after the given one, or of all, in the order of node and slot, whose node is no member and of which
-/// entries are stored, at every node with these streams, members and slots. `None` exactly if there is no such stream.
-/// The streams are those of `nodes` nodes with `slots` slots each. Takes no memory.
+/// The first stream in the order of node and slot, behind `after` if that is given, whose node is no member and which has
+/// stored entries; `None` if there is no such stream.
+///
+/// The log has the streams of `nodes` nodes with `slots` slots each. The clause speaks of every node with these streams,
+/// members and slots. Takes no memory.
 pub fn next_replay(
     log: &Stored,
     nodes: u8,

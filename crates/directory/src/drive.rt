@@ -26,14 +26,20 @@ pub trait Drives {
     /// What the node knows.
     ghost known: { Self → Directory };
 
-    /// Whether the node `me` may drive the wish of the requester for the object, in a view of these members. The clause
-    /// speaks of every node with these entries, directory, degree and members. The proposal has the next version and
-    /// changes the settled placement. Takes no memory and changes nothing.
+    /// Whether the node `me` may drive the requester's wish for the object, in a view of these members. If one of these
+    /// holds, the first of them is the answer:
     ///
-    /// The causes against it, of which the first that holds is told: `me` is no directory node; a proposal is held;
-    /// the wish is fulfilled already, or is to leave and comes from the owner or from no replica; the settled
-    /// placement has no source; a reader would leave with no degree or not more than the degree of member replicas, or
-    /// is the source; the settled version is the last one.
+    /// 1. `NotDirectory`: `me` is no directory node.
+    /// 2. `Proposed`: a proposal for the object is held.
+    /// 3. `Owns`, `HasCopy`: the requester has already what it wants. `NotReader`: it wants to leave, and is the owner or
+    ///    no replica.
+    /// 4. `NoSource`: the settled placement has no source.
+    /// 5. `Degree`: the requester wants to leave, and no degree is given, or at most so many member replicas are there.
+    ///    `IsSource`: it wants to leave, and is the source.
+    /// 6. `WornOut`: the settled version is the last one.
+    ///
+    /// Else the answer is the proposal, which has the next version and changes the settled placement. The clause speaks of
+    /// every node with these entries, directory, degree and members. Takes no memory and changes nothing.
     fn may_drive(
         &self,
         obj: ObjId,

@@ -43,10 +43,10 @@ impl IdList {
         Ok(IdList { items })
     }
 
-    /// Room for so many transactions more; the list stays, whatever the result.
+    /// Makes room for so many transactions more. The list stays as it is, also at an error.
     ///
     /// # Errors
-    /// `NoMemory` if the room is not there.
+    /// `NoMemory` if memory ran out.
     pub fn reserve(&mut self, count: usize) -> Result<(), NoMemory>
         ensures ids { self.new.ids ≡ self.old.ids }
         ensures room { OnOk result (count ≤ self.new.room) }

@@ -77,9 +77,11 @@ impl Book {
         }
     }
 
-    /// The entries of the stream from `first` on and below `after` have passed, at their own node or at another: the
-    /// transactions that have their points by it stand behind those of `points`, and those that are acknowledged by it
-    /// behind those of `acked`, in order.
+    /// Notes that the entries of the stream from `first` on and below `after` have passed: at the stream's own node if
+    /// `own`, else at another one.
+    ///
+    /// A transaction that has its point by this stands then at the end of `points`, and one that is acknowledged by it at
+    /// the end of `acked`, in the order of the entries. Takes no memory.
     pub fn pass(&mut self, passed: &Passed, own: bool, points: &mut IdList, acked: &mut IdList)
         requires { HasLists self.old.book points.old acked.old }
         ensures shape { self.new ≡ with_book self.old self.new.book }
@@ -92,8 +94,8 @@ impl Book {
         }
     }
 
-    /// What a node has passed, in this order: as [`pass`](Book::pass) has it, with acknowledgements for the node's own
-    /// streams.
+    /// Notes all that the node `me` has passed, one after another as [`pass`](Book::pass) does; its own streams are
+    /// acknowledged.
     pub fn pass_each(
         &mut self,
         me: NodeId,

@@ -30,16 +30,20 @@ pub enum WriteTry {
     Committed(u32, Reply),
 }
 
-/// Commits a transaction of the slot at the node `me`, where the slot has fewer than 16 pending entries, the node owns
-/// each object that the transaction names, no other slot holds one, and neither the next number nor a version of a
-/// written object is at its end. The first of these that fails is the answer, of the first object in the order of naming,
-/// and then nothing changes. Else the writes stand in the own copies with versions one higher, to be validated; each
-/// named object is held once more by the slot; and the entry stands at the end of the pipe. Its followers are the
-/// replicas of the written objects by the settled placements, without the node.
+/// Tries to commit a write transaction of the slot at the node `me`. If one of these holds, the first of them is the
+/// answer, and nothing changes:
 ///
-/// The clauses speak of every node that this is: one with these entries, copies and this slot, of which other slots hold
-/// what the table says. No memory is taken. What the slot holds stays named by its pending entries, and what another slot holds by those
-/// of that one.
+/// 1. `PipeFull`: the slot has 16 pending entries.
+/// 2. `NotOwner`: the node does not own this object, the first such in the order of naming.
+/// 3. `Held`: another slot, this one, holds this object, the first such in that order.
+/// 4. `WornOut`: the slot's next number, or the version of a written object, is at its end.
+///
+/// Else the answer is `Committed`. Each write stands in the node's own copy, one version higher and not yet valid. The
+/// slot holds each named object once more. The entry is the last of the pipe, and its followers are the replicas of the
+/// written objects by the settled placements, without the node.
+///
+/// The clauses speak of every node with these entries, copies and this slot, whose other slots hold what the table says.
+/// What a slot holds stays named by its pending entries. Takes no memory.
 pub fn try_write(
     copies: &mut Copies,
     dir: &Dir,

@@ -129,11 +129,11 @@ impl Links {
         row.count(to)
     }
 
-    /// Room for the letters of a step, which are at most 64, on each link of the sender; the letters stay, whatever the
-    /// result.
+    /// Makes room for the letters of one step, at most 64, on each link of the sender. The letters stay as they are, also
+    /// at an error.
     ///
     /// # Errors
-    /// `NoMemory` if the room is not there, or a link would have letters without a number of 32 bits.
+    /// `NoMemory` if memory ran out, or if a link would have letters that no number of 32 bits is left for.
     pub fn reserve(&mut self, from: NodeId) -> Result<(), NoMemory>
         requires { from < length self.old }
         ensures letters { letters self.new ≡ letters self.old }

@@ -36,9 +36,17 @@ pub enum RValAnswer {
     No(Cause),
 }
 
-/// An entry comes to the node `me`: what has passed before it is raised first; then it is stored, and its writes are
-/// taken, where its number is the next one of the stream and a place is free. The clauses speak of every node with
-/// these copies and streams and this number; `from` is the sender. No hold changes. Takes no memory.
+/// An entry of a stream comes to the node `me`. The first of these is the answer:
+///
+/// 1. `No(OwnStream)`: the stream is the node's own, and nothing changes. Else the stream is raised to the `done` that
+///    comes with the entry, whatever the answer.
+/// 2. `Again`: the entry is stored already, or has passed.
+/// 3. `Gap`: the entry of this number is the next one, and this one comes too early.
+/// 4. `No(Window)`: 16 entries are stored.
+/// 5. `Taken`: the entry is stored, and its writes are taken into the copies.
+///
+/// An acknowledgement is due for `Taken` and `Again`. The clauses speak of every node with these copies, streams and
+/// number; `from` is the sender. No hold changes. Takes no memory.
 pub fn on_rinv(copies: &mut Copies, log: &mut Stored, me: NodeId, r: &RInv) -> RInvAnswer
     requires followed { IsFollowed (length copies.old.copies) log.old r.now.stream }
     requires writes { AreWithin (length copies.old.copies) r.now.writes }
@@ -66,9 +74,14 @@ pub fn on_rinv(copies: &mut Copies, log: &mut Stored, me: NodeId, r: &RInv) -> R
     }
 }
 
-/// The word comes to the node `me` that the entries of the stream below a number have passed: where that was not
-/// known, the stored ones among them are validated in order and dropped. The clauses speak of every node with these
-/// copies and streams and this number. No hold changes, and nothing is sent. Takes no memory.
+/// The node `me` is told that all entries of the stream below `done` have passed. The first of these is the answer:
+///
+/// 1. `No(OwnStream)`: the stream is the node's own, and nothing changes.
+/// 2. `Taken`: the node did not know it. Its stored entries below `done` are validated in order and dropped.
+/// 3. `Again`: the node knew it, and nothing changes.
+///
+/// The clauses speak of every node with these copies, streams and number. No hold changes, and nothing is sent. Takes no
+/// memory.
 pub fn on_rval(
     copies: &mut Copies,
     log: &mut Stored,

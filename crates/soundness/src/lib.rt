@@ -142,9 +142,12 @@ pub fn every_run_tells_its_history()
         → Commits (start c txs) steps k t number a → Commits (start c txs) steps l t number b → a ≡ b }
 {}
 
-/// Some refusals never come: in no step of a run is a letter refused since the stream is the receiver's own, since its window
-/// for the stream is full, since it is no arbiter or no collector of the proposal, or since the placement would make it the
-/// owner without its own request.
+/// Five refusals of a letter never come, in no step of any run:
+///
+/// - `OwnStream`: the stream is the receiver's own.
+/// - `Window`: the receiver has 16 entries of the stream stored.
+/// - `NotArbiter`, `NotCollector`: the receiver is no arbiter of the proposal, or does not collect its acknowledgements.
+/// - `OwnPlace`: the placement would make the receiver the owner, and it has not asked.
 pub fn never_refused_so()
     ensures { (c : Config) (txs : List TxDecl) (steps : List Step) (s : Step) → KeepsLimits c → All (FitsStep c (length txs)) steps
         → let answer = (happens (run (start c txs) steps) s).answer in

@@ -92,6 +92,6 @@ pub struct Passed {
     pub after: u32,
 }
 
-/// Memory was wanting; what was called is as before.
+/// Memory ran out. Each call that answers so says what stays then.
 #[derive(Clone, Copy, Debug, PartialEq, Eq)]
 pub struct NoMemory;

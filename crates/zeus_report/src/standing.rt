@@ -161,7 +161,8 @@ fn write_objects(
     Ok(())
 }
 
-/// Writes how the world stands; it has so many transactions and objects.
+/// Writes the last part of the report: the history, how far each of the `txs` transactions has come, each of the objects
+/// with its live copies, and the line `end`.
 pub(crate) fn write_final(
     out: &mut Vec<u8>,
     names: &[Name],
