@@ -92,6 +92,6 @@ pub struct Passed {
     pub after: u32,
 }
 
-/// Memory ran out. Each call that answers so says what stays then.
+/// Memory was wanting; what was called is as before.
 #[derive(Clone, Copy, Debug, PartialEq, Eq)]
 pub struct NoMemory;
