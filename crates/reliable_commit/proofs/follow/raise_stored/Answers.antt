@@ -1,7 +1,7 @@
 use Rattle.std.proofs.Common.{refl, ◌∙◌}
 use Rattle.follower_log.specs.StreamLaws.{log_at-with_log_at, none_lowest}
 use Rattle.reliable_commit.proofs.Raising.{followed_rest, followed_step, lowest, raised_copies-none, raised_copies-step, raised_logs-none, raised_logs-step, smaller, within_lowest}
-use Rattle.reliable_commit.proofs.follow.raise.Goals as goal
+use Rattle.reliable_commit.proofs.follow.raise_stored.Goals as goal
 
 pub validate_each-requires : goal.validate_each-requires
 validate_each-requires c =
