@@ -1,5 +1,5 @@
 -- Stored entries of a stream that have passed elsewhere, taken out one by one.
-use Rattle.std.proofs.Common.{ℕ, zero, suc, ◌≡◌, ◌<◌, ◌+◌, ◌-◌, Bool, true, false, nat_lt, List, [], ◌∷◌, Option, Some, None, length, take, drop, refl, sym, ap, ◌∙◌, arith, inl, inr, if◌then◌else◌}
+use Rattle.std.proofs.Common.{ℕ, zero, suc, ◌≡◌, ◌<◌, ◌≤◌, ◌+◌, ◌-◌, Bool, true, false, nat_lt, List, [], ◌∷◌, Option, Some, None, length, take, drop, refl, sym, ap, ◌∙◌, arith, inl, inr, if◌then◌else◌}
 use Rattle.std.specs.List.{slice_get}
 use Rattle.std.proofs.lemmas.Bool.{cases_order, lt-ltb, le-ltb, ltb-true}
 use Rattle.zeus_base.specs.declared.order.Stream.{Stream}
@@ -104,6 +104,16 @@ raised_logs-none logs s d none =
         | inr more ↦ rw (le-ltb (log_at logs s).done d (omega arith)) refl
       ]
     ]
+
+-- ---- as many have passed as the number says
+
+pub raised_copies-low : (copies : List (Option Copy)) (l : StreamLog) (d : ℕ) → d ≤ l.done → copies ≡ raised_copies copies l d
+unfolding raised_copies
+raised_copies-low copies l d h = rw (le-ltb l.done d h) refl
+
+pub raised_logs-low : (logs : List (List StreamLog)) (s : Stream) (d : ℕ) → d ≤ (log_at logs s).done → logs ≡ raised_logs logs s d
+unfolding raised_logs
+raised_logs-low logs s d h = rw (le-ltb (log_at logs s).done d h) refl
 
 -- ---- which streams are followed
 

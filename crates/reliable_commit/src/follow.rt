@@ -109,8 +109,22 @@ pub fn on_rval(
 }
 
 /// The entries of the stream below this number have passed elsewhere: the stored ones are validated in order and
-/// dropped.
+/// dropped. Where all that is known already, no entry is moved.
 pub(crate) fn raise(copies: &mut Copies, log: &mut Stored, s: &Stream, done: u32)
+    requires { IsFollowed (length copies.old.copies) log.old s.now }
+    ensures copies { copies.new.copies ≡ raised_copies copies.old.copies (log_at log.old s.now) done }
+    ensures logs { log.new ≡ raised_logs log.old s.now done }
+    ensures holds { copies.new.holds ≡ copies.old.holds }
+    ensures objects { length copies.new.copies ≡ length copies.old.copies }
+    ensures streams { (t : Stream) → IsFollowed (length copies.old.copies) log.old t → IsFollowed (length copies.old.copies) log.new t }
+{
+    if log.done(*s) < done {
+        raise_stored(copies, log, s, done);
+    }
+}
+
+/// The stored entries of the stream below this number are validated in order and dropped.
+fn raise_stored(copies: &mut Copies, log: &mut Stored, s: &Stream, done: u32)
     requires { IsFollowed (length copies.old.copies) log.old s.now }
     ensures copies { copies.new.copies ≡ raised_copies copies.old.copies (log_at log.old s.now) done }
     ensures logs { log.new ≡ raised_logs log.old s.now done }

@@ -1,10 +1,9 @@
 //! Numbers, names and values.
-ghost use Rattle.std.specs.Prelude.{◌≡◌, ◌++◌, decimal, OnOk};
+ghost use Rattle.std.specs.Prelude.{◌≡◌, ◌++◌, ◌∷◌, [], decimal, OnOk};
 ghost use Rattle.zeus_model.specs.ReportText.{line_end};
 ghost use Rattle.zeus_model.specs.ReportWords.{number, named_object};
 ghost use Rattle.zeus_model.specs.Spelling.{word, value_text, name_of};
 
-use itoa::Buffer;
 use zeus_base::{NoMemory, ObjId, Value};
 use zeus_model::Name;
 
@@ -19,16 +18,32 @@ pub fn append(out: &mut Vec<u8>, bytes: &[u8]) -> Result<(), NoMemory>
     out.extend_from_slice(bytes).map_err(|_| NoMemory)
 }
 
+/// Adds the byte at the end.
+///
+/// # Errors
+///
+/// Memory ran out.
+pub fn append_byte(out: &mut Vec<u8>, byte: u8) -> Result<(), NoMemory>
+    ensures { OnOk result (out.new.items ≡ out.old.items ++ byte ∷ []) }
+{
+    out.push(byte).map_err(|_| NoMemory)
+}
+
 /// Writes the digits of a number.
 ///
 /// # Errors
 ///
 /// Memory ran out.
+#[tactic(auto, using(std::proofs::Common::append_assoc, std::proofs::lemmas::Fmt::decimal_step, std::proofs::lemmas::Fmt::decimal_digit))]
 pub fn write_decimal(out: &mut Vec<u8>, n: u64) -> Result<(), NoMemory>
     ensures { OnOk result (out.new.items ≡ out.old.items ++ decimal n) }
 {
-    let mut buffer = Buffer::new();
-    append(out, buffer.format(n).as_bytes())
+    // Digit by digit, because most numbers of a report are short.
+    if n < 10 {
+        return append_byte(out, b'0' + n as u8);
+    }
+    write_decimal(out, n / 10)?;
+    append_byte(out, b'0' + (n % 10) as u8)
 }
 
 /// Writes a space and the number.
@@ -39,7 +54,7 @@ pub fn write_decimal(out: &mut Vec<u8>, n: u64) -> Result<(), NoMemory>
 pub fn write_number(out: &mut Vec<u8>, n: u64) -> Result<(), NoMemory>
     ensures { OnOk result (out.new.items ≡ out.old.items ++ number n) }
 {
-    append(out, b" ")?;
+    append_byte(out, b' ')?;
     write_decimal(out, n)
 }
 
@@ -51,7 +66,7 @@ pub fn write_number(out: &mut Vec<u8>, n: u64) -> Result<(), NoMemory>
 pub fn write_line_end(out: &mut Vec<u8>) -> Result<(), NoMemory>
     ensures { OnOk result (out.new.items ≡ out.old.items ++ line_end) }
 {
-    append(out, b"\n")
+    append_byte(out, b'\n')
 }
 
 /// Writes a space and the bytes.
@@ -62,7 +77,7 @@ pub fn write_line_end(out: &mut Vec<u8>) -> Result<(), NoMemory>
 pub fn write_word(out: &mut Vec<u8>, bytes: &[u8]) -> Result<(), NoMemory>
     ensures { OnOk result (out.new.items ≡ out.old.items ++ word bytes.now) }
 {
-    append(out, b" ")?;
+    append_byte(out, b' ')?;
     append(out, bytes)
 }
 

@@ -2,7 +2,7 @@ use Rattle.std.proofs.Common.{◌≡◌, length}
 use Rattle.zeus_base.specs.declared.order.Stream.{Stream}
 use Rattle.follower_log.specs.Streams.{log_at}
 use Rattle.reliable_commit.specs.Following.{IsFollowed, raised_copies, raised_logs}
-use Rattle.reliable_commit.proofs.follow.raise.Given as goal
+use Rattle.reliable_commit.proofs.follow.raise_stored.Given as goal
 
 -- the entries that are left have the same end
 abbrev pub invariant-loop-entry : goal.invariant-loop-entry
