@@ -11,6 +11,10 @@ use std::alloc::Global;
 use std::marker::Model;
 
 /// The end of a ring that takes. It can move to another thread.
+///
+/// A clause sees it as an `In`: its ring, the head, all that was taken, what is known to lie in the ring, and how many
+/// places there are. What was taken keeps the rule.
+#[derive(Drop)]
 pub struct RingIn<H: Drop, T: Drop, R: Rule<H, T>> {
     pub(crate) end: Consumer<Item<H, T>, Global, Under<R>>,
     pub(crate) head: H,
@@ -32,7 +36,7 @@ impl<H: Drop, T: Drop, R: Rule<H, T>> Model for RingIn<H, T, R> {
 
 impl<H: Drop, T: Drop, R: Rule<H, T>> RingIn<H, T, R> {
     #[tactic(auto, using(crate::proofs::Heads::carried_next, crate::proofs::Heads::headed_next, crate::proofs::Heads::kept_next, crate::proofs::Heads::one_head, crate::proofs::Heads::front_prefix))]
-    /// Takes the oldest item, if there is one.
+    /// Takes the oldest item, of which the rule then holds, or none where the ring is empty. It waits for nobody.
     pub fn take(&mut self) -> Option<T>
         ensures same { SameIn self.old self.new }
         ensures taken { IfSome result (λ x. self.new.taken ≡ self.old.taken ++ x ∷ []) }
@@ -49,8 +53,14 @@ impl<H: Drop, T: Drop, R: Rule<H, T>> RingIn<H, T, R> {
         }
     }
 
-    #[tactic(auto, using(crate::proofs::Heads::front_prefix))]
-    /// Looks whether there is an item to take.
+    /// The head that both ends know.
+    pub fn head(&self) -> &H
+        ensures { result.now ≡ self.now.head }
+    {
+        &self.head
+    }
+
+    /// Looks whether there is an item to take. It is then known.
     pub fn look(&mut self) -> bool
         ensures looked { LookedIn self.old self.new }
         ensures value { IsTrue result ↔ (0 < length self.new.known) }
@@ -64,8 +74,7 @@ impl<H: Drop, T: Drop, R: Rule<H, T>> RingIn<H, T, R> {
         }
     }
 
-    #[tactic(auto, using(crate::proofs::Heads::front_prefix))]
-    /// The oldest item, left in the ring.
+    /// The oldest item that is known to lie in the ring, left there.
     pub fn front(&self) -> &T
         requires known { 0 < length self.now.known }
         ensures { IsPrefix (result.now ∷ []) self.now.known }
@@ -77,7 +86,7 @@ impl<H: Drop, T: Drop, R: Rule<H, T>> RingIn<H, T, R> {
     }
 
     #[tactic(auto, using(crate::proofs::Heads::front_prefix, crate::proofs::Heads::met, crate::proofs::Heads::met_heads))]
-    /// Looks at the other end: what was taken and what is known are then all that was put.
+    /// Looks at the other end of the same ring: what was taken and what is known are then all that was put.
     pub fn meet(&mut self, other: &mut RingOut<H, T, R>)
         requires pair { self.old.ring ≡ other.old.ring }
         ensures looked { LookedIn self.old self.new }

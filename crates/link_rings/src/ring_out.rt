@@ -14,6 +14,10 @@ use std::marker::Model;
 pub struct Full<T>(pub T);
 
 /// The end of a ring that puts. It can move to another thread.
+///
+/// A clause sees it as an `Out`: its ring, the head, all that was put, how many places are known to be free, and how many
+/// there are. So many can be put before the ring can be full: each item that was taken leaves its place.
+#[derive(Drop)]
 pub struct RingOut<H: Drop, T: Drop, R: Rule<H, T>> {
     pub(crate) end: Producer<Item<H, T>, Global, Under<R>>,
     pub(crate) head: H,
@@ -36,7 +40,12 @@ impl<H: Drop, T: Drop, R: Rule<H, T>> Model for RingOut<H, T, R> {
 
 impl<H: Drop, T: Drop, R: Rule<H, T>> RingOut<H, T, R> {
     #[tactic(auto, using(crate::proofs::Heads::carried_next, crate::proofs::Heads::headed_next, crate::proofs::Heads::headed_length, crate::proofs::Heads::allowed_next, crate::proofs::Heads::one_head))]
-    /// Puts an item, or hands it back where no place is free.
+    /// Puts an item that keeps the rule behind all that was put. It takes no memory, and waits for nobody.
+    ///
+    /// # Errors
+    ///
+    /// `Full` where no place is free: it hands the item back, and nothing is put. It does not come where a place is known to
+    /// be free, and not before as many items were put as there are places.
     pub fn put(&mut self, item: T) -> Result<(), Full<T>>
         requires keeps { R.keeps self.old.head self.old.put item }
         ensures same { SameOut self.old self.new }
@@ -55,8 +64,15 @@ impl<H: Drop, T: Drop, R: Rule<H, T>> RingOut<H, T, R> {
         }
     }
 
+    /// The head that both ends know.
+    pub fn head(&self) -> &H
+        ensures { result.now ≡ self.now.head }
+    {
+        &self.head
+    }
+
     #[tactic(auto, using(crate::proofs::Heads::headed_length, crate::proofs::Heads::front_prefix))]
-    /// Looks at the other end: every place that holds no item is then known to be free.
+    /// Looks at the other end of the same ring: every place that holds no item is then known to be free.
     pub fn meet_to_put(&mut self, other: &mut RingIn<H, T, R>)
         requires pair { self.old.ring ≡ other.old.ring }
         ensures looked { LookedOut self.old self.new }

@@ -9,7 +9,11 @@ use rtrb::RingBuffer;
 use std::alloc::{AllocError, Global};
 
 #[tactic(auto, using(crate::proofs::Heads::headed_first, crate::proofs::Heads::allowed_first, crate::proofs::Heads::carried_head))]
-/// A ring with `room` places beside the head, which both ends know.
+/// A ring with `room` places beside the head, which both ends know. All its memory is taken here.
+///
+/// # Errors
+///
+/// `AllocError` where that memory is not there, and where so many items are more than memory can hold.
 pub fn ring<H: Copy + Drop, T: Drop, R: Rule<H, T>>(
     alloc: Global,
     room: usize,
@@ -23,8 +27,7 @@ pub fn ring<H: Copy + Drop, T: Drop, R: Rule<H, T>>(
     ensures free { IfOk result (λ ends. ends.0.free ≡ room) }
     ensures known { IfOk result (λ ends. ends.1.known ≡ []) }
 {
-    let (mut producer, mut consumer) =
-        RingBuffer::with_protocol::<Global, Under<R>>(alloc, room)?;
+    let (mut producer, mut consumer) = RingBuffer::with_protocol::<Global, Under<R>>(alloc, room)?;
     producer.push_reserved(Item::Head(head));
     consumer.slots_beside(&mut producer);
     consumer.pop_known();

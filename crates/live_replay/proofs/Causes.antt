@@ -156,7 +156,7 @@ pub record WasNoted (p : Plan) (es : Events) (j : Job) (i : ℕ) : Type 0 where
   pub acked : note.end ≡ Acked
   pub seen : note.clock ≤ j.seen
 
-known-noted : (p : Plan) (k : Cluster) (es : Events) (id : ClientId) (j : Job) (i : ℕ) → IsCluster p k es → IsThere p.config id → (declared p.txs i).node < p.config.nodes
+pub known-noted : (p : Plan) (k : Cluster) (es : Events) (id : ClientId) (j : Job) (i : ℕ) → IsCluster p k es → IsThere p.config id → (declared p.txs i).node < p.config.nodes
     → KnowsAcked p.txs (k.clients id) j i → WasNoted p es j i
 known-noted p k es id j i h at there_i known =
     let n = (declared p.txs i).node in

@@ -18,7 +18,7 @@ use Rattle.live_replay.proofs.Causes.{tx-fits}
 use Rattle.live_replay.proofs.Results.{whole-mirrors, replay-node, replay-book}
 
 -- each transaction is of a node that there is
-home-there : (p : Plan) (k : Cluster) (es : Events) (id : ℕ) → IsLive p k es → (declared p.txs id).node < p.config.nodes
+pub home-there : (p : Plan) (k : Cluster) (es : Events) (id : ℕ) → IsLive p k es → (declared p.txs id).node < p.config.nodes
 home-there p k es id h =
     let txs = h.txs in
     let limits = h.limits in
@@ -29,16 +29,16 @@ home-there p k es id h =
     ]
 
 -- the world that the merged journals lead to
-abbrev last_world : Plan → Cluster → World
+abbrev pub last_world : Plan → Cluster → World
 last_world p k = run (start p.config p.txs) (merged p.config k)
 
 txs-same : (p : Plan) (k : Cluster) (es : Events) → IsLive p k es → (last_world p k).txs ≡ p.txs
 txs-same p k es h = let m = whole-mirrors p k es h in m.declared
 
-acked-same : (p : Plan) (k : Cluster) (es : Events) (id : ℕ) → IsLive p k es → is_acked (last_world p k) id ≡ acked_at_home p k id
+pub acked-same : (p : Plan) (k : Cluster) (es : Events) (id : ℕ) → IsLive p k es → is_acked (last_world p k) id ≡ acked_at_home p k id
 acked-same p k es id h = let s = replay-book p k es (declared p.txs id).node id h (home-there p k es id h) refl in s.acked
 
-ended-same : (p : Plan) (k : Cluster) (es : Events) (id : ℕ) → IsLive p k es → is_ended (last_world p k) id ≡ ended_at_home p k id
+pub ended-same : (p : Plan) (k : Cluster) (es : Events) (id : ℕ) → IsLive p k es → is_ended (last_world p k) id ≡ ended_at_home p k id
 ended-same p k es id h =
     let w = last_world p k in
     let n = (declared p.txs id).node in

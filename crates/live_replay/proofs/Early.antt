@@ -91,7 +91,7 @@ stops_of-told : (halt : Bool) (me : ℕ) (txs : List TxDecl) (core : Core) (cloc
 stops_of-told true me txs core clock ks all n is = stopped_at-told me txs core clock ks all n is
 stops_of-told false me txs core clock ks all n is = In-nothing n is
 
-awaited-In : (txs : List TxDecl) (client : ClientId) (ns : List Note) (n : Note) → In n (awaited txs client ns) → In n ns
+pub awaited-In : (txs : List TxDecl) (client : ClientId) (ns : List Note) (n : Note) → In n (awaited txs client ns) → In n ns
 unfolding awaited
 awaited-In txs client [] n is = is
 awaited-In txs client (m ∷ ms) n is =
@@ -143,7 +143,7 @@ noted-early me c txs client bound core (e ∷ es) ys n none less acked is =
 
 -- ---- stops
 
-is_halted : (d : Deed) → is_halt d ≡ true → d ≡ Halted
+pub is_halted : (d : Deed) → is_halt d ≡ true → d ≡ Halted
 unfolding is_halt
 is_halted Halted h = refl
 is_halted _ h = absurd cc

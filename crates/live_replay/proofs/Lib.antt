@@ -1,5 +1,6 @@
 pub mod Acks
 pub mod Acts
+pub mod BookParts
 pub mod BookSteps
 pub mod Begun
 pub mod Books
@@ -8,10 +9,12 @@ pub mod Closings
 pub mod Costs
 pub mod Driving
 pub mod Early
+pub mod Gone
 pub mod Lengths
 pub mod LiveRuns
 pub mod MergedLive
 pub mod Merging
+pub mod Losses
 pub mod Mirrors
 pub mod Orders
 pub mod Posting

@@ -1,5 +1,5 @@
 -- What a run of merged events is compared with: what cells and service have of the same events.
-use Rattle.std.specs.Prelude.{ℕ, ◌≡◌, ◌≤◌, List, [], ◌∷◌, map, is_some}
+use Rattle.std.specs.Prelude.{ℕ, ◌≡◌, ◌≤◌, List, [], ◌∷◌, map, None, is_some}
 use Rattle.zeus_base.specs.Limits.{KeepsLimits}
 use Rattle.zeus_base.specs.declared.config.Config.{Config}
 use Rattle.zeus_txn.specs.declared.tx.TxDecl.{TxDecl}
@@ -55,6 +55,11 @@ pub record SameRun (r q : TxRecord) : Type 0 where
   pub reply : r.reply ≡ q.reply
   pub acked : is_some r.acked ≡ is_some q.acked
   pub refused : r.refused ≡ q.refused
+
+-- a transaction was neither begun nor acknowledged
+pub record IsUntouched (r : TxRecord) : Type 0 where
+  pub begun : r.begun ≡ None
+  pub acked : r.acked ≡ None
 
 -- no clock is above one that comes later
 unfoldable pub Rises : {A : Type 0} → (A → ℕ) → List A → Type 0

@@ -16,11 +16,12 @@ ghost use Rattle.zeus_model.specs.declared.answer.Begin.TheVariants.{Begun};
 ghost use Rattle.machine_moves.specs.Fits.{StepFits};
 ghost use Rattle.live_model.specs.Items.{Job, Stamped};
 ghost use Rattle.live_model.specs.Cell.{Began, CellEvent, declared, jobs, sends};
+ghost use Rattle.live_model.specs.Client.{IsGone};
 ghost use Rattle.live_model.specs.Cluster.{Cluster, Events, IsFront, IsThere, Plan};
 ghost use Rattle.live_model.specs.Ends.{ClientId, answers};
 ghost use Rattle.live_model.specs.Merge.{Turn, cell_turn, merged, turn_clock, turn_step, turns};
 ghost use Rattle.live_replay.specs.Parts.{cell_part, service_part};
-ghost use Rattle.live_replay.specs.Replayed.{IsLive, IsMissed, Rises, SameRun, acknowledged, given, world_after};
+ghost use Rattle.live_replay.specs.Replayed.{IsLive, IsMissed, IsUntouched, Rises, SameRun, acknowledged, given, world_after};
 
 /// The merge of the journals is a run of the machine, in which each cell, each client and the service see what they saw.
 ///
@@ -84,6 +85,13 @@ pub fn merged_journals_are_a_run()
     // The answers that a client took are the front of those that its cell's events give it.
     ensures client_answers { (p : Plan) (k : Cluster) (es : Events) (id : ClientId) → IsLive p k es → IsThere p.config id
         → IsFront (k.clients id).answers (answers id.node p.config p.txs id.slot (es.cells id.node)) }
+    // What a client passes over, since a transaction behind which it waits was refused or its node stopped, is never begun and
+    // never acknowledged.
+    ensures gone { (p : Plan) (k : Cluster) (es : Events) (id : ClientId) (tx : ℕ) → IsLive p k es → IsThere p.config id → IsGone p.txs (k.clients id) tx
+        → IsUntouched (record_of (run (start p.config p.txs) (merged p.config k)).book tx) }
+    // It is closed all the same.
+    ensures gone_closed { (p : Plan) (k : Cluster) (es : Events) (id : ClientId) (tx : ℕ) → IsLive p k es → IsThere p.config id → IsGone p.txs (k.clients id) tx
+        → is_closed (run (start p.config p.txs) (merged p.config k)) tx ≡ true }
 {}
 
 /// A live run is one that its cells have made, and then its drive.

@@ -1,5 +1,6 @@
 -- Each clause is a lemma of its own.
 use Rattle.live_replay.proofs.Closings.{closed-same, all_closed-same}
+use Rattle.live_replay.proofs.Gone.{replay-gone, replay-gone_closed}
 use Rattle.live_replay.proofs.Lengths.{merged-few}
 use Rattle.live_replay.proofs.Results.{replay-steps, replay-cells, replay-service, replay-clocks, replay-fits, replay-answer, replay-acked, replay-hits, replay-begun, replay-after, replay-sound, replay-node, replay-views, replay-link, replay-book, replay-jobs, replay-answers}
 use Rattle.live_replay.proofs.merged_journals_are_a_run.Goals as goal
@@ -63,3 +64,9 @@ returns-clause-closed c = closed-same
 
 pub returns-clause-all_closed : goal.returns-clause-all_closed
 returns-clause-all_closed c = all_closed-same
+
+pub returns-clause-gone : goal.returns-clause-gone
+returns-clause-gone c = replay-gone
+
+pub returns-clause-gone_closed : goal.returns-clause-gone_closed
+returns-clause-gone_closed c = replay-gone_closed

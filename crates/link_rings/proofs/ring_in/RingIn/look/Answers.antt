@@ -11,10 +11,10 @@ returns-clause-looked g c = rw (← c.self.view_is) (looked_in c.self.inside.end
 
 pub returns-clause-value : goal.returns-clause-value
 returns-clause-value g c = elim c.match-peek_known.branch [
-    in-Carried w ↦
+  | in-Carried w ↦
       let p = front_carried w.in-Carried.field-0 c.slots.new.self.end.ahead (rw w.in-Carried.is at c.peek_known.ensures) in
       (λ t. omega (arith, ap length p.1), λ l. w.result-is)
   | in-Head w ↦
       let z = front_head w.in-Head.field-0 c.slots.new.self.end.ahead (rw w.in-Head.is at c.peek_known.ensures) in
       (λ t. absurd (grind (arith, t, w.result-is)), λ l. absurd (omega (arith, ap length z, l)))
-  ]
+]
