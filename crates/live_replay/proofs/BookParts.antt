@@ -1,6 +1,6 @@
 -- What notes of the book leave of its records: what was begun, and what was refused.
-use Rattle.std.specs.Prelude.{ℕ, ◌≡◌, ◌≢◌, ◌-◌, ◌==◌, Bool, true, false, List, [], ◌∷◌, Option, Some, None, is_some, is_none, ◌⊎◌, if◌then◌else◌}
-use Rattle.std.proofs.Common.{refl, sym, ap, ◌∙◌, inl, inr, subst}
+use Rattle.std.specs.Prelude.{ℕ, ◌≡◌, ◌-◌, ◌==◌, Bool, true, false, List, [], ◌∷◌, Option, Some, None, is_some, is_none, ◌⊎◌, if◌then◌else◌}
+use Rattle.std.proofs.Common.{refl, sym, ap, ◌∙◌, inl, inr}
 use Rattle.std.proofs.lemmas.Bool.{cases_eq}
 use Rattle.zeus_base.specs.declared.order.Stream.{Stream}
 use Rattle.zeus_base.specs.declared.step.Passed.{Passed}
@@ -13,12 +13,12 @@ use Rattle.zeus_model.specs.declared.answer.Tried.TheVariants.{NoCopy, Read, Com
 use Rattle.zeus_model.specs.In.{In, here, there}
 use Rattle.zeus_model.specs.State.{Node}
 use Rattle.zeus_model.specs.Tables.{nth, put, numbers_from}
-use Rattle.zeus_model.specs.Local.{begin, try_slot}
-use Rattle.zeus_model.specs.Book.{Book, TxRecord, no_record, record_of, unchanged, changed, tx_of, point_once, ack_once, pass_tx, pass_numbers, book_passes, book_tried, book_point, book_ack, book_reply, book_read, book_refuse, book_commit, in_stream_order}
+use Rattle.zeus_model.specs.Local.{try_slot}
+use Rattle.zeus_model.specs.Book.{Book, TxRecord, no_record, record_of, unchanged, changed, tx_of, point_once, ack_once, pass_tx, pass_numbers, book_passes, book_tried, book_point, book_reply, book_read, book_refuse, in_stream_order}
 use Rattle.zeus_model.specs.World.{book_begun}
 use Rattle.machine_moves.proofs.Lists.{In-nothing, nth-put_same, nth-put_other}
 use Rattle.live_model.specs.Items.{Job, Note, Refused}
-use Rattle.live_model.specs.Cell.{Deed, Began, Tried as TriedDeed, Took, Ticked, Halted, Saw, declared, does, notes_down}
+use Rattle.live_model.specs.Cell.{Deed, Began, Tried as TriedDeed, Took, Ticked, Halted, Saw, does, notes_down}
 use Rattle.live_model.specs.Ends.{refused_by, refused_at}
 
 -- a part of the records that points and acknowledgements leave as it is

@@ -32,7 +32,7 @@ home-there p k es id h =
 abbrev pub last_world : Plan → Cluster → World
 last_world p k = run (start p.config p.txs) (merged p.config k)
 
-txs-same : (p : Plan) (k : Cluster) (es : Events) → IsLive p k es → (last_world p k).txs ≡ p.txs
+pub txs-same : (p : Plan) (k : Cluster) (es : Events) → IsLive p k es → (last_world p k).txs ≡ p.txs
 txs-same p k es h = let m = whole-mirrors p k es h in m.declared
 
 pub acked-same : (p : Plan) (k : Cluster) (es : Events) (id : ℕ) → IsLive p k es → is_acked (last_world p k) id ≡ acked_at_home p k id

@@ -1,22 +1,21 @@
 -- What a client passes over is never begun, and is closed, since what it waits behind is lost.
-use Rattle.std.specs.Prelude.{ℕ, zero, suc, ◌≡◌, ◌≢◌, ◌+◌, ◌<◌, ◌≤◌, ◌==◌, Bool, true, false, ◌&&◌, ◌||◌, not, List, [], ◌∷◌, ◌++◌, length, IfSome, Option, Some, None, is_some, is_none, ◌⊎◌, if◌then◌else◌}
-use Rattle.std.proofs.Common.{arith, refl, sym, ap, ◌∙◌, inl, inr, subst, append-nil, eq-eqb}
+use Rattle.std.specs.Prelude.{ℕ, zero, suc, ◌≡◌, ◌≢◌, ◌+◌, ◌<◌, ◌==◌, Bool, true, false, ◌&&◌, ◌||◌, not, List, [], ◌∷◌, ◌++◌, length, IfSome, Option, Some, None, is_some, is_none, ◌⊎◌, if◌then◌else◌}
+use Rattle.std.proofs.Common.{arith, refl, sym, ap, ◌∙◌, inl, inr, subst, append-nil}
 use Rattle.std.proofs.lemmas.Bool.{cases_eq, cases_lt, cond_both, ne_eqb}
 use Rattle.std.proofs.lemmas.Option.{IfSome_then}
 use Rattle.zeus_base.specs.declared.config.Config.{Config}
 use Rattle.zeus_txn.specs.declared.tx.TxDecl.{TxDecl}
 use Rattle.zeus_model.specs.In.{In, here, there}
-use Rattle.zeus_model.specs.Book.{Book, TxRecord, no_record, record_of}
-use Rattle.zeus_model.specs.Readers.{is_acked, is_ended, is_closed}
+use Rattle.zeus_model.specs.Book.{no_record, record_of}
+use Rattle.zeus_model.specs.Readers.{is_closed}
 use Rattle.zeus_model.specs.Sound.{Sound}
-use Rattle.zeus_model.specs.State.{Node}
 use Rattle.zeus_model.specs.Tables.{below}
-use Rattle.zeus_model.specs.World.{World, no_tx, run, start}
+use Rattle.zeus_model.specs.World.{no_tx, run, start}
 use Rattle.machine_moves.proofs.Lists.{In-nothing, In-append, In-append_right, nth-past}
 use Rattle.invariants.proofs.Start.{nth-none}
-use Rattle.live_model.specs.Items.{Job, Note, Acked, Refused, Stopped}
-use Rattle.live_model.specs.Cell.{CellEvent, Core, Deed, Began, Halted, Kill, declared, does, notes_down, after, core_from, core, start_core, HaltsOnly, IsEmpty, is_halt, job_of, jobs, empty_book}
-use Rattle.live_model.specs.Ends.{ClientId, acked_at, refused_at, ends_at, awaited, is_open_at, stopped_at, stops_at, notes_from, notes, waits_from, waits_behind}
+use Rattle.live_model.specs.Items.{Job, Note, Acked, Stopped}
+use Rattle.live_model.specs.Cell.{CellEvent, Core, Began, Halted, Kill, declared, does, notes_down, after, core_from, core, start_core, HaltsOnly, IsEmpty, is_halt, job_of, jobs}
+use Rattle.live_model.specs.Ends.{ClientId, acked_at, refused_at, ends_at, awaited, is_open_at, stopped_at, stops_at, notes_from, notes, waits_from}
 use Rattle.live_model.specs.Client.{IsGone, KnowsAcked}
 use Rattle.live_model.specs.Cluster.{Plan, Cluster, Events, IsThere}
 use Rattle.live_replay.specs.Closed.{home, acked_at_home, ended_at_home, in_vain, closed_at_home}
@@ -78,7 +77,7 @@ unfolding after notes_down is_open_at
 halted-lost me c txs core e k is unended =
     inr (rw is (stop-stops txs core.node), rw is (open-unacked ((declared txs k).node == me) _ _ (record_of core.book k).acked refl unended))
 
-no_events : (es : List CellEvent) → IsEmpty es → es ≡ []
+pub no_events : (es : List CellEvent) → IsEmpty es → es ≡ []
 unfolding IsEmpty
 no_events [] h = refl
 no_events (e ∷ es) h = absurd h
@@ -139,7 +138,7 @@ begun-taken me c txs core (e ∷ es) k h =
 none_begun : (me : ℕ) (c : Config) (txs : List TxDecl) (k : ℕ) → IsBegunIn (start_core me c txs).book k → ⊥
 none_begun me c txs k h = let none : is_some no_record.begun ≡ true = rw (nth-none no_record (length txs) k) at h in absurd cc
 
-home-core : (p : Plan) (k : Cluster) (es : Events) (id : ℕ) → IsLive p k es → home p k id ≡ core (declared p.txs id).node p.config p.txs (es.cells (declared p.txs id).node)
+pub home-core : (p : Plan) (k : Cluster) (es : Events) (id : ℕ) → IsLive p k es → home p k id ≡ core (declared p.txs id).node p.config p.txs (es.cells (declared p.txs id).node)
 home-core p k es id h =
     let cluster = h.cluster in
     let cell = cluster.cells (declared p.txs id).node (home-there p k es id h) in cell.core
@@ -224,8 +223,8 @@ unacked-behind (suc links) (Some j) x p k es h lost waits =
           let further : waits_from p.txs links (declared p.txs j).after x ≡ true = rw (ne_eqb j x other) at waits in
           let rest = unacked-behind links (declared p.txs j).after x p k es h lost further in
           false_unless (acked_at_home p k j) (λ acked.
-            clash (declared p.txs j).after (λ i. acked_at_home p k i) (waits-some links (declared p.txs j).after p.txs x further)
-            (begun-after p k es j h (acked-begun p k es j h acked)) rest)
+          clash (declared p.txs j).after (λ i. acked_at_home p k i) (waits-some links (declared p.txs j).after p.txs x further)
+          (begun-after p k es j h (acked-begun p k es j h acked)) rest)
     ]
 
 vain_so : (a e v : Bool) → a ≡ false → (e || v) ≡ true → (not a && (e || v)) ≡ true
@@ -320,4 +319,4 @@ replay-gone_closed p k es id t h at g =
     let lost = known-lost p k es id t g h at in
     closed-same p k es t h
     ∙ or_right (acked_at_home p k t || ended_at_home p k t) (in_vain p k t (declared p.txs t).after)
-      (vain-behind t (declared p.txs t).after g.note.tx p k es h lost.unacked lost.ended g.behind)
+    (vain-behind t (declared p.txs t).after g.note.tx p k es h lost.unacked lost.ended g.behind)

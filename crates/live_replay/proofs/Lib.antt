@@ -10,11 +10,13 @@ pub mod Costs
 pub mod Driving
 pub mod Early
 pub mod Gone
+pub mod Halting
 pub mod Lengths
 pub mod LiveRuns
 pub mod MergedLive
 pub mod Merging
 pub mod Losses
+pub mod Lost
 pub mod Mirrors
 pub mod Orders
 pub mod Posting

@@ -120,7 +120,7 @@ stopped-put w n k m h =
       | inr other ↦ ap (λ (x : Node). x.stopped) (nth-put_other no_node w.nodes n k m other)
     ]
 
-quiet-begin : (o : Option Answer) (w : World) (k : ℕ) → IsUsual w → Quiet w (begin_or_not w k o).world
+pub quiet-begin : (o : Option Answer) (w : World) (k : ℕ) → IsUsual w → Quiet w (begin_or_not w k o).world
 unfolding begin_or_not system
 quiet-begin (Some a) w k u = quiet-refused w a
 quiet-begin None w k u =
@@ -129,14 +129,14 @@ quiet-begin None w k u =
     let keeps = r.keeps in
     record { config = refl; declared = refl; views = refl; stopped = λ n. stopped-put w t.node n _ keeps.stopped }
 
-quiet-try : (w : World) (n s : ℕ) → IsUsual w → s < w.config.slots → Quiet w (tried_at w n s (try_slot (node w n) s)).world
+pub quiet-try : (w : World) (n s : ℕ) → IsUsual w → s < w.config.slots → Quiet w (tried_at w n s (try_slot (node w n) s)).world
 unfolding tried_at system
 quiet-try w n s u less =
     let r = try_slot-answered (system w) n s 64 u.steady less in
     let keeps = r.keeps in
     record { config = refl; declared = refl; views = refl; stopped = λ k. stopped-put w n k _ keeps.stopped }
 
-quiet-deliver : (o : Option Letter) (w : World) (sender receiver i : ℕ) → IsUsual w → nth_letter (link w.links sender receiver) i ≡ o → Quiet w (deliver_or_not w sender receiver o).world
+pub quiet-deliver : (o : Option Letter) (w : World) (sender receiver i : ℕ) → IsUsual w → nth_letter (link w.links sender receiver) i ≡ o → Quiet w (deliver_or_not w sender receiver o).world
 unfolding deliver_or_not received_at system HasEnds
 quiet-deliver None w sender receiver i u is = quiet-refused w (NoPacket (length (link w.links sender receiver)))
 quiet-deliver (Some l) w sender receiver i u is =
@@ -146,7 +146,7 @@ quiet-deliver (Some l) w sender receiver i u is =
     let keeps = r.keeps in
     record { config = refl; declared = refl; views = refl; stopped = λ k. stopped-put w receiver k _ keeps.stopped }
 
-quiet-tick : (w : World) (n : ℕ) → IsUsual w → Quiet w (ticked_at w n (tick (node w n))).world
+pub quiet-tick : (w : World) (n : ℕ) → IsUsual w → Quiet w (ticked_at w n (tick (node w n))).world
 unfolding ticked_at system
 quiet-tick w n u =
     let r = tick-answered (system w) n 64 u.steady in

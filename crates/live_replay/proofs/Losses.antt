@@ -1,5 +1,5 @@
 -- A transaction that was refused is never acknowledged.
-use Rattle.std.specs.Prelude.{ℕ, ◌≡◌, ◌==◌, Bool, true, false, List, [], ◌∷◌, length, map, All, Option, Some, None, is_some}
+use Rattle.std.specs.Prelude.{ℕ, ◌≡◌, Bool, true, false, List, [], ◌∷◌, length, All, Option, Some, None}
 use Rattle.std.proofs.Common.{arith, refl, sym, ap, ◌∙◌, inl, inr, subst}
 use Rattle.std.proofs.lemmas.Bool.{cases_eq}
 use Rattle.std.proofs.lemmas.List.Elements.{All-head, All-tail}
@@ -9,7 +9,7 @@ use Rattle.zeus_base.specs.declared.order.Stream.{Stream}
 use Rattle.zeus_base.specs.declared.step.Step.{Step}
 use Rattle.zeus_txn.specs.declared.reply.Reply.{Reply}
 use Rattle.zeus_txn.specs.declared.tx.TxDecl.{TxDecl}
-use Rattle.zeus_model.specs.Book.{Book, TxRecord, no_record, record_of, tx_of, point_once, ack_once, pass_tx, book_ack, book_point, book_reply, book_read, is_entry}
+use Rattle.zeus_model.specs.Book.{Book, TxRecord, no_record, record_of, tx_of, point_once, ack_once, pass_tx, book_point, book_reply, book_read, is_entry}
 use Rattle.zeus_model.specs.Scripts.{FitTxs}
 use Rattle.zeus_model.specs.Tables.{nth, put}
 use Rattle.zeus_model.specs.World.{World, stepped, run, start}

@@ -1,5 +1,5 @@
 -- What a run of merged events is compared with: what cells and service have of the same events.
-use Rattle.std.specs.Prelude.{ℕ, ◌≡◌, ◌≤◌, List, [], ◌∷◌, map, None, is_some}
+use Rattle.std.specs.Prelude.{ℕ, ◌≡◌, ◌≤◌, true, false, List, [], ◌∷◌, map, None, is_some}
 use Rattle.zeus_base.specs.Limits.{KeepsLimits}
 use Rattle.zeus_base.specs.declared.config.Config.{Config}
 use Rattle.zeus_txn.specs.declared.tx.TxDecl.{TxDecl}
@@ -8,6 +8,7 @@ use Rattle.zeus_model.specs.declared.answer.Answer.TheVariants.{Twice, Waits, No
 use Rattle.zeus_model.specs.In.{In}
 use Rattle.zeus_model.specs.Scripts.{FitsTxs}
 use Rattle.zeus_model.specs.Book.{TxRecord}
+use Rattle.zeus_model.specs.Readers.{is_acked, is_ended}
 use Rattle.zeus_model.specs.World.{World, run, start}
 use Rattle.live_model.specs.Cell.{Core, core, does, notes_down}
 use Rattle.live_model.specs.Service.{made, views_made}
@@ -60,6 +61,11 @@ pub record SameRun (r q : TxRecord) : Type 0 where
 pub record IsUntouched (r : TxRecord) : Type 0 where
   pub begun : r.begun ≡ None
   pub acked : r.acked ≡ None
+
+-- a transaction that will never be acknowledged, since it was refused or its node is stopped
+pub record IsLost (w : World) (id : ℕ) : Type 0 where
+  pub unacked : is_acked w id ≡ false
+  pub ended : is_ended w id ≡ true
 
 -- no clock is above one that comes later
 unfoldable pub Rises : {A : Type 0} → (A → ℕ) → List A → Type 0

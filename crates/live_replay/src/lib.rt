@@ -14,14 +14,14 @@ ghost use Rattle.zeus_model.specs.World.{happens, link, node, run, start};
 ghost use Rattle.zeus_model.specs.declared.answer.Answer.TheVariants.{Begin as BeginAnswer};
 ghost use Rattle.zeus_model.specs.declared.answer.Begin.TheVariants.{Begun};
 ghost use Rattle.machine_moves.specs.Fits.{StepFits};
-ghost use Rattle.live_model.specs.Items.{Job, Stamped};
+ghost use Rattle.live_model.specs.Items.{Job, Stamped, travels};
 ghost use Rattle.live_model.specs.Cell.{Began, CellEvent, declared, jobs, sends};
 ghost use Rattle.live_model.specs.Client.{IsGone};
 ghost use Rattle.live_model.specs.Cluster.{Cluster, Events, IsFront, IsThere, Plan};
-ghost use Rattle.live_model.specs.Ends.{ClientId, answers};
+ghost use Rattle.live_model.specs.Ends.{ClientId, answers, is_of, waits_behind};
 ghost use Rattle.live_model.specs.Merge.{Turn, cell_turn, merged, turn_clock, turn_step, turns};
 ghost use Rattle.live_replay.specs.Parts.{cell_part, service_part};
-ghost use Rattle.live_replay.specs.Replayed.{IsLive, IsMissed, IsUntouched, Rises, SameRun, acknowledged, given, world_after};
+ghost use Rattle.live_replay.specs.Replayed.{IsLive, IsLost, IsMissed, IsUntouched, Rises, SameRun, acknowledged, given, world_after};
 
 /// The merge of the journals is a run of the machine, in which each cell, each client and the service see what they saw.
 ///
@@ -92,6 +92,12 @@ pub fn merged_journals_are_a_run()
     // It is closed all the same.
     ensures gone_closed { (p : Plan) (k : Cluster) (es : Events) (id : ClientId) (tx : ℕ) → IsLive p k es → IsThere p.config id → IsGone p.txs (k.clients id) tx
         → is_closed (run (start p.config p.txs) (merged p.config k)) tx ≡ true }
+    // What waits behind a lost transaction, directly or through others, is passed over by each client that has taken all notes of
+    // that one's cell, where the cell's clock travels.
+    ensures lost_gone { (p : Plan) (k : Cluster) (es : Events) (id : ClientId) (tx lost : ℕ) → IsLive p k es → IsThere p.config id → is_of p.txs id tx ≡ true
+        → waits_behind p.txs tx lost ≡ true → IsLost (run (start p.config p.txs) (merged p.config k)) lost
+        → travels ((k.cells (declared p.txs lost).node).core).clock ≡ true
+        → (k.clients id).notes (declared p.txs lost).node ≡ (k.cells (declared p.txs lost).node).notes id → IsGone p.txs (k.clients id) tx }
 {}
 
 /// A live run is one that its cells have made, and then its drive.

@@ -2,6 +2,7 @@
 use Rattle.live_replay.proofs.Closings.{closed-same, all_closed-same}
 use Rattle.live_replay.proofs.Gone.{replay-gone, replay-gone_closed}
 use Rattle.live_replay.proofs.Lengths.{merged-few}
+use Rattle.live_replay.proofs.Lost.{replay-lost_gone}
 use Rattle.live_replay.proofs.Results.{replay-steps, replay-cells, replay-service, replay-clocks, replay-fits, replay-answer, replay-acked, replay-hits, replay-begun, replay-after, replay-sound, replay-node, replay-views, replay-link, replay-book, replay-jobs, replay-answers}
 use Rattle.live_replay.proofs.merged_journals_are_a_run.Goals as goal
 
@@ -70,3 +71,6 @@ returns-clause-gone c = replay-gone
 
 pub returns-clause-gone_closed : goal.returns-clause-gone_closed
 returns-clause-gone_closed c = replay-gone_closed
+
+pub returns-clause-lost_gone : goal.returns-clause-lost_gone
+returns-clause-lost_gone c = replay-lost_gone
