@@ -27,6 +27,8 @@ pub use reliable_commit::{Advance, RInvAnswer, RValAnswer};
 pub use replica_reads::ReadTry;
 pub use slot::Slot;
 pub use state::NodeState;
-pub use zeus_base::{Config, NoMemory, NodeId, NodeSet, ObjId, Passed, SlotId, Stamp, Stream, TxId};
+pub use zeus_base::{
+    Config, NoMemory, NodeId, NodeSet, ObjId, Passed, SlotId, Stamp, Stream, TxId,
+};
 pub use zeus_model::{Copy, Current, Entry, Kept, Pending};
 pub use zeus_packet::{Body, Cause, Content, Letter, Place, Proposal, RInv, View, Want};
