@@ -1,5 +1,5 @@
 //! A node: its state, and its calls.
-ghost use Rattle.std.specs.Prelude.{◌≡◌, ◌<◌, ◌≤◌, All, IfOk, length, option_copied, take, true};
+ghost use Rattle.std.specs.Prelude.{◌≡◌, ◌<◌, ◌≤◌, All, IfOk, length, option_copied, option_map, take, true};
 ghost use Rattle.zeus_base.specs.Limits.{KeepsLimits};
 ghost use Rattle.zeus_packet.specs.Fits.{fits, nodes_fit};
 ghost use Rattle.zeus_txn.specs.Ops.{named};
@@ -7,7 +7,7 @@ ghost use Rattle.zeus_txn.specs.Tx.{IsTx};
 ghost use Rattle.zeus_model.specs.Local.{begin, try_slot};
 ghost use Rattle.zeus_model.specs.Membership.{install, stop, tick};
 ghost use Rattle.zeus_model.specs.Receive.{receive};
-ghost use Rattle.zeus_model.specs.State.{copy, entry, is_open, no_entry, owns};
+ghost use Rattle.zeus_model.specs.State.{copy, entry, is_open, no_entry, owns, slot as slot_of};
 ghost use Rattle.zeus_model.specs.World.{start_node};
 ghost use Rattle.node_ranges.specs.Ranges.{limits_of};
 ghost use Rattle.node_state.specs.Effect.{IsCleared};
@@ -171,6 +171,17 @@ impl Node {
         ensures { result ≡ self.now.stopped }
     {
         self.state.is_stopped()
+    }
+
+    /// The transaction that the slot is to try, if there is one.
+    pub fn current(&self, slot: SlotId) -> Option<TxId>
+        requires { slot < length self.now.slots }
+        ensures { result ≡ option_map (λ c. c.id) (slot_of self.now slot).current }
+    {
+        match self.state.current(slot) {
+            None => None,
+            Some(current) => Some(current.id),
+        }
     }
 
     /// What the node knows of the placement of an object that there is.

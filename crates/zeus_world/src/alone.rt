@@ -29,7 +29,7 @@ pub(crate) fn answer_alone(book: &mut Book, answer: Answer, report: &mut Report)
 
 impl<'a> World<'a> {
     /// How a transaction is declared.
-    pub(crate) fn declared(&self, id: TxId) -> &TxDecl
+    pub fn declared(&self, id: TxId) -> &TxDecl
         requires { id < length self.now.txs }
         ensures { result.now ≡ tx_decl self.now id }
     {

@@ -10,10 +10,11 @@ use crate::world::World;
 use history_book::Book;
 use lossy_fabric::Links;
 use membership::Service;
-use zeus_base::{NodeId, ObjId, TxId};
+use zeus_base::{Config, NodeId, ObjId, TxId};
 use zeus_model::{Copy, Entry, TxState};
 use zeus_node::Node;
 use zeus_packet::Place;
+use zeus_txn::TxList;
 
 impl<'a> World<'a> {
     /// Whether a node runs.
@@ -134,6 +135,20 @@ impl<'a> World<'a> {
         ensures { result ≡ is_closed self.now id }
     {
         self.book.is_acked(id) || self.is_ended(id) || self.waits_in_vain(id)
+    }
+
+    /// The configuration of the run.
+    pub fn config(&self) -> &Config
+        ensures { result.now ≡ self.now.config }
+    {
+        self.config
+    }
+
+    /// The transactions of the run.
+    pub fn txs(&self) -> &TxList
+        ensures { result.now ≡ self.now.txs }
+    {
+        self.txs
     }
 
     /// A node of the run.
