@@ -20,8 +20,14 @@ mod transactions;
 mod words;
 
 pub use fault_law::other_bytes_have_one_fault;
+pub use parts::Parts;
 pub use print::print_script;
-pub use reader::read_script;
+pub use reader::{MOST_BYTES, is_last, read_script, unended};
 pub use reading::ReadScript;
+<<<<<<< ours
 pub use zeus_base::NoMemory;
+=======
+pub use stage::Failure;
+pub use words::NodeRule;
+>>>>>>> theirs
 pub use zeus_model::{Kind, Name, Names, Script, ScriptFault};
