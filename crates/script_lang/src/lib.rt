@@ -24,10 +24,7 @@ pub use parts::Parts;
 pub use print::print_script;
 pub use reader::{MOST_BYTES, is_last, read_script, unended};
 pub use reading::ReadScript;
-<<<<<<< ours
-pub use zeus_base::NoMemory;
-=======
 pub use stage::Failure;
 pub use words::NodeRule;
->>>>>>> theirs
+pub use zeus_base::NoMemory;
 pub use zeus_model::{Kind, Name, Names, Script, ScriptFault};

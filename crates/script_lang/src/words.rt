@@ -161,7 +161,7 @@ impl<'a> Parts<'a> {
 
     /// The next word as a number.
     #[tactic(auto, unfolding(crate::specs::Numbers::number_at))]
-    pub(crate) fn number(&mut self) -> Result<u64, Kind>
+    pub fn number(&mut self) -> Result<u64, Kind>
         ensures { Reads result self.new (number_at self.old) }
     {
         match number_of(self.word()?) {
@@ -181,7 +181,7 @@ impl<'a> Parts<'a> {
 
     /// The next word as a value.
     #[tactic(auto, unfolding(crate::specs::Values::value_at))]
-    pub(crate) fn value(&mut self, version: u8) -> Result<Value, Kind>
+    pub fn value(&mut self, version: u8) -> Result<Value, Kind>
         ensures { Reads result self.new (value_at version self.old) }
     {
         value_of(self.word()?, version)
@@ -222,7 +222,7 @@ impl<'a> Parts<'a> {
 
     /// Takes the next word where it is this keyword.
     #[tactic(auto, unfolding(crate::specs::Reads::word_if))]
-    pub(crate) fn take_if(&mut self, keyword: &[u8]) -> bool
+    pub fn take_if(&mut self, keyword: &[u8]) -> bool
         ensures { (result, self.new) ≡ word_if keyword.now self.old }
     {
         match self.peek() {

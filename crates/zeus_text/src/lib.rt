@@ -1,11 +1,13 @@
 //! The words that scripts and reports are written with, each written at the end of a buffer.
 #![tactic(auto)]
 
+mod replies;
 mod steps;
 #[cfg(test)]
 mod tests;
 mod words;
 
+pub use replies::write_reply;
 pub use steps::{write_members, write_step};
 pub use words::{
     append, append_byte, write_counted, write_decimal, write_line_end, write_number, write_object,
