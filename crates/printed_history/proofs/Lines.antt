@@ -1,0 +1,153 @@
+-- How a text falls into lines, and which of them begin with a byte.
+use Rattle.std.proofs.Common.{ℕ, zero, suc, ◌≡◌, ◌≢◌, ◌<◌, ◌≤◌, ◌+◌, ◌/◌, ◌%◌, Bool, true, false, List, [], ◌∷◌, ◌++◌, length, append_assoc, ap, sym, subst, refl, ◌∙◌, arith, inl, inr}
+use Rattle.std.specs.Prelude.{◌==◌, ◌&&◌, nat_lt, decimal, if◌then◌else◌, All, ◌⊎◌}
+use Rattle.std.specs.List.{filter}
+use Rattle.std.specs.Fmt.{digits, digits_onto, digit_glyph}
+use Rattle.std.proofs.lemmas.Bool.{cond_both, ne_eqb, ltb-true, ltb-false}
+use Rattle.std.proofs.lemmas.List.{append-nil}
+use Rattle.std.proofs.lemmas.List.Elements.{All-nil, All-cons, All-head, All-tail}
+use Rattle.printed_history.specs.Lines.{cut, with_byte, begins_with, lines_with}
+
+-- whether byte 10 is none of the bytes
+unfoldable pub is_line : List ℕ → Bool
+is_line [] = true
+is_line (b ∷ bs) = if b == 10 then false else is_line bs
+
+pub is_line-append : (a b : List ℕ) → is_line a ≡ true → is_line b ≡ true → is_line (a ++ b) ≡ true
+unfolding is_line
+is_line-append [] b h g = g
+is_line-append (c ∷ a) b h g = head_line (c == 10) (is_line a) (is_line (a ++ b)) h (λ k. is_line-append a b k g)
+  where
+    head_line : (t u v : Bool) → (if t then false else u) ≡ true → (u ≡ true → v ≡ true) → (if t then false else v) ≡ true
+    head_line true u v p f = p
+    head_line false u v p f = f p
+
+-- the whole first line of a text
+pub cut-line : (l rest : List ℕ) → is_line l ≡ true → cut 10 (l ++ 10 ∷ rest) ≡ l ∷ cut 10 rest
+unfolding is_line cut with_byte
+cut-line [] rest h = refl
+cut-line (b ∷ l) rest h = at (b == 10) (cut 10 (l ++ 10 ∷ rest)) h (λ k. cut-line l rest k)
+  where
+    at : (t : Bool) (parts : List (List ℕ)) → (if t then false else is_line l) ≡ true → (is_line l ≡ true → parts ≡ l ∷ cut 10 rest) → (if t then [] ∷ parts else with_byte b parts) ≡ (b ∷ l) ∷ cut 10 rest
+    at true parts p f = absurd cc
+    at false parts p f = rw (f p) refl
+
+-- whatever follows the text, these are its own lines that begin with the byte
+pub record Shows (b : ℕ) (text : List ℕ) (found : List (List ℕ)) : Type 0 where
+  pub before : (rest : List ℕ) → lines_with b (text ++ rest) ≡ found ++ lines_with b rest
+
+pub shows-none : (b : ℕ) → Shows b [] []
+shows-none b = record { before = λ rest. refl }
+
+pub shows-append : (b : ℕ) (t u : List ℕ) (f g : List (List ℕ)) → Shows b t f → Shows b u g → Shows b (t ++ u) (f ++ g)
+shows-append b t u f g st su = record {
+  before = λ rest.
+      ap (lines_with b) (append_assoc t u rest) ∙ st.before (u ++ rest) ∙ ap (λ ls. f ++ ls) (su.before rest) ∙ sym (append_assoc f g (lines_with b rest));
+}
+
+-- the line, if it begins with the byte
+abbrev pub one_line : ℕ → List ℕ → List (List ℕ)
+one_line b l = if begins_with b l then l ∷ [] else []
+
+filter-one : (t : Bool) (l : List ℕ) (ls : List (List ℕ)) → (if t then l ∷ ls else ls) ≡ (if t then l ∷ [] else []) ++ ls
+filter-one true l ls = refl
+filter-one false l ls = refl
+
+-- a text that begins with a whole line
+pub shows_line : (b : ℕ) (l text : List ℕ) (found : List (List ℕ)) → is_line l ≡ true → Shows b text found → Shows b (l ++ 10 ∷ text) (one_line b l ++ found)
+shows_line b l text found h s = record {
+  before = λ rest.
+      ap (lines_with b) (append_assoc l (10 ∷ text) rest) ∙ ap (λ ls. filter (begins_with b) ls) (cut-line l (text ++ rest) h)
+      ∙ filter-one (begins_with b l) l (lines_with b (text ++ rest)) ∙ ap (λ ls. one_line b l ++ ls) (s.before rest) ∙ sym (append_assoc (one_line b l) found (lines_with b rest));
+}
+
+-- the lines of the whole text
+pub shows-whole : (b : ℕ) (text : List ℕ) (found : List (List ℕ)) → Shows b text found → lines_with b text ≡ found
+unfolding cut begins_with
+shows-whole b text found s =
+    let e : lines_with b (text ++ []) ≡ found ++ [] = s.before [] in
+    ap (lines_with b) (sym (append-nil text)) ∙ e ∙ append-nil found
+
+-- ---- pieces of a line
+
+-- pieces, one after another
+abbrev pub together : List ℕ → List (List ℕ) → List ℕ
+together p [] = p
+together p (q ∷ qs) = p ++ together q qs
+
+-- pieces and what follows them
+abbrev pub onto : List ℕ → List (List ℕ) → List ℕ → List ℕ
+onto p [] rest = p ++ rest
+onto p (q ∷ qs) rest = p ++ onto q qs rest
+
+pub onto-together : (p : List ℕ) (qs : List (List ℕ)) (rest : List ℕ) → onto p qs rest ≡ together p qs ++ rest
+onto-together p [] rest = refl
+onto-together p (q ∷ qs) rest = ap (λ l. p ++ l) (onto-together q qs rest) ∙ sym (append_assoc p (together q qs) rest)
+
+-- each of the pieces lacks byte 10
+abbrev pub AreLines : List ℕ → List (List ℕ) → Type 0
+AreLines p [] = is_line p ≡ true
+AreLines p (q ∷ qs) = (is_line p ≡ true) × AreLines q qs
+
+pub is_line-together : (p : List ℕ) (qs : List (List ℕ)) → AreLines p qs → is_line (together p qs) ≡ true
+is_line-together p [] h = h
+is_line-together p (q ∷ qs) h = is_line-append p (together q qs) h.0 (is_line-together q qs h.1)
+
+-- a text that begins with a line of pieces
+pub shows_pieces : (b : ℕ) (p : List ℕ) (qs : List (List ℕ)) (text : List ℕ) (found : List (List ℕ)) → AreLines p qs → Shows b text found → Shows b (onto p qs (10 ∷ text)) (one_line b (together p qs) ++ found)
+shows_pieces b p qs text found h s =
+    subst (λ t. Shows b t (one_line b (together p qs) ++ found)) (sym (onto-together p qs (10 ∷ text))) (shows_line b (together p qs) text found (is_line-together p qs h) s)
+
+-- ---- numbers
+
+-- a decimal digit
+abbrev pub IsDigit : ℕ → Type 0
+IsDigit b = (48 ≤ b) × (b ≤ 57)
+
+glyph : (n : ℕ) → IsDigit (digit_glyph false (n % 10))
+glyph n =
+    cond_both (nat_lt (n % 10) 10) (48 + n % 10) (87 + n % 10) IsDigit
+    (λ less. let small = ltb-true (n % 10) 10 less in (omega arith, omega (arith, small)))
+    (λ more. let large = ltb-false (n % 10) 10 more in absurd (omega (arith, large)))
+
+all_digits : (k n : ℕ) (acc : List ℕ) → All IsDigit acc → All IsDigit (digits_onto k 10 false n acc)
+all_digits zero n acc h = h
+all_digits (suc k) n acc h =
+    let more : All IsDigit (digit_glyph false (n % 10) ∷ acc) = All-cons IsDigit _ acc (glyph n) h in
+    cond_both (n / 10 == 0) (digit_glyph false (n % 10) ∷ acc) (digits_onto k 10 false (n / 10) (digit_glyph false (n % 10) ∷ acc)) (λ l. All IsDigit l)
+    (λ _. more) (λ _. all_digits k (n / 10) (digit_glyph false (n % 10) ∷ acc) more)
+
+-- each byte of a decimal number is a digit
+pub decimal-digits : (n : ℕ) → All IsDigit (decimal n)
+unfolding digits
+decimal-digits n = all_digits 64 n [] (All-nil IsDigit)
+
+-- a decimal number has no byte 10
+pub digits-is_line : (l : List ℕ) → All IsDigit l → is_line l ≡ true
+unfolding is_line
+digits-is_line [] h = refl
+digits-is_line (b ∷ l) h =
+    let first = All-head IsDigit b l h in
+    let other : b ≢ 10 = λ e. absurd (omega (arith, first.0, e)) in
+    rw (ne_eqb b 10 other) (digits-is_line l (All-tail IsDigit b l h))
+
+pub decimal-is_line : (n : ℕ) → is_line (decimal n) ≡ true
+decimal-is_line n = digits-is_line (decimal n) (decimal-digits n)
+
+some_digit : (k n : ℕ) (acc : List ℕ) → 0 < length (digits_onto (suc k) 10 false n acc)
+some_digit zero n acc = cond_both (n / 10 == 0) (digit_glyph false (n % 10) ∷ acc) (digit_glyph false (n % 10) ∷ acc) (λ l. 0 < length l) (λ _. omega arith) (λ _. omega arith)
+some_digit (suc k) n acc =
+    cond_both (n / 10 == 0) (digit_glyph false (n % 10) ∷ acc) (digits_onto (suc k) 10 false (n / 10) (digit_glyph false (n % 10) ∷ acc)) (λ l. 0 < length l)
+    (λ _. omega arith) (λ _. some_digit k (n / 10) (digit_glyph false (n % 10) ∷ acc))
+
+-- what begins with a decimal number begins with no byte that is no digit
+pub begins_with-digits : (b : ℕ) (l rest : List ℕ) → 0 < length l → All IsDigit l → (b < 48) ⊎ (57 < b) → begins_with b (l ++ rest) ≡ false
+unfolding begins_with
+begins_with-digits b [] rest some h other = absurd (omega (arith, some))
+begins_with-digits b (c ∷ l) rest some h other =
+    let first = All-head IsDigit c l h in
+    ne_eqb c b (λ e. elim other [ | inl less ↦ absurd (omega (arith, first.0, less, e)) | inr more ↦ absurd (omega (arith, first.1, more, e)) ])
+
+pub begins_with-decimal : (b n : ℕ) (rest : List ℕ) → (b < 48) ⊎ (57 < b) → begins_with b (decimal n ++ rest) ≡ false
+unfolding digits
+begins_with-decimal b n rest other = begins_with-digits b (decimal n) rest (some_digit 63 n []) (decimal-digits n) other

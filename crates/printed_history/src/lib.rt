@@ -1,0 +1,2 @@
+//! What a report prints is the history of its run.
+#![tactic(auto)]
