@@ -2,3 +2,4 @@ pub mod Lines
 pub mod Values
 pub mod Nodes
 pub mod Scenes
+pub mod Pieces

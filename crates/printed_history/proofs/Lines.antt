@@ -53,12 +53,11 @@ filter-one : (t : Bool) (l : List ℕ) (ls : List (List ℕ)) → (if t then l �
 filter-one true l ls = refl
 filter-one false l ls = refl
 
--- a text that begins with a whole line
-pub shows_line : (b : ℕ) (l text : List ℕ) (found : List (List ℕ)) → is_line l ≡ true → Shows b text found → Shows b (l ++ 10 ∷ text) (one_line b l ++ found)
-shows_line b l text found h s = record {
+-- a whole line
+pub shows-line : (b : ℕ) (l : List ℕ) → is_line l ≡ true → Shows b (l ++ 10 ∷ []) (one_line b l)
+shows-line b l h = record {
   before = λ rest.
-      ap (lines_with b) (append_assoc l (10 ∷ text) rest) ∙ ap (λ ls. filter (begins_with b) ls) (cut-line l (text ++ rest) h)
-      ∙ filter-one (begins_with b l) l (lines_with b (text ++ rest)) ∙ ap (λ ls. one_line b l ++ ls) (s.before rest) ∙ sym (append_assoc (one_line b l) found (lines_with b rest));
+      ap (lines_with b) (append_assoc l (10 ∷ []) rest) ∙ ap (λ ls. filter (begins_with b) ls) (cut-line l rest h) ∙ filter-one (begins_with b l) l (lines_with b rest);
 }
 
 -- the lines of the whole text
@@ -73,30 +72,21 @@ shows-whole b text found s =
 -- pieces, one after another
 abbrev pub together : List ℕ → List (List ℕ) → List ℕ
 together p [] = p
-together p (q ∷ qs) = p ++ together q qs
-
--- pieces and what follows them
-abbrev pub onto : List ℕ → List (List ℕ) → List ℕ → List ℕ
-onto p [] rest = p ++ rest
-onto p (q ∷ qs) rest = p ++ onto q qs rest
-
-pub onto-together : (p : List ℕ) (qs : List (List ℕ)) (rest : List ℕ) → onto p qs rest ≡ together p qs ++ rest
-onto-together p [] rest = refl
-onto-together p (q ∷ qs) rest = ap (λ l. p ++ l) (onto-together q qs rest) ∙ sym (append_assoc p (together q qs) rest)
+together p (q ∷ qs) = together (p ++ q) qs
 
 -- each of the pieces lacks byte 10
 abbrev pub AreLines : List ℕ → List (List ℕ) → Type 0
 AreLines p [] = is_line p ≡ true
 AreLines p (q ∷ qs) = (is_line p ≡ true) × AreLines q qs
 
+further : (p q : List ℕ) (qs : List (List ℕ)) → is_line p ≡ true → AreLines q qs → AreLines (p ++ q) qs
+further p q [] h g = is_line-append p q h g
+further p q (r ∷ rs) h g = (is_line-append p q h g.0, g.1)
+
+-- so do the pieces together
 pub is_line-together : (p : List ℕ) (qs : List (List ℕ)) → AreLines p qs → is_line (together p qs) ≡ true
 is_line-together p [] h = h
-is_line-together p (q ∷ qs) h = is_line-append p (together q qs) h.0 (is_line-together q qs h.1)
-
--- a text that begins with a line of pieces
-pub shows_pieces : (b : ℕ) (p : List ℕ) (qs : List (List ℕ)) (text : List ℕ) (found : List (List ℕ)) → AreLines p qs → Shows b text found → Shows b (onto p qs (10 ∷ text)) (one_line b (together p qs) ++ found)
-shows_pieces b p qs text found h s =
-    subst (λ t. Shows b t (one_line b (together p qs) ++ found)) (sym (onto-together p qs (10 ∷ text))) (shows_line b (together p qs) text found (is_line-together p qs h) s)
+is_line-together p (q ∷ qs) h = is_line-together (p ++ q) qs (further p q qs h.0 h.1)
 
 -- ---- numbers
 
