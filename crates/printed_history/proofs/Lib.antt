@@ -3,3 +3,4 @@ pub mod Values
 pub mod Nodes
 pub mod Scenes
 pub mod Pieces
+pub mod Texts

@@ -124,20 +124,46 @@ digits-is_line (b ∷ l) h =
 pub decimal-is_line : (n : ℕ) → is_line (decimal n) ≡ true
 decimal-is_line n = digits-is_line (decimal n) (decimal-digits n)
 
+-- the line is not empty, and begins with another byte
+unfoldable pub IsQuiet : ℕ → List ℕ → Type 0
+IsQuiet b [] = ⊥
+IsQuiet b (c ∷ cs) = (c == b) ≡ false
+
+pub quiet-append : (b : ℕ) (p q : List ℕ) → IsQuiet b p → IsQuiet b (p ++ q)
+unfolding IsQuiet
+quiet-append b [] q h = absurd h
+quiet-append b (c ∷ p) q h = h
+
+pub quiet-begins : (b : ℕ) (l : List ℕ) → IsQuiet b l → begins_with b l ≡ false
+unfolding IsQuiet begins_with
+quiet-begins b [] h = absurd h
+quiet-begins b (c ∷ cs) h = h
+
+quiet-digits : (b : ℕ) (l : List ℕ) → 0 < length l → All IsDigit l → (b < 48) ⊎ (57 < b) → IsQuiet b l
+unfolding IsQuiet
+quiet-digits b [] some h other = absurd (omega (arith, some))
+quiet-digits b (c ∷ l) some h other =
+    let first = All-head IsDigit c l h in
+    ne_eqb c b (λ e. elim other [ | inl less ↦ absurd (omega (arith, first.0, less, e)) | inr more ↦ absurd (omega (arith, first.1, more, e)) ])
+
 some_digit : (k n : ℕ) (acc : List ℕ) → 0 < length (digits_onto (suc k) 10 false n acc)
 some_digit zero n acc = cond_both (n / 10 == 0) (digit_glyph false (n % 10) ∷ acc) (digit_glyph false (n % 10) ∷ acc) (λ l. 0 < length l) (λ _. omega arith) (λ _. omega arith)
 some_digit (suc k) n acc =
     cond_both (n / 10 == 0) (digit_glyph false (n % 10) ∷ acc) (digits_onto (suc k) 10 false (n / 10) (digit_glyph false (n % 10) ∷ acc)) (λ l. 0 < length l)
     (λ _. omega arith) (λ _. some_digit k (n / 10) (digit_glyph false (n % 10) ∷ acc))
 
--- what begins with a decimal number begins with no byte that is no digit
-pub begins_with-digits : (b : ℕ) (l rest : List ℕ) → 0 < length l → All IsDigit l → (b < 48) ⊎ (57 < b) → begins_with b (l ++ rest) ≡ false
-unfolding begins_with
-begins_with-digits b [] rest some h other = absurd (omega (arith, some))
-begins_with-digits b (c ∷ l) rest some h other =
-    let first = All-head IsDigit c l h in
-    ne_eqb c b (λ e. elim other [ | inl less ↦ absurd (omega (arith, first.0, less, e)) | inr more ↦ absurd (omega (arith, first.1, more, e)) ])
-
-pub begins_with-decimal : (b n : ℕ) (rest : List ℕ) → (b < 48) ⊎ (57 < b) → begins_with b (decimal n ++ rest) ≡ false
+-- a decimal number begins with a digit
+pub quiet-decimal : (b n : ℕ) → (b < 48) ⊎ (57 < b) → IsQuiet b (decimal n)
 unfolding digits
-begins_with-decimal b n rest other = begins_with-digits b (decimal n) rest (some_digit 63 n []) (decimal-digits n) other
+quiet-decimal b n other = quiet-digits b (decimal n) (some_digit 63 n []) (decimal-digits n) other
+
+-- ---- texts with no line that begins with the byte
+
+pub shows-quiet : (b : ℕ) (l : List ℕ) → IsQuiet b l → is_line l ≡ true → Shows b (l ++ 10 ∷ []) []
+shows-quiet b l quiet h = let e = quiet-begins b l quiet in let s = shows-line b l h in rw e at s
+
+pub shows-left : (b : ℕ) (t u : List ℕ) (f : List (List ℕ)) → Shows b t f → Shows b u [] → Shows b (t ++ u) f
+shows-left b t u f st su = let s = shows-append b t u f [] st su in rw (append-nil f) at s
+
+pub shows-right : (b : ℕ) (t u : List ℕ) (f : List (List ℕ)) → Shows b t [] → Shows b u f → Shows b (t ++ u) f
+shows-right b t u f st su = shows-append b t u [] f st su
