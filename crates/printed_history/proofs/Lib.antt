@@ -4,3 +4,4 @@ pub mod Nodes
 pub mod Scenes
 pub mod Pieces
 pub mod Texts
+pub mod Runs
