@@ -5,3 +5,4 @@ pub mod Scenes
 pub mod Pieces
 pub mod Texts
 pub mod Runs
+pub mod Reports

@@ -145,7 +145,8 @@ start-one_line c txs h = record {
 
 -- ---- what a step sends is among the letters
 
-All-in : {A : Type 0} (P : A → Type 0) (xs : List A) → ((x : A) → In x xs → P x) → All P xs
+-- what holds of each element that stands in a list
+pub All-in : {A : Type 0} (P : A → Type 0) (xs : List A) → ((x : A) → In x xs → P x) → All P xs
 All-in P [] h = All-nil P
 All-in P (x ∷ xs) h = All-cons P x xs (h x (here x xs refl)) (All-in P xs (λ y i. h y (there x xs i)))
 
@@ -199,14 +200,15 @@ step-sends w (Install n e) h =
 
 -- ---- runs
 
--- the world at the end, and what the steps send
+-- the transactions and the world at the end, and what the steps send
 pub record OneLineRun (w : World) (steps : List Step) : Type 0 where
+  pub ops : OneLineTxs (run w steps).txs
   pub ended : OneLineScene (scene (run w steps))
   pub sent : All (λ e. All OneLinePacket e.sent) (events w steps)
 
 run-one_line : (c : Config) (txs : List TxDecl) (steps : List Step) (w : World) → w.config ≡ c → w.txs ≡ txs → IsReached w → OneLineTxs txs → OneLineScene (scene w) → All (StepFits c txs) steps → OneLineRun w steps
 unfolding run events
-run-one_line c txs [] w config same r ops k fits = record { ended = k; sent = All-nil _ }
+run-one_line c txs [] w config same r ops k fits = record { ops = subst OneLineTxs (sym same) ops; ended = k; sent = All-nil _ }
 run-one_line c txs (s ∷ ss) w config same r ops k fits =
     let first : StepFits c txs s = All-head (StepFits c txs) s ss fits in
     let moved : IsStep w (stepped w s) = step_is_moves w s txs r.usual (rw config first) in
@@ -214,7 +216,7 @@ run-one_line c txs (s ∷ ss) w config same r ops k fits =
     let kept : (stepped w s).txs ≡ w.txs = moves_txs (story w) (story (stepped w s)) moves in
     let next : OneLineScene (scene (stepped w s)) = story_moves-one_line (story w) (story (stepped w s)) moves (subst OneLineTxs (sym same) ops) k in
     let rest = run-one_line c txs ss (stepped w s) (moved.config ∙ config) (kept ∙ same) (step-reached c txs w s config same r first) ops next (All-tail (StepFits c txs) s ss fits) in
-    record { ended = rest.ended; sent = All-cons (λ (e : Event). All OneLinePacket e.sent) (happens w s) (events (stepped w s) ss) (step-sends w s next) rest.sent }
+    record { ops = rest.ops; ended = rest.ended; sent = All-cons (λ (e : Event). All OneLinePacket e.sent) (happens w s) (events (stepped w s) ss) (step-sends w s next) rest.sent }
 
 pub script-one_line : (s : Script) → FitsScript s → OneLineRun (start s.config s.txs) s.steps
 script-one_line s fits =
