@@ -6,3 +6,4 @@ pub mod Pieces
 pub mod Texts
 pub mod Runs
 pub mod Reports
+pub mod Reading

@@ -3,32 +3,46 @@ use Rattle.std.proofs.Common.{ℕ, zero, suc, ◌≡◌, ◌≢◌, ◌<◌, ◌
 use Rattle.std.specs.Prelude.{◌==◌, ◌&&◌, nat_lt, decimal, if◌then◌else◌, All, ◌⊎◌}
 use Rattle.std.specs.List.{filter}
 use Rattle.std.specs.Fmt.{digits, digits_onto, digit_glyph}
-use Rattle.std.proofs.lemmas.Bool.{cond_both, ne_eqb, ltb-true, ltb-false}
+use Rattle.std.proofs.lemmas.Bool.{cond_both, eq-eqb, ne_eqb, ltb-true, ltb-false}
 use Rattle.std.proofs.lemmas.List.{append-nil}
 use Rattle.std.proofs.lemmas.List.Elements.{All-nil, All-cons, All-head, All-tail}
 use Rattle.printed_history.specs.Lines.{cut, with_byte, begins_with, lines_with}
 
--- whether byte 10 is none of the bytes
-unfoldable pub is_line : List ℕ → Bool
-is_line [] = true
-is_line (b ∷ bs) = if b == 10 then false else is_line bs
+-- whether the byte is none of these
+unfoldable pub lacks : ℕ → List ℕ → Bool
+lacks d [] = true
+lacks d (b ∷ bs) = if b == d then false else lacks d bs
 
-pub is_line-append : (a b : List ℕ) → is_line a ≡ true → is_line b ≡ true → is_line (a ++ b) ≡ true
-unfolding is_line
-is_line-append [] b h g = g
-is_line-append (c ∷ a) b h g = head_line (c == 10) (is_line a) (is_line (a ++ b)) h (λ k. is_line-append a b k g)
+-- whether bytes can stand within a line
+abbrev pub is_line : List ℕ → Bool
+is_line l = lacks 10 l
+
+pub lacks-append : (d : ℕ) (a b : List ℕ) → lacks d a ≡ true → lacks d b ≡ true → lacks d (a ++ b) ≡ true
+unfolding lacks
+lacks-append d [] b h g = g
+lacks-append d (c ∷ a) b h g = head_line (c == d) (lacks d a) (lacks d (a ++ b)) h (λ k. lacks-append d a b k g)
   where
     head_line : (t u v : Bool) → (if t then false else u) ≡ true → (u ≡ true → v ≡ true) → (if t then false else v) ≡ true
     head_line true u v p f = p
     head_line false u v p f = f p
 
--- the whole first line of a text
-pub cut-line : (l rest : List ℕ) → is_line l ≡ true → cut 10 (l ++ 10 ∷ rest) ≡ l ∷ cut 10 rest
-unfolding is_line cut with_byte
-cut-line [] rest h = refl
-cut-line (b ∷ l) rest h = at (b == 10) (cut 10 (l ++ 10 ∷ rest)) h (λ k. cut-line l rest k)
+-- the first part of a text, up to the separator
+pub cut-front : (d : ℕ) (l rest : List ℕ) → lacks d l ≡ true → cut d (l ++ d ∷ rest) ≡ l ∷ cut d rest
+unfolding lacks cut with_byte
+cut-front d [] rest h = rw (eq-eqb d d refl) refl
+cut-front d (b ∷ l) rest h = at (b == d) (cut d (l ++ d ∷ rest)) h (λ k. cut-front d l rest k)
   where
-    at : (t : Bool) (parts : List (List ℕ)) → (if t then false else is_line l) ≡ true → (is_line l ≡ true → parts ≡ l ∷ cut 10 rest) → (if t then [] ∷ parts else with_byte b parts) ≡ (b ∷ l) ∷ cut 10 rest
+    at : (t : Bool) (parts : List (List ℕ)) → (if t then false else lacks d l) ≡ true → (lacks d l ≡ true → parts ≡ l ∷ cut d rest) → (if t then [] ∷ parts else with_byte b parts) ≡ (b ∷ l) ∷ cut d rest
+    at true parts p f = absurd cc
+    at false parts p f = rw (f p) refl
+
+-- a text without the separator
+pub cut-whole : (d : ℕ) (l : List ℕ) → lacks d l ≡ true → cut d l ≡ l ∷ []
+unfolding lacks cut with_byte
+cut-whole d [] h = refl
+cut-whole d (b ∷ l) h = at (b == d) (cut d l) h (λ k. cut-whole d l k)
+  where
+    at : (t : Bool) (parts : List (List ℕ)) → (if t then false else lacks d l) ≡ true → (lacks d l ≡ true → parts ≡ l ∷ []) → (if t then [] ∷ parts else with_byte b parts) ≡ (b ∷ l) ∷ []
     at true parts p f = absurd cc
     at false parts p f = rw (f p) refl
 
@@ -57,7 +71,7 @@ filter-one false l ls = refl
 pub shows-line : (b : ℕ) (l : List ℕ) → is_line l ≡ true → Shows b (l ++ 10 ∷ []) (one_line b l)
 shows-line b l h = record {
   before = λ rest.
-      ap (lines_with b) (append_assoc l (10 ∷ []) rest) ∙ ap (λ ls. filter (begins_with b) ls) (cut-line l rest h) ∙ filter-one (begins_with b l) l (lines_with b rest);
+      ap (lines_with b) (append_assoc l (10 ∷ []) rest) ∙ ap (λ ls. filter (begins_with b) ls) (cut-front 10 l rest h) ∙ filter-one (begins_with b l) l (lines_with b rest);
 }
 
 -- the lines of the whole text
@@ -80,8 +94,8 @@ AreLines p [] = is_line p ≡ true
 AreLines p (q ∷ qs) = (is_line p ≡ true) × AreLines q qs
 
 further : (p q : List ℕ) (qs : List (List ℕ)) → is_line p ≡ true → AreLines q qs → AreLines (p ++ q) qs
-further p q [] h g = is_line-append p q h g
-further p q (r ∷ rs) h g = (is_line-append p q h g.0, g.1)
+further p q [] h g = lacks-append 10 p q h g
+further p q (r ∷ rs) h g = (lacks-append 10 p q h g.0, g.1)
 
 -- so do the pieces together
 pub is_line-together : (p : List ℕ) (qs : List (List ℕ)) → AreLines p qs → is_line (together p qs) ≡ true
@@ -112,17 +126,20 @@ pub decimal-digits : (n : ℕ) → All IsDigit (decimal n)
 unfolding digits
 decimal-digits n = all_digits 64 n [] (All-nil IsDigit)
 
--- a decimal number has no byte 10
-pub digits-is_line : (l : List ℕ) → All IsDigit l → is_line l ≡ true
-unfolding is_line
-digits-is_line [] h = refl
-digits-is_line (b ∷ l) h =
+pub lacks-digits : (d : ℕ) (l : List ℕ) → All IsDigit l → (d < 48) ⊎ (57 < d) → lacks d l ≡ true
+unfolding lacks
+lacks-digits d [] h other = refl
+lacks-digits d (b ∷ l) h other =
     let first = All-head IsDigit b l h in
-    let other : b ≢ 10 = λ e. absurd (omega (arith, first.0, e)) in
-    rw (ne_eqb b 10 other) (digits-is_line l (All-tail IsDigit b l h))
+    rw (ne_eqb b d (λ e. elim other [ | inl less ↦ absurd (omega (arith, first.0, less, e)) | inr more ↦ absurd (omega (arith, first.1, more, e)) ]))
+    (lacks-digits d l (All-tail IsDigit b l h) other)
+
+-- a decimal number has no byte but digits
+pub lacks-decimal : (d n : ℕ) → (d < 48) ⊎ (57 < d) → lacks d (decimal n) ≡ true
+lacks-decimal d n other = lacks-digits d (decimal n) (decimal-digits n) other
 
 pub decimal-is_line : (n : ℕ) → is_line (decimal n) ≡ true
-decimal-is_line n = digits-is_line (decimal n) (decimal-digits n)
+decimal-is_line n = lacks-decimal 10 n (inl (omega arith))
 
 -- the line is not empty, and begins with another byte
 unfoldable pub IsQuiet : ℕ → List ℕ → Type 0

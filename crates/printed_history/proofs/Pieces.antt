@@ -46,7 +46,7 @@ use Rattle.zeus_model.specs.ReportText.{points_text}
 use Rattle.zeus_model.specs.ReportWords.{number, named_object, stream_text, stamp_text, more_nodes_text, nodes_text, optional_node, state_text, cause_text, values_text, outcome_text, reply_text, begin_text, tried_text, received_text, ticked_text, stopped_text, made_text, installed_text, answer_text, writes_text, want_text, place_text, proposal_text, content_text, body_text, tx_state_text}
 use Rattle.zeus_model.specs.Spelling.{word, spaced, words_text, step_words, value_text, name_of}
 use Rattle.zeus_model.specs.Tables.{nth}
-use Rattle.printed_history.proofs.Lines.{is_line, is_line-append, is_line-together, decimal-is_line}
+use Rattle.printed_history.proofs.Lines.{lacks, is_line, lacks-append, is_line-together, decimal-is_line}
 use Rattle.printed_history.proofs.Values.{IsOneLine, OneLineReply}
 use Rattle.printed_history.proofs.Nodes.{OneLineWrite, OneLineWrites, OneLineContent, nth-one_line}
 use Rattle.printed_history.proofs.Scenes.{OneLineBody}
@@ -57,7 +57,7 @@ abbrev pub OneLineName : List ℕ → Type 0
 OneLineName name = is_line name ≡ true
 
 name_bytes : (bytes : List ℕ) → All IsNameByte bytes → is_line bytes ≡ true
-unfolding is_line
+unfolding lacks
 name_bytes [] h = refl
 name_bytes (b ∷ bs) h =
     let first = All-head IsNameByte b bs h in
@@ -76,7 +76,7 @@ names-one_line (n ∷ ns) h = All-cons OneLineName n ns (let first = All-head Is
 
 -- a word of a line
 pub word-is_line : (w : List ℕ) → is_line w ≡ true → is_line (word w) ≡ true
-unfolding is_line
+unfolding lacks
 word-is_line w h = h
 
 pub number-is_line : (n : ℕ) → is_line (number n) ≡ true
@@ -84,12 +84,12 @@ number-is_line n = word-is_line (decimal n) (decimal-is_line n)
 
 -- the name of an object
 pub named-is_line : (names : List (List ℕ)) (x : ℕ) → All OneLineName names → is_line (named_object names x) ≡ true
-unfolding is_line
+unfolding lacks
 named-is_line names x h = nth-one_line OneLineName [] names x refl h
 
 dotted : (m n : ℕ) → is_line (decimal m ++ codes "." ++ decimal n) ≡ true
-unfolding is_line
-dotted m n = is_line-append (decimal m ++ codes ".") (decimal n) (is_line-append (decimal m) (codes ".") (decimal-is_line m) refl) (decimal-is_line n)
+unfolding lacks
+dotted m n = lacks-append 10 (decimal m ++ codes ".") (decimal n) (lacks-append 10 (decimal m) (codes ".") (decimal-is_line m) refl) (decimal-is_line n)
 
 pub stamp-is_line : (s : Stamp) → is_line (stamp_text s) ≡ true
 stamp-is_line s = dotted s.ver s.driver
@@ -98,28 +98,28 @@ pub stream-is_line : (s : Stream) → is_line (stream_text s) ≡ true
 stream-is_line s = dotted s.node s.slot
 
 more_nodes-is_line : (ns : List ℕ) → is_line (more_nodes_text ns) ≡ true
-unfolding is_line more_nodes_text
+unfolding lacks more_nodes_text
 more_nodes-is_line [] = refl
-more_nodes-is_line (n ∷ ns) = is_line-append (decimal n) (more_nodes_text ns) (decimal-is_line n) (more_nodes-is_line ns)
+more_nodes-is_line (n ∷ ns) = lacks-append 10 (decimal n) (more_nodes_text ns) (decimal-is_line n) (more_nodes-is_line ns)
 
 pub nodes-is_line : (ns : List ℕ) → is_line (nodes_text ns) ≡ true
-unfolding is_line nodes_text
+unfolding lacks nodes_text
 nodes-is_line [] = refl
-nodes-is_line (n ∷ ns) = is_line-append (decimal n) (more_nodes_text ns) (decimal-is_line n) (more_nodes-is_line ns)
+nodes-is_line (n ∷ ns) = lacks-append 10 (decimal n) (more_nodes_text ns) (decimal-is_line n) (more_nodes-is_line ns)
 
 pub optional_node-is_line : (o : Option ℕ) → is_line (optional_node o) ≡ true
-unfolding is_line optional_node
+unfolding lacks optional_node
 optional_node-is_line None = refl
 optional_node-is_line (Some n) = decimal-is_line n
 
 pub state-is_line : (s : State) → is_line (state_text s) ≡ true
-unfolding is_line state_text
+unfolding lacks state_text
 state-is_line Valid = refl
 state-is_line Invalid = refl
 state-is_line Write = refl
 
 cause-is_line : (c : Cause) → is_line (cause_text c) ≡ true
-unfolding is_line cause_text
+unfolding lacks cause_text
 cause-is_line OwnStream = refl
 cause-is_line Window = refl
 cause-is_line NotDirectory = refl
@@ -142,28 +142,28 @@ cause-is_line OwnPlace = refl
 -- ---- replies
 
 values-is_line : (vs : List Value) → All IsOneLine vs → is_line (values_text vs) ≡ true
-unfolding values_text is_line
+unfolding values_text lacks
 values-is_line [] h = refl
-values-is_line (v ∷ vs) h = is_line-append (word (value_text v)) (values_text vs) (All-head IsOneLine v vs h).text (values-is_line vs (All-tail IsOneLine v vs h))
+values-is_line (v ∷ vs) h = lacks-append 10 (word (value_text v)) (values_text vs) (All-head IsOneLine v vs h).text (values-is_line vs (All-tail IsOneLine v vs h))
 
 outcome-is_line : (o : Option ℕ) → is_line (outcome_text o) ≡ true
-unfolding outcome_text is_line
+unfolding outcome_text lacks
 outcome-is_line None = refl
 outcome-is_line (Some place) = decimal-is_line place
 
 pub reply-is_line : (r : Reply) → OneLineReply r → is_line (reply_text r) ≡ true
-reply-is_line r h = is_line-append (outcome_text r.failed) (values_text r.values) (outcome-is_line r.failed) (values-is_line r.values h)
+reply-is_line r h = lacks-append 10 (outcome_text r.failed) (values_text r.values) (outcome-is_line r.failed) (values-is_line r.values h)
 
 -- ---- answers
 
 begin-is_line : (a : BeginOutcome) → is_line (begin_text a) ≡ true
-unfolding is_line begin_text
+unfolding lacks begin_text
 begin-is_line Begun = refl
 begin-is_line BeginStopped = refl
 begin-is_line (Busy k) = decimal-is_line k
 
 tried-is_line : (names : List (List ℕ)) (a : Tried) → All OneLineName names → is_line (tried_text names a) ≡ true
-unfolding is_line tried_text
+unfolding lacks tried_text
 tried-is_line names TryStopped h = refl
 tried-is_line names Nothing h = refl
 tried-is_line names (NoCopyToRead k x) h = named-is_line names x h
@@ -176,7 +176,7 @@ tried-is_line names TryWornOut h = refl
 tried-is_line names (Committed k n reply) h = decimal-is_line n
 
 received-is_line : (a : Outcome) → is_line (received_text a) ≡ true
-unfolding is_line received_text
+unfolding lacks received_text
 received-is_line Stopped = refl
 received-is_line (NotMine n) = decimal-is_line n
 received-is_line (OtherEpoch theirs mine) = is_line-together (codes "other epoch") (number theirs ∷ number mine ∷ []) (refl, (decimal-is_line theirs, decimal-is_line mine))
@@ -189,30 +189,30 @@ received-is_line (Settled stamp) = stamp-is_line stamp
 received-is_line (Refused cause) = cause-is_line cause
 
 ticked-is_line : (a : Ticked) → is_line (ticked_text a) ≡ true
-unfolding is_line ticked_text
+unfolding lacks ticked_text
 ticked-is_line TickDone = refl
 ticked-is_line TickStopped = refl
 
 stopped-is_line : (a : StopOutcome) → is_line (stopped_text a) ≡ true
-unfolding is_line stopped_text
+unfolding lacks stopped_text
 stopped-is_line Done = refl
 stopped-is_line StopStopped = refl
 
 made-is_line : (a : Made) → is_line (made_text a) ≡ true
-unfolding is_line made_text
+unfolding lacks made_text
 made-is_line (ViewInstalled e) = decimal-is_line e
 made-is_line Empty = refl
 made-is_line (NotMember n) = decimal-is_line n
 made-is_line (NotStopped n) = decimal-is_line n
 
 installed-is_line : (a : InstallOutcome) → is_line (installed_text a) ≡ true
-unfolding is_line installed_text
+unfolding lacks installed_text
 installed-is_line Installed = refl
 installed-is_line InstallStopped = refl
 installed-is_line (Old e) = decimal-is_line e
 
 pub answer-is_line : (names : List (List ℕ)) (a : Answer) → All OneLineName names → is_line (answer_text names a) ≡ true
-unfolding is_line answer_text
+unfolding lacks answer_text
 answer-is_line names (BeginAnswer a) h = begin-is_line a
 answer-is_line names Twice h = refl
 answer-is_line names (Waits k) h = decimal-is_line k
@@ -228,35 +228,35 @@ answer-is_line names (InstallAnswer a) h = installed-is_line a
 -- ---- letters
 
 writes-is_line : (names : List (List ℕ)) (ws : List WriteOf) → All OneLineName names → OneLineWrites ws → is_line (writes_text names ws) ≡ true
-unfolding is_line writes_text
+unfolding lacks writes_text
 writes-is_line names [] h g = refl
 writes-is_line names (w ∷ ws) h g =
     is_line-together (named_object names w.obj) (number w.ver ∷ word (value_text w.value) ∷ writes_text names ws ∷ [])
     (named-is_line names w.obj h, (decimal-is_line w.ver, ((All-head OneLineWrite w ws g).text, writes-is_line names ws h (All-tail OneLineWrite w ws g))))
 
 want-is_line : (w : Want) → is_line (want_text w) ≡ true
-unfolding is_line want_text
+unfolding lacks want_text
 want-is_line Own = refl
 want-is_line Read = refl
 want-is_line Leave = refl
 
 place-is_line : (p : Place) → is_line (place_text p) ≡ true
-unfolding is_line
-place-is_line p = is_line-append (number p.owner) (word (nodes_text p.replicas)) (decimal-is_line p.owner) (nodes-is_line p.replicas)
+unfolding lacks
+place-is_line p = lacks-append 10 (number p.owner) (word (nodes_text p.replicas)) (decimal-is_line p.owner) (nodes-is_line p.replicas)
 
 proposal-is_line : (p : Proposal) → is_line (proposal_text p) ≡ true
-unfolding is_line
+unfolding lacks
 proposal-is_line p =
     is_line-together (word (stamp_text p.stamp)) (number p.requester ∷ word (stamp_text p.base) ∷ place_text p.base_place ∷ [])
     (stamp-is_line p.stamp, (decimal-is_line p.requester, (stamp-is_line p.base, place-is_line p.base_place)))
 
 content-is_line : (c : Option Content) → OneLineContent c → is_line (content_text c) ≡ true
-unfolding is_line content_text OneLineContent
+unfolding lacks content_text OneLineContent
 content-is_line None h = refl
-content-is_line (Some c) h = is_line-append (number c.ver) (word (value_text c.value)) (decimal-is_line c.ver) h.text
+content-is_line (Some c) h = lacks-append 10 (number c.ver) (word (value_text c.value)) (decimal-is_line c.ver) h.text
 
 pub body-is_line : (names : List (List ℕ)) (b : Body) → All OneLineName names → OneLineBody b → is_line (body_text names b) ≡ true
-unfolding is_line body_text OneLineBody
+unfolding lacks body_text OneLineBody
 body-is_line names (RInv r) h g =
     is_line-together (codes "rinv") (word (stream_text r.stream) ∷ number r.number ∷ number r.done ∷ word (nodes_text r.followers) ∷ writes_text names r.writes ∷ [])
     (refl, (stream-is_line r.stream, (decimal-is_line r.number, (decimal-is_line r.done, (nodes-is_line r.followers, writes-is_line names r.writes h g)))))
@@ -277,17 +277,17 @@ body-is_line names Recovered h g = refl
 -- ---- steps and states
 
 spaced-is_line : (ns : List ℕ) → is_line (spaced (map decimal ns)) ≡ true
-unfolding is_line spaced
+unfolding lacks spaced
 spaced-is_line [] = refl
-spaced-is_line (n ∷ ns) = is_line-append (word (decimal n)) (spaced (map decimal ns)) (decimal-is_line n) (spaced-is_line ns)
+spaced-is_line (n ∷ ns) = lacks-append 10 (word (decimal n)) (spaced (map decimal ns)) (decimal-is_line n) (spaced-is_line ns)
 
 -- a keyword and numbers
 keyword-is_line : (w : List ℕ) (ns : List ℕ) → is_line w ≡ true → is_line (words_text (w ∷ map decimal ns)) ≡ true
 unfolding words_text
-keyword-is_line w ns h = is_line-append w (spaced (map decimal ns)) h (spaced-is_line ns)
+keyword-is_line w ns h = lacks-append 10 w (spaced (map decimal ns)) h (spaced-is_line ns)
 
 pub step-is_line : (s : Step) → is_line (words_text (step_words s)) ≡ true
-unfolding step_words is_line
+unfolding step_words lacks
 step-is_line (Begin k) = keyword-is_line (codes "begin") (k ∷ []) refl
 step-is_line (Try n s) = keyword-is_line (codes "try") (n ∷ s ∷ []) refl
 step-is_line (Deliver sender receiver i) = keyword-is_line (codes "deliver") (sender ∷ receiver ∷ i ∷ []) refl
@@ -297,7 +297,7 @@ step-is_line (View nodes) = keyword-is_line (codes "view") nodes refl
 step-is_line (Install n e) = keyword-is_line (codes "install") (n ∷ e ∷ []) refl
 
 pub tx_state-is_line : (s : TxState) → is_line (tx_state_text s) ≡ true
-unfolding is_line tx_state_text
+unfolding lacks tx_state_text
 tx_state-is_line New = refl
 tx_state-is_line Current = refl
 tx_state-is_line Pending = refl
@@ -306,6 +306,6 @@ tx_state-is_line Acked = refl
 tx_state-is_line TxRefused = refl
 
 pub points-is_line : (ps : List Point) → is_line (points_text ps) ≡ true
-unfolding is_line points_text
+unfolding lacks points_text
 points-is_line [] = refl
-points-is_line (p ∷ ps) = is_line-append (number p.id) (points_text ps) (decimal-is_line p.id) (points-is_line ps)
+points-is_line (p ∷ ps) = lacks-append 10 (number p.id) (points_text ps) (decimal-is_line p.id) (points-is_line ps)

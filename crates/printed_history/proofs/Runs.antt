@@ -39,7 +39,7 @@ use Rattle.data_safety.proofs.RowsRuns.{moves_txs, start-txs}
 use Rattle.data_safety.proofs.RowsSteps.{step_is_story_moves}
 use Rattle.soundness.proofs.Fitting.{fits-steps}
 use Rattle.soundness.proofs.Runs.{IsReached, start-reached, step-reached}
-use Rattle.printed_history.proofs.Lines.{is_line}
+use Rattle.printed_history.proofs.Lines.{lacks, is_line}
 use Rattle.printed_history.proofs.Nodes.{OneLineCopy, OneLineGather, OneLineCurrent, OneLineSlot, OneLineLog, OneLineNode, nth-one_line}
 use Rattle.printed_history.proofs.Scenes.{OneLineBody, OneLineScene, OneLineTxs, story_moves-one_line}
 use Rattle.printed_history.proofs.Texts.{OneLinePacket}
@@ -48,7 +48,7 @@ use Rattle.printed_history.proofs.Values.{IsOneLine, OneLineOp, one_line-num}
 -- ---- a script's own texts
 
 text_bytes : (bytes : List ℕ) → All (λ b. (33 ≤ b) × (b ≤ 126)) bytes → is_line bytes ≡ true
-unfolding is_line
+unfolding lacks
 text_bytes [] h = refl
 text_bytes (b ∷ bs) h =
     let first = All-head (λ (c : ℕ). (33 ≤ c) × (c ≤ 126)) b bs h in
@@ -56,7 +56,7 @@ text_bytes (b ∷ bs) h =
     rw (ne_eqb b 10 other) (text_bytes bs (All-tail (λ (c : ℕ). (33 ≤ c) × (c ≤ 126)) b bs h))
 
 pub value-one_line : (version : ℕ) (v : Value) → FitsValue version v → IsOneLine v
-unfolding FitsValue value_text is_line
+unfolding FitsValue value_text lacks
 value-one_line version (Num n) h = one_line-num n
 value-one_line version (Text bytes) h = record { text = text_bytes bytes h.1.2 }
 

@@ -19,7 +19,7 @@ use Rattle.zeus_model.specs.Tables.{below}
 use Rattle.zeus_model.specs.World.{World, Event, node, events, happens, stepped, run}
 use Rattle.printed_history.specs.Lines.{begins_with}
 use Rattle.printed_history.specs.Printed.{printed_point, printed_ack, printed_history}
-use Rattle.printed_history.proofs.Lines.{is_line, is_line-together, decimal-is_line, IsQuiet, quiet-append, quiet-decimal, Shows, shows-none, shows-append, shows-line, shows-quiet, shows-left, shows-right}
+use Rattle.printed_history.proofs.Lines.{lacks, is_line, is_line-together, decimal-is_line, IsQuiet, quiet-append, quiet-decimal, Shows, shows-none, shows-append, shows-line, shows-quiet, shows-left, shows-right}
 use Rattle.printed_history.proofs.Nodes.{OneLineCopy, OneLineNode}
 use Rattle.printed_history.proofs.Pieces.{OneLineName, named-is_line, nodes-is_line, optional_node-is_line, state-is_line, reply-is_line, answer-is_line, body-is_line, step-is_line, tx_state-is_line, points-is_line}
 use Rattle.printed_history.proofs.Scenes.{OneLineBody}
@@ -35,7 +35,7 @@ abbrev pub OneLinePoint : Book → ℕ → Type 0
 OneLinePoint b k = OneLineReply (reply_or (record_of b k).reply)
 
 point-is_line : (b : Book) (k : ℕ) → OneLinePoint b k → is_line (printed_point (point_now b k)) ≡ true
-unfolding is_line
+unfolding lacks
 point-is_line b k h = is_line-together (codes "*") (number k ∷ word (reply_text (reply_or (record_of b k).reply)) ∷ []) (refl, (decimal-is_line k, reply-is_line (reply_or (record_of b k).reply) h))
 
 pub points-found : (b : Book) (ks : List ℕ) → All (OneLinePoint b) ks → Shows 42 (point_lines b ks) (map (λ k. printed_point (point_now b k)) ks)
@@ -55,7 +55,7 @@ points-passed byte b (k ∷ ks) other h =
     (points-passed byte b ks other (All-tail (OneLinePoint b) k ks h))
 
 ack-is_line : (k : ℕ) → is_line (printed_ack k) ≡ true
-unfolding is_line
+unfolding lacks
 ack-is_line k = decimal-is_line k
 
 pub acks-found : (ks : List ℕ) → Shows 33 (acked_lines ks) (map printed_ack ks)
@@ -78,7 +78,7 @@ abbrev printed_packet : List (List ℕ) → Packet → List ℕ
 printed_packet names p = codes ">" ++ number p.letter.from ++ number p.letter.to ++ number p.number ++ number p.letter.epoch ++ word (body_text names p.letter.body)
 
 packet-is_line : (names : List (List ℕ)) (p : Packet) → All OneLineName names → OneLinePacket p → is_line (printed_packet names p) ≡ true
-unfolding is_line
+unfolding lacks
 packet-is_line names p named h =
     is_line-together (codes ">") (number p.letter.from ∷ number p.letter.to ∷ number p.number ∷ number p.letter.epoch ∷ word (body_text names p.letter.body) ∷ [])
     (refl, (decimal-is_line p.letter.from, (decimal-is_line p.letter.to, (decimal-is_line p.number, (decimal-is_line p.letter.epoch, body-is_line names p.letter.body named h)))))
@@ -96,7 +96,7 @@ abbrev printed_answer : List (List ℕ) → ℕ → Step → Event → List ℕ
 printed_answer names i s e = decimal i ++ word (step_text s) ++ codes " = " ++ answer_text names e.answer
 
 pub answer-passed : (byte : ℕ) (names : List (List ℕ)) (i : ℕ) (s : Step) (e : Event) → (byte < 48) ⊎ (57 < byte) → All OneLineName names → Shows byte (answer_line names i s e) []
-unfolding is_line
+unfolding lacks
 answer-passed byte names i s e other named =
     shows-quiet byte (printed_answer names i s e)
     (quiet-append byte (decimal i ++ word (step_text s) ++ codes " = ") (answer_text names e.answer)
@@ -152,7 +152,7 @@ steps-show byte names f each w i (s ∷ ss) h =
 -- ---- how the world stands at the end
 
 history-is_line : (ps : List Point) → is_line (printed_history ps) ≡ true
-unfolding is_line
+unfolding lacks
 history-is_line ps = points-is_line ps
 
 pub history-found : (b : Book) → Shows 104 (history_line b) (printed_history b.points ∷ [])
@@ -172,7 +172,7 @@ pub record IsBelow (byte : ℕ) : Type 0 where
   pub finish : (101 == byte) ≡ false
 
 tx_states-passed : (byte : ℕ) (w : World) (ks : List ℕ) → IsBelow byte → Shows byte (tx_state_lines w ks) []
-unfolding tx_state_lines IsQuiet is_line
+unfolding tx_state_lines IsQuiet lacks
 tx_states-passed byte w [] other = shows-none byte
 tx_states-passed byte w (k ∷ ks) other =
     shows-right byte (codes "tx" ++ number k ++ word (tx_state_text (tx_state w k)) ++ 10 ∷ []) (tx_state_lines w ks) []
@@ -181,7 +181,7 @@ tx_states-passed byte w (k ∷ ks) other =
     (tx_states-passed byte w ks other)
 
 copy-passed : (byte : ℕ) (names : List (List ℕ)) (x n : ℕ) (c : Option Copy) → IsBelow byte → All OneLineName names → OneLineCopy c → Shows byte (copy_line names x n c) []
-unfolding copy_line IsQuiet is_line OneLineCopy
+unfolding copy_line IsQuiet lacks OneLineCopy
 copy-passed byte names x n None other named h = shows-none byte
 copy-passed byte names x n (Some c) other named h =
     shows-quiet byte (codes "copy" ++ named_object names x ++ number n ++ word (state_text c.state) ++ number c.ver ++ word (value_text c.value)) other.copy
@@ -200,14 +200,14 @@ copies-passed byte names w x (n ∷ ns) other named h =
     (copy-passed byte names x n (copy (node w n) x) other named ((h n).copies x)) (copies-passed byte names w x ns other named h)
 
 holders-passed : (byte : ℕ) (names : List (List ℕ)) (w : World) (x : ℕ) → IsBelow byte → All OneLineName names → OneLineNodes w → Shows byte (holders_text names w x) []
-unfolding holders_text IsQuiet is_line
+unfolding holders_text IsQuiet lacks
 holders-passed byte names w x other named h =
     cond_both (is_lost w x) (codes "lost" ++ named_object names x ++ 10 ∷ []) (copy_lines names w x (live_among w (latest_place w x).replicas)) (λ t. Shows byte t [])
     (λ _. shows-quiet byte (codes "lost" ++ named_object names x) other.lost (named-is_line names x named))
     (λ _. copies-passed byte names w x (live_among w (latest_place w x).replicas) other named h)
 
 object-passed : (byte : ℕ) (names : List (List ℕ)) (w : World) (x : ℕ) → IsBelow byte → All OneLineName names → OneLineNodes w → Shows byte (object_text names w x) []
-unfolding IsQuiet is_line
+unfolding IsQuiet lacks
 object-passed byte names w x other named h =
     shows-right byte (codes "object" ++ named_object names x ++ optional_node (owner w x) ++ word (nodes_text (latest_place w x).replicas) ++ 10 ∷ []) (holders_text names w x) []
     (shows-quiet byte (codes "object" ++ named_object names x ++ optional_node (owner w x) ++ word (nodes_text (latest_place w x).replicas)) other.object
@@ -223,7 +223,7 @@ objects-passed byte names w (x ∷ xs) other named h =
 
 -- the end of a report, by its line of the history
 pub final-shows : (byte : ℕ) (names : List (List ℕ)) (w : World) (found : List (List ℕ)) → IsBelow byte → All OneLineName names → OneLineNodes w → Shows byte (history_line w.book) found → Shows byte (final_text names w) found
-unfolding IsQuiet is_line
+unfolding IsQuiet lacks
 final-shows byte names w found other named h shown =
     let line = history_line w.book in
     let txs = tx_state_lines w (below (length w.txs)) in
@@ -238,7 +238,7 @@ final-shows byte names w found other named h shown =
 -- a report shows what its steps and its end show
 pub report-shows : (byte : ℕ) (s : Script) (steps ended : List (List ℕ)) → (114 == byte) ≡ false → Shows byte (steps_text s.names (start_of s) 0 s.steps) steps
     → Shows byte (final_text s.names (run (start_of s) s.steps)) ended → Shows byte (report s) (steps ++ ended)
-unfolding report IsQuiet is_line
+unfolding report IsQuiet lacks
 report-shows byte s steps ended other shown standing =
     shows-append byte (report_head s.config.version ++ steps_text s.names (start_of s) 0 s.steps) (final_text s.names (run (start_of s) s.steps)) steps ended
     (shows-right byte (report_head s.config.version) (steps_text s.names (start_of s) 0 s.steps) steps

@@ -20,7 +20,7 @@ use Rattle.zeus_model.specs.Serial.{content, start_map, written_map, run_at, app
 use Rattle.zeus_model.specs.Spelling.{value_text}
 use Rattle.zeus_model.specs.Tables.{nth, put}
 use Rattle.machine_moves.proofs.Lists.{nth-put_same, nth-put_other}
-use Rattle.printed_history.proofs.Lines.{is_line, decimal-is_line}
+use Rattle.printed_history.proofs.Lines.{lacks, is_line, decimal-is_line}
 
 -- the text of the value lacks byte 10
 pub record IsOneLine (v : Value) : Type 0 where

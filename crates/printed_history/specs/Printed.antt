@@ -1,10 +1,11 @@
 -- What the lines of a report say of the history of its run.
-use Rattle.std.specs.Prelude.{ℕ, ◌≡◌, ◌≤◌, true, List, [], ◌∷◌, ◌++◌, map, codes, Some, is_some, ◌↔◌}
+use Rattle.std.specs.Prelude.{ℕ, ◌≡◌, ◌<◌, ◌≤◌, ◌^◌, All, IfSome, true, List, [], ◌∷◌, ◌++◌, map, codes, Some, is_some, ◌↔◌}
 use Rattle.zeus_model.specs.declared.script.Script.{Script}
 use Rattle.zeus_model.specs.Book.{Point, record_of}
 use Rattle.zeus_model.specs.In.{In}
 use Rattle.zeus_model.specs.ReportText.{points_text, start_of}
 use Rattle.zeus_model.specs.ReportWords.{number, reply_text}
+use Rattle.zeus_model.specs.Scripts.{FitsValue}
 use Rattle.zeus_model.specs.Spelling.{word}
 use Rattle.zeus_model.specs.World.{World, events, run}
 use Rattle.soundness.specs.Telling.{Answers, how_often, told_acks}
@@ -13,6 +14,12 @@ use Rattle.printed_history.specs.Lines.{lines_with}
 -- `* K REPLY`
 abbrev pub printed_point : Point → List ℕ
 printed_point p = codes "*" ++ number p.id ++ word (reply_text p.reply)
+
+-- a point whose numbers are of 64 bits, and whose texts are those of a script
+pub record FitsPoint (p : Point) : Type 0 where
+  pub id : p.id < 2 ^ 64
+  pub place : IfSome p.reply.failed (λ place. place < 2 ^ 64)
+  pub values : All (FitsValue 2) p.reply.values
 
 -- `! K`
 abbrev pub printed_ack : ℕ → List ℕ
