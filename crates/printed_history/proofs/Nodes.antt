@@ -1,5 +1,5 @@
 -- Nodes whose texts stay within a line, and the changes that keep them so.
-use Rattle.std.proofs.Common.{ℕ, zero, suc, ◌≡◌, ◌≢◌, ◌+◌, ◌-◌, List, [], ◌∷◌, ◌++◌, length, take, drop, map, Option, Some, None, refl}
+use Rattle.std.proofs.Common.{ℕ, zero, suc, ◌≡◌, ◌≢◌, ◌+◌, ◌-◌, List, [], ◌∷◌, ◌++◌, length, take, drop, map, Option, Some, None, refl, arith}
 use Rattle.std.specs.Prelude.{◌==◌, nat_lt, All, if◌then◌else◌}
 use Rattle.std.proofs.lemmas.Bool.{cond_both}
 use Rattle.std.proofs.lemmas.List.Elements.{All-nil, All-cons, All-head, All-tail, All-append, All-push, All-take, All-drop, All-map}
@@ -255,7 +255,7 @@ dropped-one_line (g ∷ gs) (suc x) = dropped-one_line gs x
 
 pub value_of-one_line : (c : Option Copy) → OneLineCopy c → IsOneLine (value_of c)
 unfolding value_of OneLineCopy
-value_of-one_line None h = one_line-num 0
+value_of-one_line None h = one_line-num 0 (omega arith)
 value_of-one_line (Some c) h = h
 
 pub new_writes-one_line : (n : Node) (ws : List (ℕ × Value)) → All OneLinePair ws → OneLineWrites (new_writes n ws)

@@ -1,11 +1,13 @@
 -- A report shows the history of its run.
-use Rattle.std.proofs.Common.{ℕ, zero, suc, ◌≡◌, ◌≤◌, true, false, List, [], ◌∷◌, length, map, Option, Some, None, refl, arith, inl, inr, ap, subst, sym, ◌∙◌}
-use Rattle.std.specs.Prelude.{All, ◌++◌, ◌↔◌, is_some, slice_get}
+use Rattle.std.proofs.Common.{ℕ, zero, suc, ◌≡◌, ◌<◌, ◌≤◌, ◌^◌, Bool, true, false, List, [], ◌∷◌, length, map, Option, Some, None, refl, arith, inl, inr, ap, subst, sym, ◌∙◌}
+use Rattle.std.specs.Prelude.{All, IfSome, ◌++◌, ◌↔◌, ◌==◌, is_some, slice_get, if◌then◌else◌}
+use Rattle.std.proofs.lemmas.Bool.{eq-eqb}
 use Rattle.std.specs.List.{flat_map}
 use Rattle.std.proofs.lemmas.List.{map-append, append-nil}
 use Rattle.std.proofs.lemmas.List.Elements.{All-nil, All-cons, All-head, All-tail, All-weaker}
 use Rattle.zeus_base.specs.declared.config.ObjectDecl.{ObjectDecl}
 use Rattle.zeus_base.specs.declared.step.Step.{Step}
+use Rattle.zeus_base.specs.declared.step.Step.TheVariants.{Begin}
 use Rattle.zeus_txn.specs.declared.ops.Op.{Op}
 use Rattle.zeus_txn.specs.declared.reply.Reply.{Reply}
 use Rattle.zeus_txn.specs.declared.tx.TxDecl.{TxDecl}
@@ -13,9 +15,9 @@ use Rattle.zeus_model.specs.declared.script.Script.{Script}
 use Rattle.zeus_model.specs.Book.{Book, Point, record_of, reply_or}
 use Rattle.zeus_model.specs.In.{In, here, there}
 use Rattle.zeus_model.specs.ReportText.{report, event_text, start_of}
-use Rattle.zeus_model.specs.Scripts.{FitsScript, FitsValue}
+use Rattle.zeus_model.specs.Scripts.{FitsScript, FitsStep, FitsValue}
 use Rattle.zeus_model.specs.Serial.{serial_replies, start_map}
-use Rattle.zeus_model.specs.Sound.{Sound, history_txs, replies_of}
+use Rattle.zeus_model.specs.Sound.{history_txs, replies_of, times}
 use Rattle.zeus_model.specs.World.{World, Event, events, run, start, tx_decl}
 use Rattle.machine_moves.specs.Scene.{scene}
 use Rattle.machine_moves.proofs.Lists.{In-append, In-append_left, In-append_right}
@@ -24,13 +26,14 @@ use Rattle.soundness.specs.Telling.{Answers, Does, IsTold, how_often, ids_of, to
 use Rattle.soundness.proofs.Runs.{run-sound, run-config}
 use Rattle.soundness.proofs.RunsTold.{run-in_order, run-told, run-replies, run-told_replies}
 use Rattle.printed_history.specs.Lines.{lines_with}
-use Rattle.printed_history.specs.Printed.{printed_point, printed_ack, printed_history, end_of, PrintsHistory}
+use Rattle.printed_history.specs.Printed.{printed_point, printed_ack, printed_history, end_of, FitsPoint, PrintsHistory}
 use Rattle.printed_history.proofs.Lines.{Shows, shows-whole}
 use Rattle.printed_history.proofs.Pieces.{OneLineName, names-one_line}
-use Rattle.printed_history.proofs.Runs.{All-in, OneLineRun, script-one_line, value-one_line}
+use Rattle.printed_history.proofs.Runs.{All-in, FewOps, OneLineRun, fit_txs-few, script-one_line, value-one_line}
+use Rattle.printed_history.proofs.Reading.{point-told}
 use Rattle.printed_history.proofs.Scenes.{OneLineTxs}
 use Rattle.printed_history.proofs.Texts.{OneLineEvent, OneLineNodes, OneLinePacket, OneLinePoint, IsBelow, point_now, event-points, event-acks, event-passed, steps-show, final-shows, history-found, history-passed, report-shows}
-use Rattle.printed_history.proofs.Values.{IsOneLine, OneLineOp, OneLineReply, serial_replies-one_line, start_map-one_line}
+use Rattle.printed_history.proofs.Values.{IsOneLine, OneLineOp, OneLineReply, FailsBelow, serial_replies-one_line, serial_replies-places, start_map-one_line}
 
 -- ---- the replies of the history
 
@@ -39,11 +42,27 @@ unfolding history_txs
 history_txs-one_line w [] h = All-nil (All OneLineOp)
 history_txs-one_line w (p ∷ ps) h = All-cons (All OneLineOp) (tx_decl w p.id).tx (history_txs w ps) (h p.id) (history_txs-one_line w ps h)
 
-point-in : (ps : List Point) (p : Point) → All OneLineReply (replies_of ps) → In p ps → OneLineReply p.reply
+history_txs-few : (w : World) (ps : List Point) → FewOps w.txs → All (λ tx. length tx ≤ 16) (history_txs w ps)
+unfolding history_txs
+history_txs-few w [] h = All-nil (λ (tx : List Op). length tx ≤ 16)
+history_txs-few w (p ∷ ps) h = All-cons (λ (tx : List Op). length tx ≤ 16) (tx_decl w p.id).tx (history_txs w ps) (h p.id) (history_txs-few w ps h)
+
+reply-in : (P : Reply → Type 0) (ps : List Point) (p : Point) → All P (replies_of ps) → In p ps → P p.reply
 unfolding replies_of
-point-in [] p h i = elim i [ ]
-point-in (q ∷ qs) p h (here _ _ e) = rw e (All-head OneLineReply q.reply (replies_of qs) h)
-point-in (q ∷ qs) p h (there _ _ i) = point-in qs p (All-tail OneLineReply q.reply (replies_of qs) h) i
+reply-in P [] p h i = elim i [ ]
+reply-in P (q ∷ qs) p h (here _ _ e) = rw e (All-head P q.reply (replies_of qs) h)
+reply-in P (q ∷ qs) p h (there _ _ i) = reply-in P qs p (All-tail P q.reply (replies_of qs) h) i
+
+-- who stands in the history stands there once or more
+times-in : (ps : List Point) (p : Point) → In p ps → 1 ≤ times p.id ps
+unfolding times
+times-in [] p i = elim i [ ]
+times-in (q ∷ qs) p (here _ _ e) = rw (← e, eq-eqb p.id p.id refl) (omega arith)
+times-in (q ∷ qs) p (there _ _ i) = once_more (q.id == p.id) (times p.id qs) (times-in qs p i)
+  where
+    once_more : (t : Bool) (n : ℕ) → 1 ≤ n → 1 ≤ (if t then suc n else n)
+    once_more true n h = omega arith
+    once_more false n h = h
 
 -- ---- what the events tell
 
@@ -116,6 +135,10 @@ some_found : {A : Type 0} (o : Option A) → is_some o ≡ true → (a : A) × (
 some_found None h = absurd cc
 some_found (Some a) h = (a, refl)
 
+below_all : (o : Option ℕ) → IfSome o (λ n. n < 16) → IfSome o (λ n. n < 2 ^ 64)
+below_all None h = tt
+below_all (Some n) h = omega (arith, h)
+
 -- ---- the report of a script
 
 module _ (s : Script) (fits : FitsScript s) where
@@ -141,7 +164,28 @@ module _ (s : Script) (fits : FitsScript s) where
       All-weaker (λ (o : ObjectDecl). FitsValue s.config.version o.value) (λ (o : ObjectDecl). IsOneLine o.value) (λ o h. value-one_line s.config.version o.value h) s.config.objects fits.values in
       let map_lines = start_map-one_line (end_of s).config (subst (λ c. All (λ (o : ObjectDecl). IsOneLine o.value) c.objects) (sym same) values) in
       let serial = serial_replies-one_line (start_map (end_of s).config) (history_txs (end_of s) (end_of s).book.points) map_lines (history_txs-one_line (end_of s) (end_of s).book.points all.ops) in
-      point-in (end_of s).book.points p (subst (λ (rs : List Reply). All OneLineReply rs) (sym sound.serial) serial) i
+      reply-in OneLineReply (end_of s).book.points p (subst (λ (rs : List Reply). All OneLineReply rs) (sym sound.serial) serial) i
+
+  -- a point of the history is one of the transactions, and its reply that of a script's values
+  point_fits : (p : Point) → In p (end_of s).book.points → FitsPoint p
+  unfolding FitsStep start
+  point_fits p i =
+      let sound = run-sound s.config s.txs s.steps fits.config fits.txs fits.steps in
+      let fit = fits.txs in
+      let all = lines in
+      let tells = told in
+      let history = sound.one_history in
+      let place = history.placed p.id (times-in (end_of s).book.points p i) in
+      let begin = place.begun in
+      let step = (tells.begun p.id begin.1).0 begin.3 in
+      let within : p.id < length s.txs = All-found (FitsStep s.config (length s.txs)) s.steps begin.1 (Begin p.id) fits.steps step.step in
+      let few : FewOps (end_of s).txs = subst FewOps (sym all.txs) (fit_txs-few s.config 0 s.txs fit.each) in
+      let places = serial_replies-places 16 (start_map (end_of s).config) (history_txs (end_of s) (end_of s).book.points) (history_txs-few (end_of s) (end_of s).book.points few) in
+      record {
+        id = omega (arith, within, fit.few);
+        place = below_all p.reply.failed (reply-in (FailsBelow 16) (end_of s).book.points p (subst (λ (rs : List Reply). All (FailsBelow 16) rs) (sym sound.serial) places) i);
+        values = All-weaker IsOneLine (FitsValue 2) (λ v h. h.fits) p.reply.values (replied p i);
+      }
 
   -- the reply at an event that tells a point is that of the history
   reply_at : (k id : ℕ) (e : Event) → Does (start_of s) s.steps k e → In id e.points → (p : Point) × In p (end_of s).book.points × (p.id ≡ id) × ((record_of e.world.book id).reply ≡ Some p.reply)
@@ -214,6 +258,7 @@ module _ (s : Script) (fits : FitsScript s) where
   report-prints = let tells = told in record {
     points = points-lines;
     replies = λ p i. run-replies s.config s.txs s.steps fits.config fits.txs fits.steps p i;
+    readable = λ p q i other e. point-told q p other (point_fits p i) e;
     acks = acks-lines;
     acked_once = tells.acked_once;
     acked = acked-told;

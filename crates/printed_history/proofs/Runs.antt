@@ -57,8 +57,8 @@ text_bytes (b ∷ bs) h =
 
 pub value-one_line : (version : ℕ) (v : Value) → FitsValue version v → IsOneLine v
 unfolding FitsValue value_text lacks
-value-one_line version (Num n) h = one_line-num n
-value-one_line version (Text bytes) h = record { text = text_bytes bytes h.1.2 }
+value-one_line version (Num n) h = one_line-num n h
+value-one_line version (Text bytes) h = record { fits = (refl, h.1); text = text_bytes bytes h.1.2 }
 
 op-one_line : (c : Config) (op : Op) → FitsOp c op → OneLineOp op
 unfolding OneLineOp FitsVersion
@@ -73,6 +73,16 @@ unfolding FitTxs nth
 fit_txs-one_line c k [] h id = All-nil OneLineOp
 fit_txs-one_line c k (t ∷ ts) h zero = let first = h.0 in All-weaker (FitsOp c) OneLineOp (op-one_line c) t.tx first.ops
 fit_txs-one_line c k (t ∷ ts) h (suc id) = fit_txs-one_line c (suc k) ts h.1 id
+
+-- the transactions have at most 16 operations
+abbrev pub FewOps : List TxDecl → Type 0
+FewOps txs = (id : ℕ) → length (nth no_tx txs id).tx ≤ 16
+
+pub fit_txs-few : (c : Config) (k : ℕ) (txs : List TxDecl) → FitTxs c k txs → FewOps txs
+unfolding FitTxs nth
+fit_txs-few c k [] h id = omega arith
+fit_txs-few c k (t ∷ ts) h zero = let first = h.0 in let made = first.tx in made.few
+fit_txs-few c k (t ∷ ts) h (suc id) = fit_txs-few c (suc k) ts h.1 id
 
 -- ---- the start
 
@@ -203,12 +213,13 @@ step-sends w (Install n e) h =
 -- the transactions and the world at the end, and what the steps send
 pub record OneLineRun (w : World) (steps : List Step) : Type 0 where
   pub ops : OneLineTxs (run w steps).txs
+  pub txs : (run w steps).txs ≡ w.txs
   pub ended : OneLineScene (scene (run w steps))
   pub sent : All (λ e. All OneLinePacket e.sent) (events w steps)
 
 run-one_line : (c : Config) (txs : List TxDecl) (steps : List Step) (w : World) → w.config ≡ c → w.txs ≡ txs → IsReached w → OneLineTxs txs → OneLineScene (scene w) → All (StepFits c txs) steps → OneLineRun w steps
 unfolding run events
-run-one_line c txs [] w config same r ops k fits = record { ops = subst OneLineTxs (sym same) ops; ended = k; sent = All-nil _ }
+run-one_line c txs [] w config same r ops k fits = record { ops = subst OneLineTxs (sym same) ops; txs = refl; ended = k; sent = All-nil _ }
 run-one_line c txs (s ∷ ss) w config same r ops k fits =
     let first : StepFits c txs s = All-head (StepFits c txs) s ss fits in
     let moved : IsStep w (stepped w s) = step_is_moves w s txs r.usual (rw config first) in
@@ -216,7 +227,7 @@ run-one_line c txs (s ∷ ss) w config same r ops k fits =
     let kept : (stepped w s).txs ≡ w.txs = moves_txs (story w) (story (stepped w s)) moves in
     let next : OneLineScene (scene (stepped w s)) = story_moves-one_line (story w) (story (stepped w s)) moves (subst OneLineTxs (sym same) ops) k in
     let rest = run-one_line c txs ss (stepped w s) (moved.config ∙ config) (kept ∙ same) (step-reached c txs w s config same r first) ops next (All-tail (StepFits c txs) s ss fits) in
-    record { ops = rest.ops; ended = rest.ended; sent = All-cons (λ (e : Event). All OneLinePacket e.sent) (happens w s) (events (stepped w s) ss) (step-sends w s next) rest.sent }
+    record { ops = rest.ops; txs = rest.txs ∙ kept; ended = rest.ended; sent = All-cons (λ (e : Event). All OneLinePacket e.sent) (happens w s) (events (stepped w s) ss) (step-sends w s next) rest.sent }
 
 pub script-one_line : (s : Script) → FitsScript s → OneLineRun (start s.config s.txs) s.steps
 script-one_line s fits =

@@ -1,5 +1,6 @@
--- Values whose texts stay within a line: what a transaction replies and writes is such where what it finds and has is.
-use Rattle.std.proofs.Common.{ℕ, zero, suc, ◌≡◌, Bool, true, false, List, [], ◌∷◌, ◌++◌, Option, Some, None, refl, sym, inl, inr}
+-- Values of a script, whose texts stay within a line: what a transaction replies and writes is such where what it finds and
+-- has is.
+use Rattle.std.proofs.Common.{ℕ, zero, suc, ◌≡◌, ◌<◌, ◌≤◌, length, arith, Bool, true, false, List, [], ◌∷◌, ◌++◌, Option, Some, None, refl, sym, inl, inr}
 use Rattle.std.specs.Prelude.{◌==◌, ◌+◌, ◌%◌, ◌^◌, All, IfSome, if◌then◌else◌, map}
 use Rattle.std.proofs.lemmas.Bool.{cond_both, cases_eq}
 use Rattle.std.proofs.lemmas.List.Elements.{All-nil, All-cons, All-head, All-tail, All-append}
@@ -16,19 +17,24 @@ use Rattle.zeus_txn.specs.declared.ops.Op.{Op}
 use Rattle.zeus_txn.specs.declared.ops.Op.TheVariants.{Get, Put, Add, Need, Same}
 use Rattle.zeus_txn.specs.declared.reply.Ran.{Ran}
 use Rattle.zeus_txn.specs.declared.reply.Reply.{Reply}
+use Rattle.zeus_model.specs.Scripts.{FitsValue}
 use Rattle.zeus_model.specs.Serial.{content, start_map, written_map, run_at, applied_map, serial_replies}
 use Rattle.zeus_model.specs.Spelling.{value_text}
 use Rattle.zeus_model.specs.Tables.{nth, put}
 use Rattle.machine_moves.proofs.Lists.{nth-put_same, nth-put_other}
 use Rattle.printed_history.proofs.Lines.{lacks, is_line, decimal-is_line}
 
--- the text of the value lacks byte 10
+-- the value is one that a script can have, and so its text lacks byte 10
 pub record IsOneLine (v : Value) : Type 0 where
+  pub fits : FitsValue 2 v
   pub text : is_line (value_text v) ≡ true
 
-pub one_line-num : (n : ℕ) → IsOneLine (Num n)
-unfolding value_text
-one_line-num n = record { text = decimal-is_line n }
+pub one_line-num : (n : ℕ) → n < 2 ^ 64 → IsOneLine (Num n)
+unfolding value_text FitsValue
+one_line-num n h = record { fits = h; text = decimal-is_line n }
+
+one_line-sum : (n : ℕ) → IsOneLine (Num (n % 2 ^ 64))
+one_line-sum n = one_line-num (n % 2 ^ 64) (omega arith)
 
 -- a value, if there is one
 unfoldable pub OneLineSome : Option Value → Type 0
@@ -55,7 +61,7 @@ tested-one_line false = tt
 
 added-one_line : (v : Value) (d : ℕ) → IfSome (added v d) (λ e. OneLineSome e.gives × OneLineSome e.stores)
 unfolding added OneLineSome
-added-one_line (Num m) d = (one_line-num ((m + d) % 2 ^ 64), one_line-num ((m + d) % 2 ^ 64))
+added-one_line (Num m) d = (one_line-sum (m + d), one_line-sum (m + d))
 added-one_line (Text t) d = tt
 
 effect-one_line : (op : Op) (v : Value) → OneLineOp op → IsOneLine v → IfSome (effect op v) (λ e. OneLineSome e.gives × OneLineSome e.stores)
@@ -110,6 +116,24 @@ pub run-one_line : (found : ℕ → Value) (ops : List Op) → ((x : ℕ) → Is
 unfolding run
 run-one_line found ops f all = run_from-one_line found 0 [] [] ops f (All-nil IsOneLine) (All-nil OneLinePair) all
 
+-- a transaction that fails, fails at one of its operations
+IfSome_always : {E : Type 0} (o : Option E) → IfSome o (λ _. Unit {0})
+IfSome_always None = tt
+IfSome_always (Some e) = tt
+
+run_from-place : (found : ℕ → Value) (n place : ℕ) (vs : List Value) (ws : List (ℕ × Value)) (ops : List Op) → place + length ops ≤ n → IfSome (run_from found place vs ws ops).reply.failed (λ k. k < n)
+unfolding run_from
+run_from-place found n place vs ws [] h = tt
+run_from-place found n place vs ws (op ∷ ops) h =
+    let x = object_of op in
+    either_way (λ r. IfSome r.reply.failed (λ k. k < n)) (λ e. Unit {0}) (effect op (latest ws x (found x))) (fails_at place vs) (λ e. run_from found (suc place) (given vs e.gives) (stored ws x e.stores) ops)
+    (IfSome_always (effect op (latest ws x (found x)))) (omega (arith, h))
+    (λ e _. run_from-place found n (suc place) (given vs e.gives) (stored ws x e.stores) ops (omega (arith, h)))
+
+run-place : (found : ℕ → Value) (n : ℕ) (ops : List Op) → length ops ≤ n → IfSome (run found ops).reply.failed (λ k. k < n)
+unfolding run
+run-place found n ops h = run_from-place found n 0 [] [] ops (omega (arith, h))
+
 -- ---- tables
 
 -- what holds at each place of a table holds at each place after a put, if it holds of what was put
@@ -144,9 +168,21 @@ serial_replies-one_line m (tx ∷ txs) p all =
     All-cons OneLineReply (run_at m tx).reply (serial_replies (applied_map m tx) txs) ran.values
     (serial_replies-one_line (applied_map m tx) txs (written_map-one_line m (run_at m tx).writes p ran.writes) (All-tail (All OneLineOp) tx txs all))
 
+-- a reply that failed names one of at most n operations
+abbrev pub FailsBelow : ℕ → Reply → Type 0
+FailsBelow n r = IfSome r.failed (λ k. k < n)
+
+pub serial_replies-places : (n : ℕ) (m : List Versioned) (txs : List (List Op)) → All (λ tx. length tx ≤ n) txs → All (FailsBelow n) (serial_replies m txs)
+unfolding serial_replies
+serial_replies-places n m [] all = All-nil (FailsBelow n)
+serial_replies-places n m (tx ∷ txs) all =
+    All-cons (FailsBelow n) (run_at m tx).reply (serial_replies (applied_map m tx) txs)
+    (run-place (λ x. (content m x).value) n tx (All-head (λ (ops : List Op). length ops ≤ n) tx txs all))
+    (serial_replies-places n (applied_map m tx) txs (All-tail (λ (ops : List Op). length ops ≤ n) tx txs all))
+
 declared-one_line : (os : List ObjectDecl) → All (λ o. IsOneLine o.value) os → OneLineMap (map declared_content os)
 unfolding declared_content nth
-declared-one_line [] all x = one_line-num 0
+declared-one_line [] all x = one_line-num 0 (omega arith)
 declared-one_line (o ∷ os) all zero = All-head (λ (o : ObjectDecl). IsOneLine o.value) o os all
 declared-one_line (o ∷ os) all (suc x) = declared-one_line os (All-tail (λ (o : ObjectDecl). IsOneLine o.value) o os all) x
 

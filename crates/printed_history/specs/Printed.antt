@@ -40,6 +40,8 @@ pub record PrintsHistory (s : Script) (text : List ℕ) : Type 0 where
   -- that reply is the one that the transaction's record keeps, and that a step answered as committed or as read
   pub replies : (p : Point) → In p (end_of s).book.points
       → ((record_of (end_of s).book p.id).reply ≡ Some p.reply) × ((k : ℕ) × Answers (start_of s) s.steps k p.id p.reply)
+  -- and who reads such a line as a point reads this one
+  pub readable : (p q : Point) → In p (end_of s).book.points → FitsPoint q → printed_point q ≡ printed_point p → q ≡ p
   -- its lines that begin with `!` (byte 33) are what the steps acknowledge, in order
   pub acks : lines_with 33 text ≡ map printed_ack (told_acks (events (start_of s) s.steps))
   -- each acknowledged transaction is there once, and no other is there
