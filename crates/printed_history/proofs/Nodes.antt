@@ -1,6 +1,6 @@
 -- Nodes whose texts stay within a line, and the changes that keep them so.
-use Rattle.std.proofs.Common.{ℕ, zero, suc, ◌≡◌, ◌≢◌, ◌+◌, ◌-◌, List, [], ◌∷◌, ◌++◌, length, take, drop, map, Option, Some, None, refl, arith}
-use Rattle.std.specs.Prelude.{◌==◌, nat_lt, All, if◌then◌else◌}
+use Rattle.std.proofs.Common.{ℕ, zero, suc, ◌+◌, ◌-◌, List, [], ◌∷◌, ◌++◌, take, drop, map, Option, Some, None, arith}
+use Rattle.std.specs.Prelude.{◌==◌, nat_lt, All}
 use Rattle.std.proofs.lemmas.Bool.{cond_both}
 use Rattle.std.proofs.lemmas.List.Elements.{All-nil, All-cons, All-head, All-tail, All-append, All-push, All-take, All-drop, All-map}
 use Rattle.zeus_base.specs.Order.{is_below, same_stamp}
@@ -14,13 +14,12 @@ use Rattle.zeus_packet.specs.declared.place.Want.{Want}
 use Rattle.zeus_packet.specs.declared.place.Want.TheVariants.{Own, Read, Leave}
 use Rattle.zeus_packet.specs.declared.write.Content.{Content}
 use Rattle.zeus_packet.specs.declared.write.Write.{Write}
-use Rattle.zeus_txn.specs.declared.ops.Op.{Op}
 use Rattle.zeus_model.specs.declared.state.Copy.{Copy}
 use Rattle.zeus_model.specs.declared.state.Current.{Current}
 use Rattle.zeus_model.specs.declared.state.Gather.{Gather}
 use Rattle.zeus_model.specs.declared.state.Kept.{Kept}
 use Rattle.zeus_model.specs.declared.state.Pending.{Pending}
-use Rattle.zeus_model.specs.Commit.{validated, applied, each_write, writes_of, as_kept, after_passing, pass_own, pass_kept, raise, store, no_pending, no_kept, acked_pending, acked_kept}
+use Rattle.zeus_model.specs.Commit.{validated, applied, each_write, writes_of, as_kept, after_passing, pass_own, pass_kept, raise, store, no_pending, no_kept}
 use Rattle.zeus_model.specs.Local.{rewritten_copy, new_writes}
 use Rattle.zeus_model.specs.Membership.{dropped}
 use Rattle.zeus_model.specs.Ownership.{content_of, own_content, is_source, settle, settled_entry, gather_above, brought, bring, gather_for, noted}

@@ -1,5 +1,5 @@
 -- What a report prints within a line lacks byte 10.
-use Rattle.std.proofs.Common.{ℕ, zero, suc, ◌≡◌, ◌≢◌, ◌≤◌, true, List, [], ◌∷◌, length, map, Option, Some, None, refl, arith, inl, inr}
+use Rattle.std.proofs.Common.{ℕ, ◌≡◌, ◌≢◌, true, List, [], ◌∷◌, map, Option, Some, None, refl, arith, inl, inr}
 use Rattle.std.specs.Prelude.{◌++◌, decimal, codes, All}
 use Rattle.std.proofs.lemmas.Bool.{ne_eqb}
 use Rattle.std.proofs.lemmas.List.Elements.{All-nil, All-cons, All-head, All-tail}
@@ -8,7 +8,6 @@ use Rattle.zeus_base.specs.declared.order.Stream.{Stream}
 use Rattle.zeus_base.specs.declared.step.Step.{Step}
 use Rattle.zeus_base.specs.declared.step.Step.TheVariants.{Begin, Try, Deliver, Tick, Stop, View, Install}
 use Rattle.zeus_base.specs.declared.value.Value.{Value}
-use Rattle.zeus_base.specs.declared.value.Value.TheVariants.{Num, Text}
 use Rattle.zeus_txn.specs.declared.reply.Reply.{Reply}
 use Rattle.zeus_packet.specs.declared.letter.Body.{Body}
 use Rattle.zeus_packet.specs.declared.letter.Body.TheVariants.{RInv, RAck, RVal, OReq, OInv, OAck, ONack, OVal, Recovered}
@@ -44,8 +43,7 @@ use Rattle.zeus_model.specs.Names.{IsName, IsNameByte}
 use Rattle.zeus_model.specs.Book.{Point}
 use Rattle.zeus_model.specs.ReportText.{points_text}
 use Rattle.zeus_model.specs.ReportWords.{number, named_object, stream_text, stamp_text, more_nodes_text, nodes_text, optional_node, state_text, cause_text, values_text, outcome_text, reply_text, begin_text, tried_text, received_text, ticked_text, stopped_text, made_text, installed_text, answer_text, writes_text, want_text, place_text, proposal_text, content_text, body_text, tx_state_text}
-use Rattle.zeus_model.specs.Spelling.{word, spaced, words_text, step_words, value_text, name_of}
-use Rattle.zeus_model.specs.Tables.{nth}
+use Rattle.zeus_model.specs.Spelling.{word, spaced, words_text, step_words, value_text}
 use Rattle.printed_history.proofs.Lines.{lacks, is_line, lacks-append, is_line-together, decimal-is_line}
 use Rattle.printed_history.proofs.Values.{IsOneLine, OneLineReply}
 use Rattle.printed_history.proofs.Nodes.{OneLineWrite, OneLineWrites, OneLineContent, nth-one_line}

@@ -1,13 +1,12 @@
 -- The line of a point tells its transaction and its reply.
-use Rattle.std.proofs.Common.{ℕ, ◌≡◌, ◌≢◌, ◌<◌, ◌≤◌, ◌^◌, true, false, List, [], ◌∷◌, map, Option, Some, None, refl, arith, inl, inr, ap, subst, sym, ◌∙◌, append_assoc}
-use Rattle.std.specs.Prelude.{All, ◌++◌, ◌⊎◌, IfSome, codes, decimal}
-use Rattle.std.proofs.lemmas.Bool.{ne_eqb, eq-eqb}
+use Rattle.std.proofs.Common.{ℕ, ◌≡◌, ◌≢◌, ◌<◌, ◌≤◌, ◌^◌, true, List, [], ◌∷◌, map, Option, Some, None, refl, arith, inl, ap, subst, sym, ◌∙◌, append_assoc}
+use Rattle.std.specs.Prelude.{All, ◌++◌, IfSome, codes, decimal}
+use Rattle.std.proofs.lemmas.Bool.{ne_eqb}
 use Rattle.std.proofs.lemmas.Fmt.{decimal_injective}
 use Rattle.std.proofs.lemmas.List.{append-nil}
 use Rattle.std.proofs.lemmas.List.Elements.{All-head, All-tail}
 use Rattle.zeus_base.specs.declared.value.Value.{Value}
 use Rattle.zeus_base.specs.declared.value.Value.TheVariants.{Num, Text}
-use Rattle.zeus_txn.specs.declared.reply.Reply.{Reply}
 use Rattle.zeus_model.specs.Book.{Point}
 use Rattle.zeus_model.specs.ReportWords.{number, outcome_text, reply_text, values_text}
 use Rattle.zeus_model.specs.Scripts.{FitsValue}

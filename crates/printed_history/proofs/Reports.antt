@@ -10,19 +10,18 @@ use Rattle.zeus_base.specs.declared.step.Step.{Step}
 use Rattle.zeus_base.specs.declared.step.Step.TheVariants.{Begin}
 use Rattle.zeus_txn.specs.declared.ops.Op.{Op}
 use Rattle.zeus_txn.specs.declared.reply.Reply.{Reply}
-use Rattle.zeus_txn.specs.declared.tx.TxDecl.{TxDecl}
 use Rattle.zeus_model.specs.declared.script.Script.{Script}
 use Rattle.zeus_model.specs.Book.{Book, Point, record_of, reply_or}
 use Rattle.zeus_model.specs.In.{In, here, there}
 use Rattle.zeus_model.specs.ReportText.{report, event_text, start_of}
 use Rattle.zeus_model.specs.Scripts.{FitsScript, FitsStep, FitsValue}
-use Rattle.zeus_model.specs.Serial.{serial_replies, start_map}
+use Rattle.zeus_model.specs.Serial.{start_map}
 use Rattle.zeus_model.specs.Sound.{history_txs, replies_of, times}
-use Rattle.zeus_model.specs.World.{World, Event, events, run, start, tx_decl}
+use Rattle.zeus_model.specs.World.{World, Event, events, start, tx_decl}
 use Rattle.machine_moves.specs.Scene.{scene}
 use Rattle.machine_moves.proofs.Lists.{In-append, In-append_left, In-append_right}
 use Rattle.soundness.specs.History.{IsInOrder}
-use Rattle.soundness.specs.Telling.{Answers, Does, IsTold, how_often, ids_of, told_acks, told_points}
+use Rattle.soundness.specs.Telling.{Does, IsTold, ids_of, told_acks, told_points}
 use Rattle.soundness.proofs.Runs.{run-sound, run-config}
 use Rattle.soundness.proofs.RunsTold.{run-in_order, run-told, run-replies, run-told_replies}
 use Rattle.printed_history.specs.Lines.{lines_with}
@@ -32,7 +31,7 @@ use Rattle.printed_history.proofs.Pieces.{OneLineName, names-one_line}
 use Rattle.printed_history.proofs.Runs.{All-in, FewOps, OneLineRun, fit_txs-few, script-one_line, value-one_line}
 use Rattle.printed_history.proofs.Reading.{point-told}
 use Rattle.printed_history.proofs.Scenes.{OneLineTxs}
-use Rattle.printed_history.proofs.Texts.{OneLineEvent, OneLineNodes, OneLinePacket, OneLinePoint, IsBelow, point_now, event-points, event-acks, event-passed, steps-show, final-shows, history-found, history-passed, report-shows}
+use Rattle.printed_history.proofs.Texts.{OneLineEvent, OneLineNodes, OneLinePacket, OneLinePoint, point_now, event-points, event-acks, event-passed, steps-show, final-shows, history-found, history-passed, report-shows}
 use Rattle.printed_history.proofs.Values.{IsOneLine, OneLineOp, OneLineReply, FailsBelow, serial_replies-one_line, serial_replies-places, start_map-one_line}
 
 -- ---- the replies of the history

@@ -1,11 +1,9 @@
 -- Over a run of a script: all texts of the world, and all that the steps send, stay within a line.
-use Rattle.std.proofs.Common.{ℕ, zero, suc, ◌≡◌, ◌≢◌, ◌<◌, ◌≤◌, ◌-◌, Bool, true, false, List, [], ◌∷◌, length, map, Option, Some, None, refl, arith, inl, inr, subst, sym, ◌∙◌}
-use Rattle.std.specs.Prelude.{All, ◌++◌, nat_lt, replicate, if◌then◌else◌}
+use Rattle.std.proofs.Common.{ℕ, zero, suc, ◌≡◌, ◌≢◌, ◌≤◌, ◌-◌, Bool, true, false, List, [], ◌∷◌, length, map, Option, Some, None, refl, arith, subst, sym, ◌∙◌}
+use Rattle.std.specs.Prelude.{All, nat_lt, replicate, if◌then◌else◌}
 use Rattle.std.proofs.lemmas.Bool.{cond_both, ne_eqb}
 use Rattle.std.proofs.lemmas.List.Elements.{All-nil, All-cons, All-head, All-tail, All-map, All-replicate, All-weaker}
-use Rattle.zeus_base.specs.Limits.{KeepsLimits}
 use Rattle.zeus_base.specs.Nodes.{has}
-use Rattle.zeus_base.specs.Texts.{IsText}
 use Rattle.zeus_base.specs.declared.config.Config.{Config}
 use Rattle.zeus_base.specs.declared.config.ObjectDecl.{ObjectDecl}
 use Rattle.zeus_base.specs.declared.step.Step.{Step}
@@ -13,7 +11,6 @@ use Rattle.zeus_base.specs.declared.step.Step.TheVariants.{Begin, Try, Deliver, 
 use Rattle.zeus_base.specs.declared.value.Value.{Value}
 use Rattle.zeus_base.specs.declared.value.Value.TheVariants.{Num, Text}
 use Rattle.zeus_packet.specs.declared.letter.Letter.{Letter}
-use Rattle.zeus_packet.specs.declared.letter.Packet.{Packet}
 use Rattle.zeus_txn.specs.declared.ops.Op.{Op}
 use Rattle.zeus_txn.specs.declared.ops.Op.TheVariants.{Get, Put, Add, Need, Same}
 use Rattle.zeus_txn.specs.declared.tx.TxDecl.{TxDecl}
@@ -23,13 +20,13 @@ use Rattle.zeus_model.specs.declared.answer.Made.{Made}
 use Rattle.zeus_model.specs.declared.script.Script.{Script}
 use Rattle.zeus_model.specs.In.{In, here, there}
 use Rattle.zeus_model.specs.Membership.{install}
-use Rattle.zeus_model.specs.Scripts.{FitsScript, FitsTxs, FitTxs, FitsTx, FitsOp, FitsVersion, FitsValue, FitsStep}
+use Rattle.zeus_model.specs.Scripts.{FitsScript, FitTxs, FitsOp, FitsVersion, FitsValue}
 use Rattle.zeus_model.specs.Spelling.{value_text}
-use Rattle.zeus_model.specs.State.{Node, no_slot, no_log, copy}
-use Rattle.zeus_model.specs.Tables.{nth, below, numbers_from, where_true}
+use Rattle.zeus_model.specs.State.{no_slot, no_log}
+use Rattle.zeus_model.specs.Tables.{nth, below, where_true}
 use Rattle.zeus_model.specs.World.{World, Event, no_node, no_tx, node, start, start_node, start_copy, start_gather, link, posted, packets, happens, stepped, run, events, step_begin, begin_or_not, begin_refused, tried_at, deliver_or_not, received_at, ticked_at, stopped_at, view_or_not, view_refused, step_install, installed_at, nth_letter, all_posted, refuse_step}
 use Rattle.machine_moves.specs.Fits.{StepFits}
-use Rattle.machine_moves.specs.Scene.{Scene, scene, all_of}
+use Rattle.machine_moves.specs.Scene.{scene, all_of}
 use Rattle.machine_moves.proofs.Links.{In-to_link, sent-new}
 use Rattle.machine_moves.proofs.Lists.{In-nothing}
 use Rattle.machine_moves.proofs.Start.{start-config}

@@ -1,35 +1,31 @@
 -- Every move keeps the texts of nodes and letters within a line.
-use Rattle.std.proofs.Common.{ℕ, ◌≡◌, ◌≢◌, ◌+◌, List, [], ◌∷◌, ◌++◌, length, Option, Some, None, refl, inl, inr, subst, sym}
-use Rattle.std.specs.Prelude.{All, true, false, ◌⊎◌}
+use Rattle.std.proofs.Common.{ℕ, ◌≡◌, List, Option, Some, None, inl, inr, subst, sym}
+use Rattle.std.specs.Prelude.{All, true}
 use Rattle.std.proofs.lemmas.Bool.{cases_eq}
 use Rattle.std.proofs.lemmas.List.Elements.{All-push, All-map}
-use Rattle.zeus_base.specs.Nodes.{without}
 use Rattle.zeus_packet.specs.declared.letter.Body.{Body}
-use Rattle.zeus_packet.specs.declared.letter.Body.TheVariants.{RInv, RAck, RVal, OReq, OInv, OAck, ONack, OVal, Recovered}
+use Rattle.zeus_packet.specs.declared.letter.Body.TheVariants.{RInv, OAck}
 use Rattle.zeus_packet.specs.declared.letter.Letter.{Letter}
 use Rattle.zeus_packet.specs.Place.{new_place}
 use Rattle.zeus_packet.specs.declared.place.Proposal.{Proposal}
-use Rattle.zeus_packet.specs.declared.write.Content.{Content}
 use Rattle.zeus_txn.specs.declared.ops.Op.{Op}
 use Rattle.zeus_txn.specs.declared.tx.TxDecl.{TxDecl}
 use Rattle.zeus_model.specs.In.{In}
 use Rattle.zeus_model.specs.declared.state.Current.{Current}
-use Rattle.zeus_model.specs.declared.state.Gather.{Gather}
-use Rattle.zeus_model.specs.Commit.{as_kept, each_write, pass_own, pass_kept, raise, store, no_pending, no_kept, acked_pending, acked_kept}
-use Rattle.zeus_model.specs.Local.{with_current, committed, run_here, new_writes, replicas_of, rewritten_copy}
-use Rattle.zeus_model.specs.Membership.{dropped}
-use Rattle.zeus_model.specs.Ownership.{settle, bring, gather_for, noted, own_content}
+use Rattle.zeus_model.specs.Commit.{as_kept, each_write, pass_own, pass_kept, raise, store, no_pending, no_kept}
+use Rattle.zeus_model.specs.Local.{with_current, committed, run_here, new_writes, rewritten_copy}
+use Rattle.zeus_model.specs.Ownership.{settle, gather_for, noted}
 use Rattle.zeus_model.specs.State.{Node, copy, gather, slot, log, with_copies, value_of}
-use Rattle.zeus_model.specs.Tables.{nth, put}
+use Rattle.zeus_model.specs.Tables.{nth}
 use Rattle.zeus_model.specs.World.{no_tx}
-use Rattle.machine_moves.specs.Scene.{Scene, Changes, Same, NewView, Sends, nothing}
+use Rattle.machine_moves.specs.Scene.{Scene, Changes, Same, Sends, nothing}
 use Rattle.machine_moves.specs.Move.{Move, IsTellable, IsAboutProposal, own_kept, request, advice, placement, reported, own_entry, kept_entry, stored, own_passed, kept_passed, to_arbiter, to_collector, makes_view, stops, installs, tells, turns, settles, drives, accepts, redrives, gathers, decides, raises, stores, notes_own, notes_kept, passes_own, passes_kept, reports, hears, commits}
 use Rattle.machine_moves.specs.Plain.{IsPlain}
 use Rattle.data_safety.specs.Story.{Story}
 use Rattle.data_safety.specs.StoryMoves.{StoryMove, StoryMoves, plain, rests, begins, reads, refuses, commits_tx, passes_own_tx, passes_kept_tx, ended, onward}
 use Rattle.data_safety.proofs.RowsRuns.{move_txs}
-use Rattle.printed_history.proofs.Nodes.{OneLineWrite, OneLineWrites, OneLineCopy, OneLineContent, OneLineGather, OneLineCurrent, OneLineKept, OneLinePending, OneLineSlot, OneLineLog, OneLineNode, with_copies-one_line, with_gather-one_line, with_slot-one_line, with_log-one_line, each_write-one_line, rewritten_copy-one_line, pass_own-one_line, pass_kept-one_line, raise-one_line, store-one_line, nth-one_line, put-one_line, no_pending-one_line, no_kept-one_line, settle-one_line, bring-one_line, noted-one_line, own_content-one_line, dropped-one_line, value_of-one_line, new_writes-one_line}
-use Rattle.printed_history.proofs.Values.{IsOneLine, OneLineOp, run-one_line}
+use Rattle.printed_history.proofs.Nodes.{OneLineWrites, OneLineContent, OneLineGather, OneLineCurrent, OneLineKept, OneLinePending, OneLineNode, with_copies-one_line, with_gather-one_line, with_slot-one_line, with_log-one_line, each_write-one_line, rewritten_copy-one_line, pass_own-one_line, pass_kept-one_line, raise-one_line, store-one_line, nth-one_line, put-one_line, no_pending-one_line, no_kept-one_line, settle-one_line, bring-one_line, noted-one_line, own_content-one_line, dropped-one_line, value_of-one_line, new_writes-one_line}
+use Rattle.printed_history.proofs.Values.{OneLineOp, run-one_line}
 
 -- what a letter says has texts of one line
 unfoldable pub OneLineBody : Body → Type 0

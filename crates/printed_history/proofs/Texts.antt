@@ -1,6 +1,6 @@
 -- What the parts of a report show: which of their lines begin with a byte.
-use Rattle.std.proofs.Common.{ℕ, zero, suc, ◌≡◌, ◌<◌, true, false, List, [], ◌∷◌, length, map, Option, Some, None, refl, arith, inl, inr, subst, sym, append_assoc}
-use Rattle.std.specs.Prelude.{◌++◌, ◌==◌, ◌⊎◌, decimal, codes, All, if◌then◌else◌}
+use Rattle.std.proofs.Common.{ℕ, suc, ◌≡◌, ◌<◌, true, false, List, [], ◌∷◌, length, map, Option, Some, None, refl, arith, inl, inr, subst, sym, append_assoc}
+use Rattle.std.specs.Prelude.{◌++◌, ◌==◌, ◌⊎◌, decimal, codes, All}
 use Rattle.std.proofs.lemmas.Bool.{cond_both, ne_eqb}
 use Rattle.std.proofs.lemmas.List.Elements.{All-head, All-tail}
 use Rattle.std.specs.List.{flat_map}
@@ -10,7 +10,7 @@ use Rattle.zeus_model.specs.declared.script.Script.{Script}
 use Rattle.zeus_model.specs.declared.state.Copy.{Copy}
 use Rattle.zeus_model.specs.Book.{Book, Point, record_of, reply_or}
 use Rattle.zeus_model.specs.Readers.{owner, is_lost, live_among, tx_state}
-use Rattle.zeus_model.specs.ReportText.{step_text, answer_line, point_lines, acked_lines, packet_lines, event_text, steps_text, points_text, history_line, tx_state_lines, copy_line, copy_lines, holders_text, object_text, objects_text, final_text, report_head, report, start_of}
+use Rattle.zeus_model.specs.ReportText.{step_text, answer_line, point_lines, acked_lines, packet_lines, event_text, steps_text, history_line, tx_state_lines, copy_line, copy_lines, holders_text, object_text, objects_text, final_text, report_head, report, start_of}
 use Rattle.zeus_model.specs.ReportWords.{number, named_object, reply_text, answer_text, body_text, tx_state_text, optional_node, nodes_text, state_text}
 use Rattle.zeus_model.specs.Sound.{latest_place}
 use Rattle.zeus_model.specs.Spelling.{word, value_text}

@@ -1,7 +1,7 @@
 -- Values of a script, whose texts stay within a line: what a transaction replies and writes is such where what it finds and
 -- has is.
-use Rattle.std.proofs.Common.{ℕ, zero, suc, ◌≡◌, ◌<◌, ◌≤◌, length, arith, Bool, true, false, List, [], ◌∷◌, ◌++◌, Option, Some, None, refl, sym, inl, inr}
-use Rattle.std.specs.Prelude.{◌==◌, ◌+◌, ◌%◌, ◌^◌, All, IfSome, if◌then◌else◌, map}
+use Rattle.std.proofs.Common.{ℕ, zero, suc, ◌≡◌, ◌<◌, ◌≤◌, length, arith, Bool, true, false, List, [], ◌∷◌, Option, Some, None, inl, inr}
+use Rattle.std.specs.Prelude.{◌==◌, ◌+◌, ◌%◌, ◌^◌, All, IfSome, map}
 use Rattle.std.proofs.lemmas.Bool.{cond_both, cases_eq}
 use Rattle.std.proofs.lemmas.List.Elements.{All-nil, All-cons, All-head, All-tail, All-append}
 use Rattle.zeus_base.specs.Values.{same_value}
@@ -22,7 +22,7 @@ use Rattle.zeus_model.specs.Serial.{content, start_map, written_map, run_at, app
 use Rattle.zeus_model.specs.Spelling.{value_text}
 use Rattle.zeus_model.specs.Tables.{nth, put}
 use Rattle.machine_moves.proofs.Lists.{nth-put_same, nth-put_other}
-use Rattle.printed_history.proofs.Lines.{lacks, is_line, decimal-is_line}
+use Rattle.printed_history.proofs.Lines.{is_line, decimal-is_line}
 
 -- the value is one that a script can have, and so its text lacks byte 10
 pub record IsOneLine (v : Value) : Type 0 where
