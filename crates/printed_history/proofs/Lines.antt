@@ -131,7 +131,7 @@ unfolding lacks
 lacks-digits d [] h other = refl
 lacks-digits d (b ∷ l) h other =
     let first = All-head IsDigit b l h in
-    rw (ne_eqb b d (λ e. elim other [ | inl less ↦ absurd (omega (arith, first.0, less, e)) | inr more ↦ absurd (omega (arith, first.1, more, e)) ]))
+    rw (ne_eqb b d (λ e. elim other [ inl less ↦ absurd (omega (arith, first.0, less, e)) | inr more ↦ absurd (omega (arith, first.1, more, e)) ]))
     (lacks-digits d l (All-tail IsDigit b l h) other)
 
 -- a decimal number has no byte but digits
@@ -161,7 +161,7 @@ unfolding IsQuiet
 quiet-digits b [] some h other = absurd (omega (arith, some))
 quiet-digits b (c ∷ l) some h other =
     let first = All-head IsDigit c l h in
-    ne_eqb c b (λ e. elim other [ | inl less ↦ absurd (omega (arith, first.0, less, e)) | inr more ↦ absurd (omega (arith, first.1, more, e)) ])
+    ne_eqb c b (λ e. elim other [ inl less ↦ absurd (omega (arith, first.0, less, e)) | inr more ↦ absurd (omega (arith, first.1, more, e)) ])
 
 some_digit : (k n : ℕ) (acc : List ℕ) → 0 < length (digits_onto (suc k) 10 false n acc)
 some_digit zero n acc = cond_both (n / 10 == 0) (digit_glyph false (n % 10) ∷ acc) (digit_glyph false (n % 10) ∷ acc) (λ l. 0 < length l) (λ _. omega arith) (λ _. omega arith)

@@ -63,7 +63,7 @@ name_bytes (b ∷ bs) h =
       | inl upper ↦ absurd (omega (arith, upper.0, e))
       | inr more ↦ elim more [
         | inl lower ↦ absurd (omega (arith, lower.0, e))
-        | inr rest ↦ elim rest [ | inl digit ↦ absurd (omega (arith, digit.0, e)) | inr line ↦ absurd (omega (arith, line, e)) ]
+        | inr rest ↦ elim rest [ inl digit ↦ absurd (omega (arith, digit.0, e)) | inr line ↦ absurd (omega (arith, line, e)) ]
       ]
     ] in
     rw (ne_eqb b 10 other) (name_bytes bs (All-tail IsNameByte b bs h))

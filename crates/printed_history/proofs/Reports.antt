@@ -242,15 +242,16 @@ module _ (s : Script) (fits : FitsScript s) where
 
   acked-told : (id : ℕ) → (is_some (record_of (end_of s).book id).acked ≡ true) ↔ In id (told_acks (events (start_of s) s.steps))
   acked-told id =
-      let tells = told in
-      (λ some.
-      let at = some_found (record_of (end_of s).book id).acked some in
-      let step = (tells.acked id at.0).0 at.1 in
-      told-in id at.0 step.0 (events (start_of s) s.steps) step.1 step.2,
-      λ i.
-      let step = told-from id (events (start_of s) s.steps) i in
-      let at = (tells.acked id step.0).1 (step.1, step.2, step.3) in
-      ap is_some at)
+      let tells = told in (
+        λ some.
+            let at = some_found (record_of (end_of s).book id).acked some in
+            let step = (tells.acked id at.0).0 at.1 in
+            told-in id at.0 step.0 (events (start_of s) s.steps) step.1 step.2,
+        λ i.
+            let step = told-from id (events (start_of s) s.steps) i in
+            let at = (tells.acked id step.0).1 (step.1, step.2, step.3) in
+            ap is_some at,
+      )
 
   -- the report prints the history
   pub report-prints : PrintsHistory s (report s)

@@ -40,7 +40,7 @@ pub record OneLineScene (s : Scene) : Type 0 where
 -- ---- what a move does
 
 sent-one_line : (old new : Scene) (allowed : Letter → Type 0) → Sends old new allowed → OneLineScene old → ((l : Letter) → allowed l → OneLineBody l.body) → (l : Letter) → In l new.letters → OneLineBody l.body
-sent-one_line old new allowed sends k fresh l i = elim (sends.only l i) [ | inl before ↦ k.letters l before | inr now ↦ fresh l now ]
+sent-one_line old new allowed sends k fresh l i = elim (sends.only l i) [ inl before ↦ k.letters l before | inr now ↦ fresh l now ]
 
 nothing-one_line : (l : Letter) → nothing l → OneLineBody l.body
 nothing-one_line l h = absurd h
