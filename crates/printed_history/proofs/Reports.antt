@@ -18,7 +18,7 @@ use Rattle.zeus_model.specs.Scripts.{FitsScript, FitsStep, FitsValue}
 use Rattle.zeus_model.specs.Serial.{start_map}
 use Rattle.zeus_model.specs.Sound.{history_txs, replies_of, times}
 use Rattle.zeus_model.specs.World.{World, Event, events, start, tx_decl}
-use Rattle.machine_moves.specs.Scene.{scene}
+use Rattle.machine_moves.specs.SystemState.{system}
 use Rattle.machine_moves.proofs.Lists.{In-append, In-append_left, In-append_right}
 use Rattle.soundness.specs.History.{IsInOrder}
 use Rattle.soundness.specs.Telling.{Does, IsTold, ids_of, told_acks, told_points}
@@ -208,7 +208,7 @@ module _ (s : Script) (fits : FitsScript s) where
   })
 
   nodes : OneLineNodes (end_of s)
-  unfolding scene
+  unfolding system
   nodes = λ n. let all = lines in let last = all.ended in last.nodes n
 
   points-lines : lines_with 42 (report s) ≡ map printed_point (end_of s).book.points

@@ -26,14 +26,14 @@ use Rattle.zeus_model.specs.State.{no_slot, no_log}
 use Rattle.zeus_model.specs.Tables.{nth, below, where_true}
 use Rattle.zeus_model.specs.World.{World, Event, no_node, no_tx, node, start, start_node, start_copy, start_gather, link, posted, packets, happens, stepped, run, events, step_begin, begin_or_not, begin_refused, tried_at, deliver_or_not, received_at, ticked_at, stopped_at, view_or_not, view_refused, step_install, installed_at, nth_letter, all_posted, refuse_step}
 use Rattle.machine_moves.specs.Fits.{StepFits}
-use Rattle.machine_moves.specs.Scene.{scene, all_of}
+use Rattle.machine_moves.specs.SystemState.{system, all_of}
 use Rattle.machine_moves.proofs.Links.{In-to_link, sent-new}
 use Rattle.machine_moves.proofs.Lists.{In-nothing}
 use Rattle.machine_moves.proofs.Start.{start-config}
 use Rattle.machine_moves.proofs.Steps.{IsStep, step_is_moves}
-use Rattle.data_safety.specs.Story.{story}
-use Rattle.data_safety.proofs.RowsRuns.{moves_txs, start-txs}
-use Rattle.data_safety.proofs.RowsSteps.{step_is_story_moves}
+use Rattle.data_safety.specs.RunState.{run_state}
+use Rattle.data_safety.proofs.StepRuns.{moves_txs, start-txs}
+use Rattle.data_safety.proofs.StepMoves.{step_is_story_moves}
 use Rattle.soundness.proofs.Fitting.{fits-steps}
 use Rattle.soundness.proofs.Runs.{IsReached, start-reached, step-reached}
 use Rattle.printed_history.proofs.Lines.{lacks, is_line}
@@ -142,8 +142,8 @@ unsent c txs from to l =
     (nth-one_line (All (IsUnsent l)) [] (replicate c.nodes (replicate c.nodes [])) from (All-nil (IsUnsent l))
     (All-replicate (All (IsUnsent l)) c.nodes (replicate c.nodes []) (All-replicate (IsUnsent l) c.nodes [] none)))
 
-start-one_line : (c : Config) (txs : List TxDecl) → All (λ o. IsOneLine o.value) c.objects → OneLineScene (scene (start c txs))
-unfolding scene start
+start-one_line : (c : Config) (txs : List TxDecl) → All (λ o. IsOneLine o.value) c.objects → OneLineScene (system (start c txs))
+unfolding system start
 start-one_line c txs h = record {
   nodes = λ n. nth-one_line OneLineNode no_node (map (start_node c) (below c.nodes)) n no_node-one_line
       (All-map OneLineNode (start_node c) (below c.nodes) (All-each (λ k. OneLineNode (start_node c k)) (below c.nodes) (λ k. start_node-one_line c k h)));
@@ -165,14 +165,14 @@ packets-one_line links (l ∷ ls) h =
     (packets-one_line (posted links l) ls (All-tail (λ (k : Letter). OneLineBody k.body) l ls h))
 
 -- letters that were posted are of one line each
-sent-one_line : (w : World) (ls : List Letter) (new : World) → new.links ≡ all_posted w.links ls → OneLineScene (scene new) → All OneLinePacket (packets w.links ls)
-unfolding scene
+sent-one_line : (w : World) (ls : List Letter) (new : World) → new.links ≡ all_posted w.links ls → OneLineScene (system new) → All OneLinePacket (packets w.links ls)
+unfolding system
 sent-one_line w ls new is k =
     packets-one_line w.links ls (All-in (λ (l : Letter). OneLineBody l.body) ls
     (λ l i. k.letters l (subst (λ (links : List (List (List Letter))). In l (all_of (all_of links))) (sym is) (sent-new w.links ls l i))))
 
 abbrev SendsOneLine : Event → Type 0
-SendsOneLine e = OneLineScene (scene e.world) → All OneLinePacket e.sent
+SendsOneLine e = OneLineScene (system e.world) → All OneLinePacket e.sent
 
 begin-sends : (w : World) (k : ℕ) (a : Option Answer) → SendsOneLine (begin_or_not w k a)
 unfolding begin_or_not
@@ -211,18 +211,18 @@ step-sends w (Install n e) h =
 pub record OneLineRun (w : World) (steps : List Step) : Type 0 where
   pub ops : OneLineTxs (run w steps).txs
   pub txs : (run w steps).txs ≡ w.txs
-  pub ended : OneLineScene (scene (run w steps))
+  pub ended : OneLineScene (system (run w steps))
   pub sent : All (λ e. All OneLinePacket e.sent) (events w steps)
 
-run-one_line : (c : Config) (txs : List TxDecl) (steps : List Step) (w : World) → w.config ≡ c → w.txs ≡ txs → IsReached w → OneLineTxs txs → OneLineScene (scene w) → All (StepFits c txs) steps → OneLineRun w steps
+run-one_line : (c : Config) (txs : List TxDecl) (steps : List Step) (w : World) → w.config ≡ c → w.txs ≡ txs → IsReached w → OneLineTxs txs → OneLineScene (system w) → All (StepFits c txs) steps → OneLineRun w steps
 unfolding run events
 run-one_line c txs [] w config same r ops k fits = record { ops = subst OneLineTxs (sym same) ops; txs = refl; ended = k; sent = All-nil _ }
 run-one_line c txs (s ∷ ss) w config same r ops k fits =
     let first : StepFits c txs s = All-head (StepFits c txs) s ss fits in
     let moved : IsStep w (stepped w s) = step_is_moves w s txs r.usual (rw config first) in
     let moves = step_is_story_moves w s r.usual (rw (config, same) first) in
-    let kept : (stepped w s).txs ≡ w.txs = moves_txs (story w) (story (stepped w s)) moves in
-    let next : OneLineScene (scene (stepped w s)) = story_moves-one_line (story w) (story (stepped w s)) moves (subst OneLineTxs (sym same) ops) k in
+    let kept : (stepped w s).txs ≡ w.txs = moves_txs (run_state w) (run_state (stepped w s)) moves in
+    let next : OneLineScene (system (stepped w s)) = story_moves-one_line (run_state w) (run_state (stepped w s)) moves (subst OneLineTxs (sym same) ops) k in
     let rest = run-one_line c txs ss (stepped w s) (moved.config ∙ config) (kept ∙ same) (step-reached c txs w s config same r first) ops next (All-tail (StepFits c txs) s ss fits) in
     record { ops = rest.ops; txs = rest.txs ∙ kept; ended = rest.ended; sent = All-cons (λ (e : Event). All OneLinePacket e.sent) (happens w s) (events (stepped w s) ss) (step-sends w s next) rest.sent }
 

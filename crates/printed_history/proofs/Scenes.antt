@@ -18,12 +18,12 @@ use Rattle.zeus_model.specs.Ownership.{settle, gather_for, noted}
 use Rattle.zeus_model.specs.State.{Node, copy, gather, slot, log, with_copies, value_of}
 use Rattle.zeus_model.specs.Tables.{nth}
 use Rattle.zeus_model.specs.World.{no_tx}
-use Rattle.machine_moves.specs.Scene.{Scene, Changes, Same, Sends, nothing}
+use Rattle.machine_moves.specs.SystemState.{SystemState, Changes, Same, Sends, nothing}
 use Rattle.machine_moves.specs.Move.{Move, IsTellable, IsAboutProposal, own_kept, request, advice, placement, reported, own_entry, kept_entry, stored, own_passed, kept_passed, to_arbiter, to_collector, makes_view, stops, installs, tells, turns, settles, drives, accepts, redrives, gathers, decides, raises, stores, notes_own, notes_kept, passes_own, passes_kept, reports, hears, commits}
 use Rattle.machine_moves.specs.Plain.{IsPlain}
-use Rattle.data_safety.specs.Story.{Story}
-use Rattle.data_safety.specs.StoryMoves.{StoryMove, StoryMoves, plain, rests, begins, reads, refuses, commits_tx, passes_own_tx, passes_kept_tx, ended, onward}
-use Rattle.data_safety.proofs.RowsRuns.{move_txs}
+use Rattle.data_safety.specs.RunState.{RunState}
+use Rattle.data_safety.specs.RunMoves.{StoryMove, RunMoves, plain, stutters, begins, reads, refuses, commits_tx, passes_own_tx, passes_kept_tx, ended, onward}
+use Rattle.data_safety.proofs.StepRuns.{move_txs}
 use Rattle.printed_history.proofs.Nodes.{OneLineWrites, OneLineContent, OneLineGather, OneLineCurrent, OneLineKept, OneLinePending, OneLineNode, with_copies-one_line, with_gather-one_line, with_slot-one_line, with_log-one_line, each_write-one_line, rewritten_copy-one_line, pass_own-one_line, pass_kept-one_line, raise-one_line, store-one_line, nth-one_line, put-one_line, no_pending-one_line, no_kept-one_line, settle-one_line, bring-one_line, noted-one_line, own_content-one_line, dropped-one_line, value_of-one_line, new_writes-one_line}
 use Rattle.printed_history.proofs.Values.{OneLineOp, run-one_line}
 
@@ -33,25 +33,25 @@ OneLineBody (RInv r) = OneLineWrites r.writes
 OneLineBody (OAck x p content) = OneLineContent content
 OneLineBody _ = Unit {0}
 
-pub record OneLineScene (s : Scene) : Type 0 where
+pub record OneLineScene (s : SystemState) : Type 0 where
   pub nodes : (n : ℕ) → OneLineNode (s.node n)
   pub letters : (l : Letter) → In l s.letters → OneLineBody l.body
 
 -- ---- what a move does
 
-sent-one_line : (old new : Scene) (allowed : Letter → Type 0) → Sends old new allowed → OneLineScene old → ((l : Letter) → allowed l → OneLineBody l.body) → (l : Letter) → In l new.letters → OneLineBody l.body
+sent-one_line : (old new : SystemState) (allowed : Letter → Type 0) → Sends old new allowed → OneLineScene old → ((l : Letter) → allowed l → OneLineBody l.body) → (l : Letter) → In l new.letters → OneLineBody l.body
 sent-one_line old new allowed sends k fresh l i = elim (sends.only l i) [ inl before ↦ k.letters l before | inr now ↦ fresh l now ]
 
 nothing-one_line : (l : Letter) → nothing l → OneLineBody l.body
 nothing-one_line l h = absurd h
 
-pub same-one_line : (old new : Scene) → Same old new → OneLineScene old → OneLineScene new
+pub same-one_line : (old new : SystemState) → Same old new → OneLineScene old → OneLineScene new
 same-one_line old new same k = record {
   nodes = λ n. subst OneLineNode (sym (same.nodes n)) (k.nodes n);
   letters = sent-one_line old new nothing same.sends k nothing-one_line;
 }
 
-pub changed-one_line : (old new : Scene) (n : ℕ) (after : Node) (allowed : Letter → Type 0) → Changes old new n after allowed → OneLineScene old → OneLineNode after → ((l : Letter) → allowed l → OneLineBody l.body) → OneLineScene new
+pub changed-one_line : (old new : SystemState) (n : ℕ) (after : Node) (allowed : Letter → Type 0) → Changes old new n after allowed → OneLineScene old → OneLineNode after → ((l : Letter) → allowed l → OneLineBody l.body) → OneLineScene new
 changed-one_line old new n after allowed ch k here fresh = record {
   nodes = λ m. elim (cases_eq m n) [
     | inl same ↦ rw same (subst OneLineNode (sym ch.node) here)
@@ -84,12 +84,12 @@ said-one_line n x p l k (to_arbiter to a) = tt
 said-one_line n x p l k (to_collector to a b) = own_content-one_line n x p.base_place k
 
 -- what a letter that was sent says
-body-one_line : (s : Scene) (l : Letter) (b : Body) → OneLineScene s → In l s.letters → l.body ≡ b → OneLineBody b
+body-one_line : (s : SystemState) (l : Letter) (b : Body) → OneLineScene s → In l s.letters → l.body ≡ b → OneLineBody b
 body-one_line s l b k i is = subst OneLineBody is (k.letters l i)
 
 -- ---- each move of the machine that leaves current transactions alone
 
-pub move-one_line : (old new : Scene) (move : Move old new) → IsPlain old new move → OneLineScene old → OneLineScene new
+pub move-one_line : (old new : SystemState) (move : Move old new) → IsPlain old new move → OneLineScene old → OneLineScene new
 unfolding IsPlain OneLineBody OneLineGather OneLineContent
 move-one_line old new (makes_view set v) h k = record {
   nodes = λ n. subst OneLineNode (sym (v.nodes n)) (k.nodes n);
@@ -153,7 +153,7 @@ move-one_line old new (hears n m l a b c ch) h k =
     changed-one_line old new n _ nothing ch k (record { copies = o.copies; gathers = o.gathers; slots = o.slots; logs = o.logs }) nothing-one_line
 move-one_line old new (commits n s c a b d ch) h k = absurd h
 
--- ---- each move of a story
+-- ---- each move of a run_state
 
 -- the operations of the transactions have values of one line
 abbrev pub OneLineTxs : List TxDecl → Type 0
@@ -180,25 +180,25 @@ committed-one_line n s c followers is k =
     (record { current = tt; pending = All-push OneLinePending (slot n s).pending _ at.pending fresh })
     (with_copies-one_line n (each_write rewritten_copy n.copies writes) (each_write-one_line rewritten_copy n.copies writes rewritten_copy-one_line fresh k.copies) k)
 
-pub story_move-one_line : (old new : Story) → StoryMove old new → OneLineTxs old.txs → OneLineScene old.scene → OneLineScene new.scene
+pub story_move-one_line : (old new : RunState) → StoryMove old new → OneLineTxs old.txs → OneLineScene old.system → OneLineScene new.system
 unfolding OneLineCurrent
-story_move-one_line old new (plain move is txs book) ops k = move-one_line old.scene new.scene move is k
-story_move-one_line old new (rests same txs book steps) ops k = same-one_line old.scene new.scene same k
+story_move-one_line old new (plain move is txs book) ops k = move-one_line old.system new.system move is k
+story_move-one_line old new (stutters same txs book steps) ops k = same-one_line old.system new.system same k
 story_move-one_line old new (begins n s id c named tx at in_slot within fresh free ch txs book) ops k =
-    changed-one_line old.scene new.scene n (with_current (old.scene.node n) s (Some c)) nothing ch k
-    (current-one_line (old.scene.node n) s (Some c) (subst (λ (o : List Op). All OneLineOp o) (sym tx) (ops id)) (k.nodes n)) nothing-one_line
+    changed-one_line old.system new.system n (with_current (old.system.node n) s (Some c)) nothing ch k
+    (current-one_line (old.system.node n) s (Some c) (subst (λ (o : List Op). All OneLineOp o) (sym tx) (ops id)) (k.nodes n)) nothing-one_line
 story_move-one_line old new (reads n s c is reader none ch txs book) ops k =
-    changed-one_line old.scene new.scene n (with_current (old.scene.node n) s None) nothing ch k (current-one_line (old.scene.node n) s None no_current-one_line (k.nodes n)) nothing-one_line
+    changed-one_line old.system new.system n (with_current (old.system.node n) s None) nothing ch k (current-one_line (old.system.node n) s None no_current-one_line (k.nodes n)) nothing-one_line
 story_move-one_line old new (refuses n s c is reader ch txs book) ops k =
-    changed-one_line old.scene new.scene n (with_current (old.scene.node n) s None) nothing ch k (current-one_line (old.scene.node n) s None no_current-one_line (k.nodes n)) nothing-one_line
+    changed-one_line old.system new.system n (with_current (old.system.node n) s None) nothing ch k (current-one_line (old.system.node n) s None no_current-one_line (k.nodes n)) nothing-one_line
 story_move-one_line old new (commits_tx n s c within is writer none ch txs book) ops k =
-    changed-one_line old.scene new.scene n _ nothing ch k (committed-one_line (old.scene.node n) s c _ is (k.nodes n)) nothing-one_line
+    changed-one_line old.system new.system n _ nothing ch k (committed-one_line (old.system.node n) s c _ is (k.nodes n)) nothing-one_line
 story_move-one_line old new (passes_own_tx n s some passes ch txs book) ops k =
-    changed-one_line old.scene new.scene n (pass_own (old.scene.node n) s 1) nothing ch k (pass_own-one_line (old.scene.node n) s 1 (k.nodes n)) nothing-one_line
+    changed-one_line old.system new.system n (pass_own (old.system.node n) s 1) nothing ch k (pass_own-one_line (old.system.node n) s 1 (k.nodes n)) nothing-one_line
 story_move-one_line old new (passes_kept_tx n t out other some passes ch txs book) ops k =
-    changed-one_line old.scene new.scene n (pass_kept (old.scene.node n) t 1) nothing ch k (pass_kept-one_line (old.scene.node n) t 1 (k.nodes n)) nothing-one_line
+    changed-one_line old.system new.system n (pass_kept (old.system.node n) t 1) nothing ch k (pass_kept-one_line (old.system.node n) t 1 (k.nodes n)) nothing-one_line
 
-pub story_moves-one_line : (old new : Story) → StoryMoves old new → OneLineTxs old.txs → OneLineScene old.scene → OneLineScene new.scene
+pub story_moves-one_line : (old new : RunState) → RunMoves old new → OneLineTxs old.txs → OneLineScene old.system → OneLineScene new.system
 story_moves-one_line old new (ended _) ops k = k
 story_moves-one_line old new (onward _ mid _ move moves) ops k =
     story_moves-one_line mid new moves (subst OneLineTxs (sym (move_txs old mid move)) ops) (story_move-one_line old mid move ops k)
