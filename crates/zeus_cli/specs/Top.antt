@@ -5,6 +5,7 @@ use Rattle.zeus_io.specs.Bytes.{Takes, AppendsFront}
 use Rattle.zeus_model.specs.declared.script.Script.{Script}
 use Rattle.zeus_model.specs.ReportText.{report}
 use Rattle.zeus_model.specs.Scripts.{IsSpelled}
+use Rattle.printed_history.specs.Printed.{PrintsHistory}
 use Rattle.zeus_cli.specs.Refusal.{IsFaultLine}
 
 -- the line for words that the program does not know
@@ -44,11 +45,12 @@ pub record IsRefused (after : Option (List ℕ)) (text taken : List ℕ) : Type 
 abbrev pub IsRefusal : Option (List ℕ) → Option (List ℕ) → List ℕ → Type 0
 IsRefusal before after text = Takes before after (IsRefused after text)
 
--- a script was taken, and its report is this text
+-- a script was taken, and its report is this text, which prints the history of its run
 pub record IsReport (before after : Option (List ℕ)) (text : List ℕ) : Type 0 where
   pub script : Script
   pub taken : TakesScript before after script
   pub text_is : text ≡ report script
+  pub printed : PrintsHistory script text
 
 -- what is to be written, by whether the words ask to run a script
 unfoldable pub IsDueIf : Type 0 → Option (List ℕ) → Option (List ℕ) → List ℕ → Type 0

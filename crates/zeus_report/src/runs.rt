@@ -5,6 +5,7 @@ ghost use Rattle.zeus_model.specs.ReportText.{point_lines, event_text, steps_tex
 ghost use Rattle.zeus_model.specs.Scripts.{FitsScript, FitsStep};
 ghost use Rattle.zeus_model.specs.World.{happens, stepped, run};
 ghost use Rattle.soundness.specs.Promise.{KeepsPromise};
+ghost use Rattle.printed_history.specs.Printed.{PrintsHistory};
 ghost use Rattle.zeus_report.specs.Lines.{point_line, step_answer};
 
 use crate::answers::write_answer;
@@ -12,6 +13,7 @@ use crate::letters::write_packets;
 use crate::standing::write_final;
 use crate::steps::write_acked;
 use crate::words::write_reply;
+use printed_history::every_report_prints_its_history;
 use soundness::every_run_keeps_its_promise;
 use std::alloc::Global;
 use zeus_base::{NoMemory, Step, TxId};
@@ -121,9 +123,10 @@ fn write_report(alloc: Global, script: &Script, world: &mut World) -> Result<Vec
     Ok(out)
 }
 
-/// Runs a script: the report of the run as bytes, and the world that its steps lead to. The run keeps the whole promise of
-/// the theorem after each step: so the points, replies and acknowledgements that the report prints are those of one
-/// serial history.
+/// Runs a script: the report of the run as bytes, and the world that its steps lead to. The bytes print the history of the
+/// run: the lines that begin with `*` are its points, each with the reply that was answered, those that begin with `!` its
+/// acknowledgements, each once, and the line `history` has its transactions. The run keeps the whole promise of the theorem
+/// after each step: so this is one serial history.
 ///
 /// # Errors
 ///
@@ -131,11 +134,13 @@ fn write_report(alloc: Global, script: &Script, world: &mut World) -> Result<Vec
 pub fn report(alloc: Global, script: &Script) -> Result<(Vec<u8>, World), NoMemory>
     requires { FitsScript script.now }
     ensures text { IfOk result (λ run. run.0.items ≡ report script.now) }
+    ensures printed { IfOk result (λ run. PrintsHistory script.now run.0.items) }
     ensures world { IfOk result (λ done. done.1 ≡ run (start_of script.now) script.now.steps) }
     ensures promise { (k : ℕ) → KeepsPromise (start_of script.now) (take k script.now.steps) }
 {
-    // The theorem over every run. The call does nothing.
+    // The theorem over every run, and the law over every report. The calls do nothing.
     every_run_keeps_its_promise();
+    every_report_prints_its_history();
     let mut world = World::start(alloc, &script.config, &script.txs)?;
     let text = write_report(alloc, script, &mut world)?;
     Ok((text, world))

@@ -1,0 +1,9 @@
+pub mod Lines
+pub mod Values
+pub mod Nodes
+pub mod Systems
+pub mod Pieces
+pub mod Texts
+pub mod Runs
+pub mod Reports
+pub mod Reading
