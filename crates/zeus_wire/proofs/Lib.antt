@@ -1,7 +1,7 @@
 pub mod Booleans
 pub mod Sets
 pub mod Texts
-pub mod Writes
+pub mod WriteLists
 pub mod Room
 pub mod Numbers
 pub mod Fields

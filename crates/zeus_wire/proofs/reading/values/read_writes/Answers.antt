@@ -2,7 +2,7 @@ use Rattle.std.proofs.Common.{◌≡◌, Err, Ok, arith}
 use Rattle.std.proofs.lemmas.Result.{err_from_is_err_and}
 use Rattle.std.proofs.lemmas.List.{length_push}
 use Rattle.zeus_wire.specs.Reading.{write_at}
-use Rattle.zeus_wire.proofs.Writes.{goes_on, ends, is_done}
+use Rattle.zeus_wire.proofs.WriteLists.{goes_on, ends, is_done}
 use Rattle.zeus_wire.proofs.reading.values.read_writes.Goals as goal
 
 pub returns-in_err-write : goal.returns-in_err-write
