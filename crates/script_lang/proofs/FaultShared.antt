@@ -16,14 +16,14 @@ use Rattle.script_lang.proofs.ReadComplete.{text_taken}
 
 -- ---- lines that are shown alike
 
-not_ended : (p q rest : List ℕ) → Lacks 10 p → p ≡ q ++ 10 ∷ rest → ⊥
+pub not_ended : (p q rest : List ℕ) → Lacks 10 p → p ≡ q ++ 10 ∷ rest → ⊥
 unfolding Lacks
 not_ended [] [] rest h e = cc
 not_ended [] (c ∷ q) rest h e = cc
 not_ended (b ∷ p) [] rest h e = let first : b ≡ 10 = cc in h.0 first
 not_ended (b ∷ p) (c ∷ q) rest h e = let others : p ≡ q ++ 10 ∷ rest = cc in not_ended p q rest h.1 others
 
-same_line : (p q xs ys : List ℕ) → Lacks 10 p → Lacks 10 q → p ++ 10 ∷ xs ≡ q ++ 10 ∷ ys → (p ≡ q) × (xs ≡ ys)
+pub same_line : (p q xs ys : List ℕ) → Lacks 10 p → Lacks 10 q → p ++ 10 ∷ xs ≡ q ++ 10 ∷ ys → (p ≡ q) × (xs ≡ ys)
 unfolding Lacks
 same_line [] [] xs ys h g e = (refl, cc)
 same_line [] (c ∷ q) xs ys h g e = let first : c ≡ 10 = cc in absurd (g.0 first)
@@ -35,11 +35,11 @@ same_line (b ∷ p) (c ∷ q) xs ys h g e =
     let same : p ≡ q = rest.0 in
     (cc, rest.1)
 
-is_none : List ℕ → Bool
+pub is_none : List ℕ → Bool
 is_none [] = true
 is_none (b ∷ bs) = false
 
-is_last-shown : (n : ℕ) (q : List ℕ) (ps : List (List ℕ)) → is_last (q ∷ ps) ≡ is_none (shown (suc n) (q ∷ ps))
+pub is_last-shown : (n : ℕ) (q : List ℕ) (ps : List (List ℕ)) → is_last (q ∷ ps) ≡ is_none (shown (suc n) (q ∷ ps))
 unfolding is_last is_none shown
 is_last-shown n [] [] = refl
 is_last-shown n (b ∷ q) [] = refl

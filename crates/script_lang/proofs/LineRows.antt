@@ -45,7 +45,7 @@ keyword_choice R T keyword w ws so other same true e =
     tells_ok T (tt, ws) _ (passes R T keyword ws (ap (λ (v : List ℕ). first_fault R (v ∷ ws)) (sym is) ∙ so) same)
 keyword_choice R T keyword w ws so other same false e = tells_err T kinds.Word _ (stops R T w ws so kinds.Word (other w e))
 
-keyword_told : (R : Rows) (T : Option Kind) (keyword : List ℕ) (ws : List (List ℕ)) → first_fault R ws ≡ T → R [] None ≡ Some kinds.Word → ((v : List ℕ) → bytes_eq v keyword ≡ false → R [] (Some v) ≡ Some kinds.Word) → R [] (Some keyword) ≡ None
+pub keyword_told : (R : Rows) (T : Option Kind) (keyword : List ℕ) (ws : List (List ℕ)) → first_fault R ws ≡ T → R [] None ≡ Some kinds.Word → ((v : List ℕ) → bytes_eq v keyword ≡ false → R [] (Some v) ≡ Some kinds.Word) → R [] (Some keyword) ≡ None
     → Tells T (keyword_at keyword ws) (λ x. first_fault (next R keyword) x.1 ≡ T)
 unfolding keyword_at
 keyword_told R T keyword ws so none other same =

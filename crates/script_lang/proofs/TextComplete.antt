@@ -79,11 +79,11 @@ cut-lines_text (l ∷ ls) h =
 -- ---- the words of a script are printed
 
 -- whether each byte is above a space
-abbrev printed : List ℕ → Bool
+abbrev pub printed : List ℕ → Bool
 printed [] = true
 printed (b ∷ bs) = nat_le 33 b && printed bs
 
-from_test : (w : List ℕ) → printed w ≡ true → IsPrinted w
+pub from_test : (w : List ℕ) → printed w ≡ true → IsPrinted w
 from_test [] h = tt
 from_test (b ∷ bs) h = go (nat_le 33 b) (printed bs) refl refl h (from_test bs)
   where
@@ -101,7 +101,7 @@ digits_printed (b ∷ bs) h = go (is_ascii_digit b) (all_ascii_digits bs) refl r
     go true false e f g rest = absurd cc
     go false u e f g rest = absurd cc
 
-decimal_printed : (n : ℕ) → n < 2 ^ 64 → IsPrinted (decimal n)
+pub decimal_printed : (n : ℕ) → n < 2 ^ 64 → IsPrinted (decimal n)
 decimal_printed n lt = digits_printed (decimal n) (digits_decimal own n lt)
 
 weaken : {A : Type 0} (P Q : A → Type 0) → ((x : A) → P x → Q x) → (xs : List A) → AllByRecursion P xs → AllByRecursion Q xs
@@ -122,7 +122,7 @@ unfolding FitsValue value_text
 value_printed version (Num n) h = decimal_printed n h
 value_printed version (Text bytes) h = (omega arith, weaken (λ b. (33 ≤ b) × (b ≤ 126)) (λ b. 33 ≤ b) (λ b p. p.0) bytes (recursion_from_All (λ b. (33 ≤ b) × (b ≤ 126)) bytes h.1.2))
 
-nodes_printed : (b : ℕ) (ns : List ℕ) → b ≤ 8 → IsBelow b ns → AllByRecursion IsPrinted (map decimal ns)
+pub nodes_printed : (b : ℕ) (ns : List ℕ) → b ≤ 8 → IsBelow b ns → AllByRecursion IsPrinted (map decimal ns)
 nodes_printed b [] le h = tt
 nodes_printed b (n ∷ ns) le h =
     let lt : n < b = h n (has-head n ns) in

@@ -1,5 +1,6 @@
 pub mod Cut
 pub mod Drafts
+pub mod Following
 pub mod Gathered
 pub mod Lines
 pub mod Live
@@ -12,5 +13,6 @@ pub mod Operations
 pub mod Reading
 pub mod Reads
 pub mod Steps
+pub mod Texts
 pub mod Transactions
 pub mod Values

@@ -20,7 +20,10 @@ mod transactions;
 mod words;
 
 pub use fault_law::other_bytes_have_one_fault;
+pub use parts::Parts;
 pub use print::print_script;
-pub use reader::read_script;
+pub use reader::{MOST_BYTES, is_last, read_script, unended};
 pub use reading::ReadScript;
+pub use stage::Failure;
+pub use words::NodeRule;
 pub use zeus_model::{Kind, Name, Names, Script, ScriptFault};

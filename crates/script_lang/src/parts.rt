@@ -6,7 +6,7 @@ use std::marker::Model;
 
 /// The parts that are left of bytes that are cut at each separator, seen as their list.
 #[derive(Drop)]
-pub(crate) struct Parts<'a> {
+pub struct Parts<'a> {
     separator: u8,
     left: Option<&'a [u8]>,
 }
@@ -36,7 +36,7 @@ fn cut_once(bytes: &[u8], separator: u8) -> (&[u8], Option<&[u8]>)
 impl<'a> Parts<'a> {
     /// All parts of the bytes.
     #[tactic(auto, unfolding(crate::specs::Cut::parts_left))]
-    pub(crate) fn new(bytes: &'a [u8], separator: u8) -> Self
+    pub fn new(bytes: &'a [u8], separator: u8) -> Self
         ensures { result ≡ cut separator bytes.now }
     {
         Parts {
@@ -47,7 +47,7 @@ impl<'a> Parts<'a> {
 
     /// The next part, where one is left.
     #[tactic(auto, unfolding(crate::specs::Cut::parts_left))]
-    pub(crate) fn next_part(&mut self) -> Option<&'a [u8]>
+    pub fn next_part(&mut self) -> Option<&'a [u8]>
         ensures { IsNextPart result self.old self.new }
     {
         let Some(left) = self.left else {
@@ -71,7 +71,7 @@ impl<'a> Parts<'a> {
 
     /// Whether no part is left.
     #[tactic(auto, using(crate::proofs::Cutting::cut_not_none), unfolding(crate::specs::Cut::parts_left))]
-    pub(crate) fn is_done(&self) -> bool
+    pub fn is_done(&self) -> bool
         ensures { IsTrue result ↔ (self.now ≡ []) }
     {
         match self.left {

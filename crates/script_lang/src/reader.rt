@@ -20,7 +20,7 @@ use zeus_model::{Kind, Script, ScriptFault};
 use zeus_txn::TxList;
 
 /// The most bytes of a script.
-const MOST_BYTES: usize = 4_194_304;
+pub const MOST_BYTES: usize = 4_194_304;
 
 /// Takes the line of this number; whether it was the last one.
 fn take_line(draft: &mut Draft, live: bool, number: u32, line: &[u8]) -> Result<bool, ReadScript>
@@ -35,7 +35,7 @@ fn take_line(draft: &mut Draft, live: bool, number: u32, line: &[u8]) -> Result<
 
 /// Whether nothing stands behind the last line.
 #[tactic(auto, unfolding(crate::specs::Reading::is_last))]
-fn is_last(rest: &mut Parts) -> bool
+pub fn is_last(rest: &mut Parts) -> bool
     ensures { result ≡ is_last rest.old }
 {
     match rest.next_part() {
@@ -46,7 +46,7 @@ fn is_last(rest: &mut Parts) -> bool
 
 /// What is wrong with a part that no byte 10 ends: there is none, or it is not ended.
 #[tactic(auto, unfolding(crate::specs::Reading::unended))]
-fn unended(part: &[u8]) -> Kind
+pub fn unended(part: &[u8]) -> Kind
     ensures { result ≡ unended part.now }
 {
     if part.is_empty() {

@@ -24,8 +24,10 @@ pub(crate) enum Stage {
 
 /// Why a line was not taken.
 #[derive(Debug, Drop)]
-pub(crate) enum Failure {
+pub enum Failure {
+    /// A word of it does not fit.
     Kind(Kind),
+    /// Memory was wanting.
     NoMemory,
 }
 

@@ -111,7 +111,7 @@ fn is_owner(owner: Option<NodeId>, node: NodeId) -> bool
 
 /// What a list of nodes keeps.
 #[derive(Clone, Copy, Debug)]
-pub(crate) struct NodeRule {
+pub struct NodeRule {
     /// How many nodes there are.
     pub nodes: u8,
     /// How many may be listed, where that is bounded.
@@ -139,7 +139,7 @@ fn listed_of(word: &[u8], rule: &NodeRule, listed: NodeSet, lowest: u8) -> Resul
 impl<'a> Parts<'a> {
     /// The next word.
     #[tactic(auto, unfolding(crate::specs::Reads::word_at))]
-    pub(crate) fn word(&mut self) -> Result<&'a [u8], Kind>
+    pub fn word(&mut self) -> Result<&'a [u8], Kind>
         ensures { ReadsWord result self.new (word_at self.old) }
     {
         match self.next_part() {
@@ -150,7 +150,7 @@ impl<'a> Parts<'a> {
 
     /// Whether the line ends here.
     #[tactic(auto, unfolding(crate::specs::Reads::ended))]
-    pub(crate) fn end(&mut self) -> Result<(), Kind>
+    pub fn end(&mut self) -> Result<(), Kind>
         ensures { result ≡ ended self.old }
     {
         match self.next_part() {
@@ -172,7 +172,7 @@ impl<'a> Parts<'a> {
 
     /// The next word as a number from the lowest on and below the limit.
     #[tactic(auto, unfolding(crate::specs::Numbers::range_at))]
-    pub(crate) fn number_in(&mut self, lowest: u64, limit: u64) -> Result<u64, Kind>
+    pub fn number_in(&mut self, lowest: u64, limit: u64) -> Result<u64, Kind>
         ensures number { Reads result self.new (range_at lowest limit self.old) }
         ensures range { IfOk result (λ n. (lowest ≤ n) × (n < limit)) }
     {
@@ -188,7 +188,7 @@ impl<'a> Parts<'a> {
     }
 
     /// The next word as a node of so many.
-    pub(crate) fn node(&mut self, nodes: u8) -> Result<NodeId, Kind>
+    pub fn node(&mut self, nodes: u8) -> Result<NodeId, Kind>
         requires { nodes ≤ 8 }
         ensures number { Reads result self.new (range_at 0 nodes self.old) }
         ensures range { IfOk result (λ n. n < nodes) }
@@ -206,7 +206,7 @@ impl<'a> Parts<'a> {
     }
 
     /// The nodes of a list, to the end of the line.
-    pub(crate) fn nodes(&mut self, rule: &NodeRule) -> Result<NodeSet, Kind>
+    pub fn nodes(&mut self, rule: &NodeRule) -> Result<NodeSet, Kind>
         requires { rule.now.nodes ≤ 8 }
         ensures { result ≡ nodes_after rule.now.nodes rule.now.most rule.now.owner [] 0 self.old }
     {
@@ -236,7 +236,7 @@ impl<'a> Parts<'a> {
 
     /// Takes the next word, which is to be this keyword.
     #[tactic(auto, unfolding(crate::specs::Reads::keyword_at))]
-    pub(crate) fn keyword(&mut self, keyword: &[u8]) -> Result<(), Kind>
+    pub fn keyword(&mut self, keyword: &[u8]) -> Result<(), Kind>
         ensures { Reads result self.new (keyword_at keyword.now self.old) }
     {
         if self.word()? == keyword {
