@@ -38,14 +38,14 @@ one_row o d ws i j k l h g =
     one e f = let both : Some k ≡ Some l = sym e ∙ f in cc
 
 -- a kind is one of a line, or that of the size, or one of a word
-data Sort (k : Kind) : Type 0 where
+pub data Sort (k : Kind) : Type 0 where
   missing : k ≡ kinds.Missing → Sort k
   line_end : k ≡ kinds.LineEnd → Sort k
   extra : k ≡ kinds.Extra → Sort k
   size : k ≡ kinds.Size → Sort k
   word : IsOfWord k → Sort k
 
-sort : (k : Kind) → Sort k
+pub sort : (k : Kind) → Sort k
 unfolding IsOfWord
 sort kinds.Missing = missing refl
 sort kinds.LineEnd = line_end refl

@@ -1,6 +1,7 @@
 -- Clocks that go on, and the arithmetic of their ratio.
 use Rattle.std.proofs.Common.{◌≡◌, ℕ, zero, suc, ◌+◌, ◌*◌, ◌/◌, ◌<◌, ◌≤◌, Bool, true, false, List, [], ◌∷◌, length, Option, Some, None, refl, sym, ap, ◌∙◌, arith}
 use Rattle.std.specs.Prelude.{◌||◌, ◌==◌, nat_lt}
+use Rattle.std.proofs.Math.ListN.{set}
 use Rattle.std.proofs.lemmas.Bool.{ltb-false}
 use Rattle.std.proofs.lemmas.Bool.Decides.{nat_tests}
 use Rattle.zeus_base.specs.Nodes.{has}
@@ -121,3 +122,45 @@ pub wait_is_long : (len q : ℕ) → q * len ≤ 100 * ((len * q + 99) / 100)
 wait_is_long len q =
     let same : q * len ≡ len * q = grind arith in
     omega arith
+
+-- ---- one node after another
+
+-- the clocks of the first nodes have gone on
+unfoldable pub front_on : ℕ → List Node → List ℕ → List Node
+front_on zero ns ts = ns
+front_on (suc k) [] ts = []
+front_on (suc k) (n ∷ ns) [] = n ∷ ns
+front_on (suc k) (n ∷ ns) (t ∷ ts) = record n { clock = n.clock + t } ∷ front_on k ns ts
+
+pub length-front_on : (k : ℕ) (ns : List Node) (ts : List ℕ) → length (front_on k ns ts) ≡ length ns
+unfolding front_on
+length-front_on zero ns ts = refl
+length-front_on (suc k) [] ts = refl
+length-front_on (suc k) (n ∷ ns) [] = refl
+length-front_on (suc k) (n ∷ ns) (t ∷ ts) = ap suc (length-front_on k ns ts)
+
+-- the next one has not
+pub front_on-here : (k : ℕ) (ns : List Node) (ts : List ℕ) → nth no_node (front_on k ns ts) k ≡ nth no_node ns k
+unfolding front_on nth
+front_on-here zero ns ts = refl
+front_on-here (suc k) [] ts = refl
+front_on-here (suc k) (n ∷ ns) [] = refl
+front_on-here (suc k) (n ∷ ns) (t ∷ ts) = front_on-here k ns ts
+
+pub front_on-next : (k : ℕ) (ns : List Node) (ts : List ℕ) → k < length ns → k < length ts
+    → set (front_on k ns ts) k (record (nth no_node ns k) { clock = (nth no_node ns k).clock + nth 0 ts k }) ≡ front_on (suc k) ns ts
+unfolding front_on nth
+front_on-next zero [] ts h g = absurd (omega arith)
+front_on-next zero (n ∷ ns) [] h g = absurd (omega arith)
+front_on-next zero (n ∷ ns) (t ∷ ts) h g = refl
+front_on-next (suc k) [] ts h g = absurd (omega arith)
+front_on-next (suc k) (n ∷ ns) [] h g = absurd (omega arith)
+front_on-next (suc k) (n ∷ ns) (t ∷ ts) h g = ap (λ (l : List Node). record n { clock = n.clock + t } ∷ l) (front_on-next k ns ts (omega arith) (omega arith))
+
+pub front_on-all : (k : ℕ) (ns : List Node) (ts : List ℕ) → length ns ≤ k → front_on k ns ts ≡ went_on ns ts
+unfolding front_on went_on
+front_on-all zero [] ts h = refl
+front_on-all zero (n ∷ ns) ts h = absurd (omega arith)
+front_on-all (suc k) [] ts h = refl
+front_on-all (suc k) (n ∷ ns) [] h = refl
+front_on-all (suc k) (n ∷ ns) (t ∷ ts) h = ap (λ (l : List Node). record n { clock = n.clock + t } ∷ l) (front_on-all k ns ts (omega arith))

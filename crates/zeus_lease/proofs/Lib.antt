@@ -1,3 +1,12 @@
 pub mod Clocks
+pub mod FaultLaw
+pub mod Followed
+pub mod Language
+pub mod LineFits
+pub mod LineRows
+pub mod LinesRead
+pub mod LinesSay
+pub mod Ranges
 pub mod Safe
+pub mod Searching
 pub mod Views

@@ -5,7 +5,7 @@ ghost use Rattle.zeus_base.specs.declared.step.Step.TheVariants.{View as ViewSte
 ghost use Rattle.zeus_model.specs.Tables.{nth};
 ghost use Rattle.zeus_model.specs.World.{happens as world_does, last_view};
 ghost use Rattle.zeus_lease.specs.Kept.{IsKept, shown};
-ghost use Rattle.zeus_lease.specs.Machine.{act, act_by, ask, hear, is_skewed, may_act, no_node, node, pass_or_not, seen, skew, skewed_beside, start, take, take_by, view, wait, went_on};
+ghost use Rattle.zeus_lease.specs.Machine.{act, act_by, ask, hear, is_below_end, is_skewed, may_act, no_node, node, pass_or_not, seen, skew, skewed_beside, start, take, take_by, view, wait, went_on};
 ghost use Rattle.zeus_lease.specs.Scripts.{FitsNumbers};
 ghost use Rattle.zeus_lease.specs.declared.answer.LeaseAnswer.TheVariants.{Skewed};
 
@@ -109,6 +109,17 @@ fn later(end: Option<u64>, other: u64) -> u64
     match end {
         None => other,
         Some(end) => end.max(other),
+    }
+}
+
+/// Whether a clock is below an end, if there is one.
+#[tactic(auto, unfolding(crate::specs::Machine::is_below_end))]
+fn is_below_end(clock: u64, end: Option<u64>) -> bool
+    ensures { result ≡ is_below_end clock end }
+{
+    match end {
+        None => false,
+        Some(end) => clock < end,
     }
 }
 
@@ -254,19 +265,13 @@ impl State {
     }
 
     /// Whether the node may act.
-    #[tactic(auto, unfolding(crate::specs::Machine::may_act, crate::specs::Machine::is_below_end))]
+    #[tactic(auto, unfolding(crate::specs::Machine::may_act))]
     pub(crate) fn may_act(&self, node: NodeId) -> bool
         requires node { node < length self.now.nodes.items }
         ensures { result ≡ may_act (shown self.now) node }
     {
-        if self.ended.has(node) {
-            return false;
-        }
-        let node = &self.nodes[node.place()];
-        match node.end {
-            None => false,
-            Some(end) => node.clock < end,
-        }
+        let Node { clock, end, .. } = self.nodes[node.place()];
+        !self.ended.has(node) && is_below_end(clock, end)
     }
 
     /// The nodes that count as stopped for the service.
