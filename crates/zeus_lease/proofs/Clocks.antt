@@ -64,15 +64,14 @@ has-numbers_from i zero k le lt = absurd (omega arith)
 has-numbers_from i (suc n) k le lt = grind (arith, nat_tests, has-numbers_from (suc i) n k)
 
 pub none_of : {A : Type 0} (f : ℕ → Option A) (k : ℕ) (xs : List ℕ) → first_of f xs ≡ None → has k xs ≡ true → f k ≡ None
-unfolding first_of has
+unfolding first_of has or_else
 none_of f k [] none h = absurd cc
 none_of f k (x ∷ xs) none h = go (f x) refl none (none_of f k xs)
   where
     go : (o : Option _) → f x ≡ o → or_else o (first_of f xs) ≡ None → (first_of f xs ≡ None → has k xs ≡ true → f k ≡ None) → f k ≡ None
-    unfolding or_else
     go o e g rest = grind (arith, nat_tests)
 
-none_where : {A : Type 0} (b : Bool) (a : A) → where_true b a ≡ None → b ≡ false
+pub none_where : {A : Type 0} (b : Bool) (a : A) → where_true b a ≡ None → b ≡ false
 unfolding where_true
 none_where true a h = absurd cc
 none_where false a h = refl
@@ -81,8 +80,8 @@ none_where false a h = refl
 pub keeps_ratio : (percent : ℕ) (ticks : List ℕ) (clocks fast slow : ℕ) → skew percent ticks clocks ≡ None → fast < clocks → slow < clocks → 100 * nth 0 ticks fast ≤ (100 + percent) * nth 0 ticks slow
 unfolding skew skewed_beside is_skewed
 keeps_ratio percent ticks clocks fast slow none f s =
-    let beside : skewed_beside percent ticks clocks fast ≡ None = none_of (skewed_beside percent ticks clocks) fast (below clocks) none (has-numbers_from 0 clocks fast (omega arith) f) in
-    let row = none_of _ slow (below clocks) beside (has-numbers_from 0 clocks slow (omega arith) s) in
+    let beside : skewed_beside percent ticks clocks fast ≡ None = none_of (skewed_beside percent ticks clocks) fast (below clocks) none (has-numbers_from 0 clocks fast (omega arith) (omega (arith, f))) in
+    let row = none_of _ slow (below clocks) beside (has-numbers_from 0 clocks slow (omega arith) (omega (arith, s))) in
     ltb-false _ _ (none_where _ _ row)
 
 -- ---- the ratio

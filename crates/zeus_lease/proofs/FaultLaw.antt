@@ -150,7 +150,7 @@ returned bytes (Err errors.NoMemory) h f e = absurd cc
 -- ---- what is read is spelled so
 
 script_read-sound : (bytes : List ℕ) (s : LeaseScript) → script_read bytes ≡ Ok s → IsSpelled bytes s
-unfolding script_read
+unfolding script_read scripted spelling
 script_read-sound bytes s h = go (nat_lt 4194304 (length bytes)) refl h
   where
     go : (b : Bool) → nat_lt 4194304 (length bytes) ≡ b → cond b (Err (fault_at 0 kinds.Size)) (scripted (followed taken start 1 (cut 10 bytes))) ≡ Ok s → IsSpelled bytes s
@@ -158,7 +158,6 @@ script_read-sound bytes s h = go (nat_lt 4194304 (length bytes)) refl h
     go false e f = read (followed taken start 1 (cut 10 bytes)) refl f
       where
         read : (r : Result State ScriptFault) → followed taken start 1 (cut 10 bytes) ≡ r → scripted r ≡ Ok s → IsSpelled bytes s
-        unfolding scripted spelling
         read (Err k) g i = absurd cc
         read (Ok t) g i =
             let both = read_sound Fits Whole lines all taken start IsScriptText leases bytes t g in
@@ -178,7 +177,7 @@ script_read-complete bytes s spelled =
     rw (le-ltb 4194304 (length bytes) spelled.few_bytes, read) (ap (λ (x : LeaseScript). Ok x) (script_is s))
 
 pub read_only : (bytes : List ℕ) (r : Result LeaseScript ReadScript) → ReadsScript r (script_read bytes) → (s : LeaseScript) → IsSpelled bytes s → ReadsScript r (Ok s)
-read_only bytes r h s spelled = rw (script_read-complete bytes s spelled) at h h
+read_only bytes r h s spelled = rw (script_read-complete bytes s spelled) at h
 
 -- ---- the law
 
@@ -216,7 +215,7 @@ module _ (bytes : List ℕ) where
   faulty : IsErr (script_read bytes) → ¬ SpellsScript bytes
   faulty h text =
       let read : script_read bytes ≡ Ok text.script = script_read-complete bytes text.script text.spelled in
-      let no : false ≡ true = rw read at h h in cc
+      let no : false ≡ true = rw read at h in cc
 
   -- reading gives a fault of other bytes, and there is no other fault
   pub other_bytes : ¬ SpellsScript bytes → IsErr (script_read bytes) × HasOneFault bytes

@@ -71,12 +71,11 @@ all_lines s at = subst (λ (k : Stage). all s ≡ lines_at k s ++ (codes "end" �
 -- ---- the first lines
 
 version_after-sound : (ws : List (List ℕ)) → IfRead (version_after ws) (λ _. ws ≡ version_line)
-unfolding version_after
+unfolding version_after ended
 version_after-sound ws =
     read_bind _ _ _ (keyword_at-sound (codes "leases") ws) (λ a p. read_bind _ _ _ (keyword_at-sound (codes "1") a.1) (λ b q. made b.1 p q (ended-sound b.1)))
   where
     made : {front : List (List ℕ)} (rest : List (List ℕ)) → ws ≡ codes "leases" ∷ front → front ≡ codes "1" ∷ rest → IfRead (ended rest) (λ _. rest ≡ []) → IfRead (ended rest) (λ _. ws ≡ version_line)
-    unfolding ended
     made [] p q h = read_ok _ _ (p ∙ ap (λ (xs : List (List ℕ)). codes "leases" ∷ xs) q)
     made (w ∷ rest) p q h = read_err _ _
 
@@ -84,7 +83,7 @@ number_after-sound : (keyword : List ℕ) (lowest limit : ℕ) (ws : List (List 
 unfolding number_after
 number_after-sound keyword lowest limit ws =
     read_bind _ _ _ (keyword_at-sound keyword ws) (λ a p. read_bind _ _ _ (range_at-sound lowest limit a.1) (λ n q. read_bind _ _ _ (ended-sound n.1) (λ _ e.
-    read_ok _ _ (rw (q.0, e) at p p, q.2, q.3))))
+    read_ok _ _ (rw (q.0, e) at p, q.2, q.3))))
 
 -- ---- steps
 
@@ -210,7 +209,7 @@ module _ (s : State) (ws : List (List ℕ)) where
   percent_goes at fits =
       read_bind _ _ _ (number_after-sound (codes "percent") 0 101 ws) (λ n p.
       let none : s.steps ≡ [] = fits.4 in
-      read_ok _ _ (record { stage = refl; numbers = record { nodes = (fits.0, fits.1); term = (fits.2, fits.3); percent = omega (arith, p.2) }; steps = rw none tt; few = rw none (omega arith) },
+      read_ok _ _ (record { stage = refl; numbers = record { few = (fits.0, fits.1); long = (fits.2, fits.3); close = omega (arith, p.2) }; steps = rw none tt; few = rw none (omega arith) },
       subst (λ (k : Stage). head_lines (record s { percent = n }) ++ map step_words s.steps ≡ lines_at k s ++ ws ∷ []) (sym at)
       (rw none (ap (λ (l : List (List ℕ)). version_line ∷ number_line (codes "nodes") s.nodes ∷ number_line (codes "length") s.length ∷ l ∷ []) (sym p.0)))))
 

@@ -66,7 +66,7 @@ module _ (d : Said) (T : Option Kind) (keyword : List ℕ) (ws : List (List ℕ)
   unfolding number_after behind tail_place
   number_told lowest limit form =
       tells_bind T _ _ _ first_told (λ a p.
-      let rows : first_fault (rows_of d.nodes record { wants = Number lowest limit ∷ []; tail = Ends }) a.1 ≡ T = rw form at p p in
+      let rows : first_fault (rows_of d.nodes record { wants = Number lowest limit ∷ []; tail = Ends }) a.1 ≡ T = rw form at p in
       tells_bind T _ _ _ (range_told (rows_of d.nodes record { wants = Number lowest limit ∷ []; tail = Ends }) T a.1 rows lowest limit (λ u. refl)) (λ n q.
       tells_bind T _ _ _ (ended_told (next (rows_of d.nodes record { wants = Number lowest limit ∷ []; tail = Ends }) q.word) T n.1 q.so (λ u. refl)) (λ e t.
       tells_ok T _ _ tt)))
@@ -168,31 +168,30 @@ module _ (d : Said) (T : Option Kind) (words_are : d.next ≡ codes "end" ∷ st
 
   module _ (s : State) (nodes : d.nodes ≡ s.nodes) (count : d.steps ≡ length s.steps) where
     step_taken_told : (k : StepWord) (ws : List (List ℕ)) → first_fault (line_rows d) (step_text k ∷ ws) ≡ T → Tells T (step_taken s k ws) Any
-    unfolding step_taken
+    unfolding step_taken where_true
     step_taken_told k ws so = go (length s.steps == 50000) (step_row k ∙ rw count refl)
       where
         go : (b : Bool) → row d [] (Some (step_text k)) ≡ where_true b kinds.Long → Tells {A = Bool × State} T (cond b (Err kinds.Long) (step_at s.nodes k ws >>= λ t. Ok (false, record s { steps = s.steps ++ t ∷ [] }))) Any
-        unfolding where_true
         go true met = tells_err T kinds.Long _ (stops (line_rows d) T (step_text k) ws so kinds.Long met)
         go false met =
             let behind = sym (behind_first d (step_text k) ws) ∙ passes (line_rows d) T (step_text k) ws so met in
             let rows : first_fault (step_rows s.nodes k) ws ≡ T = subst (λ (n : ℕ). first_fault (step_rows n k) ws ≡ T) nodes behind in
             tells_bind T _ _ _ (step_told s.nodes T k ws rows) (λ t p. tells_ok T _ _ tt)
 
+    end_told : (w : List ℕ) (ws : List (List ℕ)) → first_fault (line_rows d) (w ∷ ws) ≡ T → bytes_eq w (codes "end") ≡ true → Tells {A = Bool × State} T (ended ws >>= λ e. Ok (true, s)) Any
+    unfolding all_forms
+    end_told w ws so e =
+        let is : w ≡ codes "end" = bytes_eq-true w (codes "end") e in
+        let behind = sym (behind_first d (codes "end") ws) ∙ passes (line_rows d) T (codes "end") ws (ap (λ (v : List ℕ). first_fault (line_rows d) (v ∷ ws)) (sym is) ∙ so) end_row in
+        tells_bind T _ _ _ (ended_told (rows_of d.nodes record { wants = []; tail = Ends }) T ws behind (λ u. refl)) (λ x p. tells_ok T _ _ tt)
+
     step_line_told : (w : List ℕ) (ws : List (List ℕ)) → first_fault (line_rows d) (w ∷ ws) ≡ T → Tells T (step_line_taken s w ws) Any
     unfolding step_line_taken
     step_line_told w ws so = go (bytes_eq w (codes "end")) (step_word_of w) refl refl
       where
-        at_end : bytes_eq w (codes "end") ≡ true → Tells {A = Bool × State} T (ended ws >>= λ e. Ok (true, s)) Any
-        unfolding all_forms
-        at_end e =
-            let is : w ≡ codes "end" = bytes_eq-true w (codes "end") e in
-            let behind = sym (behind_first d (codes "end") ws) ∙ passes (line_rows d) T (codes "end") ws (ap (λ (v : List ℕ). first_fault (line_rows d) (v ∷ ws)) (sym is) ∙ so) end_row in
-            tells_bind T _ _ _ (ended_told (rows_of d.nodes record { wants = []; tail = Ends }) T ws behind (λ u. refl)) (λ x p. tells_ok T _ _ tt)
-
         go : (a : Bool) (o : Option StepWord) → bytes_eq w (codes "end") ≡ a → step_word_of w ≡ o
             → Tells {A = Bool × State} T (cond a (ended ws >>= λ e. Ok (true, s)) (or_fault o kinds.Word >>= λ k. step_taken s k ws)) Any
-        go true o e f = at_end e
+        go true o e f = end_told w ws so e
         go false None e f = tells_err T kinds.Word _ (stops (line_rows d) T w ws so kinds.Word (wrong_row w e (no_step w f)))
         go false (Some k) e f =
             let is : w ≡ step_text k = step_word_of-sound w k f in

@@ -48,25 +48,25 @@ unfolding FitsAt lines_at script_lines script_of
 completes_at stages.Version s fits at = record {
   ls = version_line ∷ number_line (codes "nodes") 1 ∷ number_line (codes "length") 1 ∷ number_line (codes "percent") 0 ∷ end_line ∷ [];
   whole = bare 1 1 0;
-  is = bare_whole 1 1 0 (record { nodes = (omega arith, omega arith); term = (omega arith, omega arith); percent = omega arith });
+  is = bare_whole 1 1 0 (record { few = (omega arith, omega arith); long = (omega arith, omega arith); close = omega arith });
   made = refl;
 }
 completes_at stages.Nodes s fits at = record {
   ls = number_line (codes "nodes") 1 ∷ number_line (codes "length") 1 ∷ number_line (codes "percent") 0 ∷ end_line ∷ [];
   whole = bare 1 1 0;
-  is = bare_whole 1 1 0 (record { nodes = (omega arith, omega arith); term = (omega arith, omega arith); percent = omega arith });
+  is = bare_whole 1 1 0 (record { few = (omega arith, omega arith); long = (omega arith, omega arith); close = omega arith });
   made = refl;
 }
 completes_at stages.Length s fits at = record {
   ls = number_line (codes "length") 1 ∷ number_line (codes "percent") 0 ∷ end_line ∷ [];
   whole = bare s.nodes 1 0;
-  is = bare_whole s.nodes 1 0 (record { nodes = (fits.0, fits.1); term = (omega arith, omega arith); percent = omega arith });
+  is = bare_whole s.nodes 1 0 (record { few = (fits.0, fits.1); long = (omega arith, omega arith); close = omega arith });
   made = refl;
 }
 completes_at stages.Percent s fits at = record {
   ls = number_line (codes "percent") 0 ∷ end_line ∷ [];
   whole = bare s.nodes s.length 0;
-  is = bare_whole s.nodes s.length 0 (record { nodes = (fits.0, fits.1); term = (fits.2, fits.3); percent = omega arith });
+  is = bare_whole s.nodes s.length 0 (record { few = (fits.0, fits.1); long = (fits.2, fits.3); close = omega arith });
   made = refl;
 }
 completes_at stages.Steps s fits at = record { ls = end_line ∷ []; whole = s; is = fits; made = refl }
@@ -109,10 +109,10 @@ are : (t : State) → Whole t → AllByRecursion IsLine (all t)
 unfolding script_lines script_of
 are t whole =
     let n = whole.numbers in
-    (version_is_line, (number_is_line (codes "nodes") t.nodes (from_test (codes "nodes") refl) (omega (arith, n.nodes.1)),
-    (number_is_line (codes "length") t.length (from_test (codes "length") refl) (omega (arith, n.term.1)),
-    (number_is_line (codes "percent") t.percent (from_test (codes "percent") refl) (omega (arith, n.percent)),
-    steps_are t.nodes t.steps n.nodes.1 whole.steps))))
+    (version_is_line, (number_is_line (codes "nodes") t.nodes (from_test (codes "nodes") refl) (omega (arith, n.few.1)),
+    (number_is_line (codes "length") t.length (from_test (codes "length") refl) (omega (arith, n.long.1)),
+    (number_is_line (codes "percent") t.percent (from_test (codes "percent") refl) (omega (arith, n.close)),
+    steps_are t.nodes t.steps n.few.1 whole.steps))))
 
 -- ---- what is spelled is read
 
@@ -223,12 +223,12 @@ head_read : (nodes term percent : ℕ) (rest : Lines) → FitsNumbers nodes term
     → followed taken start 1 (parts_of (version_line ∷ number_line (codes "nodes") nodes ∷ number_line (codes "length") term ∷ number_line (codes "percent") percent ∷ rest)) ≡ followed taken (with_steps nodes term percent []) 5 (parts_of rest)
 unfolding start line_taken version_after keyword_at word_at ended
 head_read nodes term percent rest numbers =
-    let first = number_after-line (codes "nodes") 1 9 nodes refl (omega (arith, numbers.nodes.1)) numbers.nodes.0 (omega (arith, numbers.nodes.1)) in
-    let second = number_after-line (codes "length") 1 (2 ^ 32) term refl (omega (arith, numbers.term.1)) numbers.term.0 numbers.term.1 in
-    let third = number_after-line (codes "percent") 0 101 percent refl (omega (arith, numbers.percent)) (omega arith) (omega (arith, numbers.percent)) in
-    let nodes_is = number_is_line (codes "nodes") nodes (from_test (codes "nodes") refl) (omega (arith, numbers.nodes.1)) in
-    let length_is = number_is_line (codes "length") term (from_test (codes "length") refl) (omega (arith, numbers.term.1)) in
-    let percent_is = number_is_line (codes "percent") percent (from_test (codes "percent") refl) (omega (arith, numbers.percent)) in
+    let first = number_after-line (codes "nodes") 1 9 nodes refl (omega (arith, numbers.few.1)) numbers.few.0 (omega (arith, numbers.few.1)) in
+    let second = number_after-line (codes "length") 1 (2 ^ 32) term refl (omega (arith, numbers.long.1)) numbers.long.0 numbers.long.1 in
+    let third = number_after-line (codes "percent") 0 101 percent refl (omega (arith, numbers.close)) (omega arith) (omega (arith, numbers.close)) in
+    let nodes_is = number_is_line (codes "nodes") nodes (from_test (codes "nodes") refl) (omega (arith, numbers.few.1)) in
+    let length_is = number_is_line (codes "length") term (from_test (codes "length") refl) (omega (arith, numbers.long.1)) in
+    let percent_is = number_is_line (codes "percent") percent (from_test (codes "percent") refl) (omega (arith, numbers.close)) in
     went_on start (at_stage stages.Nodes 0 0) 1 version_line (number_line (codes "nodes") nodes ∷ number_line (codes "length") term ∷ number_line (codes "percent") percent ∷ rest) version_is_line refl
     ∙ went_on (at_stage stages.Nodes 0 0) (at_stage stages.Length nodes 0) 2 (number_line (codes "nodes") nodes) (number_line (codes "length") term ∷ number_line (codes "percent") percent ∷ rest) nodes_is (rw first refl)
     ∙ went_on (at_stage stages.Length nodes 0) (at_stage stages.Percent nodes term) 3 (number_line (codes "length") term) (number_line (codes "percent") percent ∷ rest) length_is (rw second refl)
@@ -238,7 +238,7 @@ whole_read : (t : State) → Whole t → followed taken start 1 (parts_of (all t
 unfolding script_lines script_of
 whole_read t whole =
     head_read t.nodes t.length t.percent (map step_words t.steps ++ end_line ∷ []) whole.numbers
-    ∙ steps_read t.nodes t.length t.percent whole.numbers.nodes.1 [] t.steps 5 whole.few whole.steps
+    ∙ steps_read t.nodes t.length t.percent whole.numbers.few.1 [] t.steps 5 whole.few whole.steps
 
 read : (t : State) → Whole t → followed taken start 1 (parts_of (all t)) ≡ Ok t
 read t whole = whole_read t whole ∙ ap (λ (k : Stage). Ok (record { stage = k; nodes = t.nodes; length = t.length; percent = t.percent; steps = t.steps })) (sym whole.stage)

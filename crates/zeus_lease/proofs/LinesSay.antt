@@ -86,7 +86,7 @@ says_at s stages.Version fits = record { next = unfold (said, last_line, under, 
 says_at s stages.Nodes fits = record { next = unfold (said, last_line, under, order, words_at, nth) in refl; counts = λ e. absurd cc }
 says_at s stages.Length fits = record { next = unfold (said, last_line, under, order, words_at, nth) in refl; counts = λ e. absurd cc }
 says_at s stages.Percent fits = record { next = unfold (said, last_line, under, order, words_at, nth) in refl; counts = λ e. absurd cc }
-says_at s stages.Steps fits = record { next = steps_next s; counts = λ e. (steps_nodes s (omega (arith, fits.numbers.nodes.1)), steps_count s) }
+says_at s stages.Steps fits = record { next = steps_next s; counts = λ e. (steps_nodes s (omega (arith, fits.numbers.few.1)), steps_count s) }
 
 -- ---- the line of a fault
 

@@ -1,5 +1,5 @@
 -- Each step keeps the ranges.
-use Rattle.std.proofs.Common.{◌≡◌, ◌≢◌, ℕ, zero, suc, ◌+◌, ◌*◌, ◌<◌, ◌≤◌, ◌^◌, Bool, true, false, cond, List, [], ◌∷◌, ◌++◌, length, All, Option, Some, None, refl, sym, ap, ◌∙◌, arith, length-append}
+use Rattle.std.proofs.Common.{◌≡◌, ◌≢◌, ℕ, zero, suc, ◌+◌, ◌*◌, ◌<◌, ◌≤◌, ◌^◌, Bool, true, false, cond, List, [], ◌∷◌, ◌++◌, length, All, Option, Some, None, refl, sym, ap, ◌∙◌, arith, length-append, subst}
 use Rattle.std.specs.Prelude.{◌==◌, nat_lt, replicate, slice_get}
 use Rattle.std.specs.List.{AllByRecursion}
 use Rattle.std.proofs.lemmas.Bool.{eqb-true, eqb-false}
@@ -17,10 +17,10 @@ use Rattle.zeus_lease.specs.declared.state.Node.{Node}
 use Rattle.zeus_lease.specs.declared.step.LeaseStep.{LeaseStep}
 use Rattle.zeus_lease.specs.declared.step.LeaseStep.TheVariants as steps
 use Rattle.zeus_lease.specs.Kept.{HasRanges, IsKept, IsSafe, ask_of}
-use Rattle.zeus_lease.specs.Machine.{Machine, just, no_node, no_ask, node, with_node_at, start, skew, went_on, pass_or_not, ask, hear, granted, later, take, take_by, act, act_by, seen, view, happens, stepped}
+use Rattle.zeus_lease.specs.Machine.{Machine, Did, just, no_node, no_ask, node, with_node_at, start, skew, went_on, pass_or_not, ask, hear, granted, later, take, take_by, act, act_by, seen, view, happens, stepped}
 use Rattle.zeus_lease.specs.Scripts.{FitsNumbers, FitsStep}
 use Rattle.zeus_lease.proofs.Clocks.{length-went_on, went_on-most}
-use Rattle.zeus_lease.proofs.Safe.{changed_clock, found_at, start_node, start_safe, stepped_safe}
+use Rattle.zeus_lease.proofs.Safe.{changed_clock, found_at, start_length, start_node, start_safe, stepped_safe}
 use Rattle.zeus_lease.proofs.Views.{seen_views}
 
 -- ranges by how many steps may have been taken; so one step more gives the next
@@ -117,7 +117,7 @@ ask_within : (m : Machine) (n : ℕ) → HasRanges m → n < length m.nodes → 
 unfolding ask
 ask_within m n r there = go (has n m.ended)
   where
-    go : (b : Bool) → Within (suc m.steps) (cond b (just m answers.Ended) (just (record m { asks = m.asks ++ new_ask m n ∷ [] }) (answers.Asked (length m.asks)))).machine
+    go : (b : Bool) → Within (suc m.steps) (cond {A = Did} b (just m answers.Ended) (just (record m { asks = m.asks ++ new_ask m n ∷ [] }) (answers.Asked (length m.asks)))).machine
     go true = within m r
     go false = asked_within m n r there
 
@@ -143,10 +143,10 @@ unfolding hear
 hear_within m i None e r = within m r
 hear_within m i (Some a) e r = go (has a.node (last_view m.views)) (found_at no_ask m.asks i a e)
   where
-    go : (b : Bool) → (ask_of m i ≡ a) × (i < length m.asks) → Within (suc m.steps) (cond b (granted m i a.node) (just m answers.Dropped)).machine
+    go : (b : Bool) → (ask_of m i ≡ a) × (i < length m.asks) → Within (suc m.steps) (cond {A = Did} b (granted m i a.node) (just m answers.Dropped)).machine
     go true found =
         let more : length (m.grants ++ i ∷ []) ≡ length m.grants + 1 = length-append m.grants (i ∷ []) in
-        let there : a.node < length m.nodes = rw found.0 at (r.asks i found.1).0 (r.asks i found.1).0 in
+        let there : a.node < length m.nodes = subst (λ (b : Ask). b.node < length m.nodes) found.0 (r.asks i found.1).0 in
         changed_within m a.node _ (m.grants ++ i ∷ []) r there refl (omega (arith, more, r.few_grants))
     go false found = within m r
 
@@ -154,7 +154,7 @@ take_by_within : (m : Machine) (i : ℕ) → HasRanges m → i < length m.asks �
 unfolding take_by
 take_by_within m i r there = go (has (ask_of m i).node m.ended)
   where
-    go : (b : Bool) → Within (suc m.steps) (cond b (just m answers.Ended) (just (with_node_at m (ask_of m i).node (record (node m (ask_of m i).node) { end = Some (later (node m (ask_of m i).node).end ((ask_of m i).clock + m.length)) })) (answers.Held (later (node m (ask_of m i).node).end ((ask_of m i).clock + m.length))))).machine
+    go : (b : Bool) → Within (suc m.steps) (cond {A = Did} b (just m answers.Ended) (just (with_node_at m (ask_of m i).node (record (node m (ask_of m i).node) { end = Some (later (node m (ask_of m i).node).end ((ask_of m i).clock + m.length)) })) (answers.Held (later (node m (ask_of m i).node).end ((ask_of m i).clock + m.length))))).machine
     go true = within m r
     go false = changed_within m (ask_of m i).node _ m.grants r (r.asks i there).0 refl (omega (arith, r.few_grants))
 
@@ -163,7 +163,7 @@ unfolding take
 take_within m g None e r safe = within m r
 take_within m g (Some i) e r safe =
     let found = found_at 0 m.grants g i e in
-    take_by_within m i r (rw found.0 at (safe.answered g found.1) (safe.answered g found.1))
+    take_by_within m i r (subst (λ (j : ℕ). j < length m.asks) found.0 (safe.answered g found.1))
 
 -- ---- acts and views
 
@@ -177,7 +177,7 @@ unfolding act_by
 act_by_within m n None r = within m r
 act_by_within m n (Some end) r = go (nat_lt (node m n).clock end)
   where
-    go : (b : Bool) → Within (suc m.steps) (cond b (just m answers.Acted) (just (record m { ended = with_node n m.ended }) answers.Ended)).machine
+    go : (b : Bool) → Within (suc m.steps) (cond {A = Did} b (just m answers.Acted) (just (record m { ended = with_node n m.ended }) answers.Ended)).machine
     go true = within m r
     go false = ended_within m (with_node n m.ended) r
 
@@ -185,7 +185,7 @@ act_within : (m : Machine) (n : ℕ) → HasRanges m → Within (suc m.steps) (a
 unfolding act
 act_within m n r = go (has n m.ended)
   where
-    go : (b : Bool) → Within (suc m.steps) (cond b (just m answers.Ended) (act_by m n (node m n).end)).machine
+    go : (b : Bool) → Within (suc m.steps) (cond {A = Did} b (just m answers.Ended) (act_by m n (node m n).end)).machine
     go true = within m r
     go false = act_by_within m n (node m n).end r
 
@@ -199,7 +199,6 @@ unfolding view world_does view_or_not
 view_within m set r = go (view_refused (seen m) set)
   where
     go : (o : Option Made) → Within (suc m.steps) (record m { views = (view_or_not (seen m) set o).world.views })
-    unfolding view_or_not
     go (Some x) = rw (seen_views m) (viewed_within m m.views r (omega (arith, r.few_views)))
     go None = let more : length (m.views ++ set ∷ []) ≡ length m.views + 1 = length-append m.views (set ∷ []) in rw (seen_views m) (viewed_within m (m.views ++ set ∷ []) r (omega (arith, more, r.few_views)))
 
@@ -222,10 +221,6 @@ pub stepped_kept : (m : Machine) (s : LeaseStep) → IsKept m → m.steps < 5000
 stepped_kept m s kept few fits = record { ranges = stepped_ranges m s kept.ranges kept.safe few fits; safe = stepped_safe m s kept.safe }
 
 -- ---- the start
-
-start_length : (nodes : ℕ) → length (replicate nodes no_node) ≡ nodes
-start_length zero = refl
-start_length (suc nodes) = ap suc (start_length nodes)
 
 pub start_kept : (nodes term percent : ℕ) → FitsNumbers nodes term percent → IsKept (start nodes term percent)
 unfolding start

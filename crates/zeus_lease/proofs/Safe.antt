@@ -57,8 +57,8 @@ module _ (m : Machine) (n : ℕ) (safe : IsSafe m) (out : IsLeftOut m n) where
   unfolding happens act
   act_refused = go (has n m.ended)
     where
-      go : (b : Bool) → (cond b (record { machine = m; answer = answers.Ended }) (act_by m n (node m n).end)).answer ≢ answers.Acted
-      go true e = cc
+      go : (b : Bool) → (cond {A = Did} b (record { machine = m; answer = answers.Ended }) (act_by m n (node m n).end)).answer ≢ answers.Acted
+      go true = λ e. cc
       go false = not_acted m n (node m n).end ends
 
   may_not : may_act m n ≡ false
@@ -80,6 +80,10 @@ start_node zero k = refl
 start_node (suc nodes) zero = refl
 start_node (suc nodes) (suc k) = start_node nodes k
 
+pub start_length : (nodes : ℕ) → length (replicate nodes no_node) ≡ nodes
+start_length zero = refl
+start_length (suc nodes) = ap suc (start_length nodes)
+
 has-below_lt : (i n k : ℕ) → has k (numbers_from i n) ≡ true → k < i + n
 unfolding has numbers_from
 has-below_lt i zero k h = absurd cc
@@ -97,10 +101,10 @@ start_safe nodes term percent = record {
 }
   where
     none : (n end : ℕ) → (nth no_node (replicate nodes no_node) n).end ≡ Some end → ⊥
-    none n end e = let same = start_node nodes n in rw same at e (cc)
+    none n end e = let same = start_node nodes n in let stays : no_node.end ≡ Some end = rw same at e in cc
 
     length_is : {k : ℕ} → k < 0 + nodes → k < length (replicate nodes no_node)
-    length_is lt = grind arith
+    length_is lt = omega (arith, start_length nodes)
 
 -- ---- time passes
 
@@ -110,10 +114,10 @@ passed m ticks = record m { nodes = went_on m.nodes ticks; service = m.service +
 module _ (m : Machine) (ticks : List ℕ) (safe : IsSafe m) (keeps : skew m.percent ticks (suc (length m.nodes)) ≡ None) where
   pass_covered : (n end : ℕ) → IsCovered m n end → IsCovered (passed m ticks) n end
   pass_covered n end covered =
-      let ratio = keeps_ratio m.percent ticks (suc (length m.nodes)) (length m.nodes) n keeps (omega arith) (omega (arith, covered.node)) in
+      let ratio = keeps_ratio m.percent ticks (suc (length m.nodes)) (length m.nodes) n keeps (omega arith) (omega (arith, covered.there)) in
       record {
-        node = rw (length-went_on m.nodes ticks) covered.node;
-        clocks = rw (went_on-clock m.nodes ticks n covered.node, went_on-expiry m.nodes ticks n)
+        there = rw (length-went_on m.nodes ticks) covered.there;
+        clocks = rw (went_on-clock m.nodes ticks n covered.there, went_on-expiry m.nodes ticks n)
             (pass_covers (100 + m.percent) m.service (100 * wait m) end (node m n).clock m.length (node m n).expiry covered.clocks (nth 0 ticks (length m.nodes)) (nth 0 ticks n) ratio);
       }
 
@@ -149,9 +153,9 @@ asked_safe m n safe =
     let more : length (m.asks ++ record { node = n; clock = (node m n).clock } ∷ []) ≡ length m.asks + 1 = length-append m.asks (record { node = n; clock = (node m n).clock } ∷ []) in
     record {
       asks = λ i lt. ask_choice m n i safe (omega (arith, more, lt)) (i == length m.asks) refl;
-      grants = λ g lt. let was = safe.grants g lt in rw (old g lt) (record { node = was.node; clocks = was.clocks });
+      grants = λ g lt. let was = safe.grants g lt in rw (old g lt) (record { there = was.there; clocks = was.clocks });
       answered = λ g lt. omega (arith, more, safe.answered g lt);
-      leases = λ k end e. let was = safe.leases k end e in record { node = was.node; clocks = was.clocks };
+      leases = λ k end e. let was = safe.leases k end e in record { there = was.there; clocks = was.clocks };
       members = safe.members;
       others = safe.others;
     }
@@ -160,7 +164,7 @@ ask_safe : (m : Machine) (n : ℕ) → IsSafe m → IsSafe (ask m n).machine
 unfolding ask
 ask_safe m n safe = go (has n m.ended)
   where
-    go : (b : Bool) → IsSafe (cond b (record { machine = m; answer = answers.Ended }) (record { machine = record m { asks = m.asks ++ record { node = n; clock = (node m n).clock } ∷ [] }; answer = answers.Asked (length m.asks) })).machine
+    go : (b : Bool) → IsSafe (cond {A = Did} b (record { machine = m; answer = answers.Ended }) (record { machine = record m { asks = m.asks ++ record { node = n; clock = (node m n).clock } ∷ [] }; answer = answers.Asked (length m.asks) })).machine
     go true = safe
     go false = asked_safe m n safe
 
@@ -180,12 +184,12 @@ module _ (m : Machine) (n : ℕ) (new : Node) (there : n < length m.nodes) (cloc
           let here : nth no_node (put no_node m.nodes n new) k ≡ new = rw (← is) (nth-put_same no_node m.nodes n new) in
           let was = rw (← is) at covered.clocks in
           record {
-            node = rw (length-put no_node m.nodes n new there) covered.node;
+            there = rw (length-put no_node m.nodes n new there) covered.there;
             clocks = rw (here, clock) (later_covers _ _ (node m n).expiry new.expiry was expiry);
           }
       go false e =
           record {
-            node = rw (length-put no_node m.nodes n new there) covered.node;
+            there = rw (length-put no_node m.nodes n new there) covered.there;
             clocks = rw (nth-put_other no_node m.nodes n k new (eqb-false n k e)) covered.clocks;
           }
 
@@ -215,9 +219,9 @@ max_first a b e = grind (arith, nat_tests)
 ended_safe : (m : Machine) (ended : List ℕ) → IsSafe m → IsSafe (record m { ended = ended })
 ended_safe m ended safe = record {
   asks = safe.asks;
-  grants = λ g lt. let was = safe.grants g lt in record { node = was.node; clocks = was.clocks };
+  grants = λ g lt. let was = safe.grants g lt in record { there = was.there; clocks = was.clocks };
   answered = safe.answered;
-  leases = λ n end e. let was = safe.leases n end e in record { node = was.node; clocks = was.clocks };
+  leases = λ n end e. let was = safe.leases n end e in record { there = was.there; clocks = was.clocks };
   members = safe.members;
   others = safe.others;
 }
@@ -225,9 +229,9 @@ ended_safe m ended safe = record {
 counted_safe : (m : Machine) (count : ℕ) → IsSafe m → IsSafe (record m { steps = count })
 counted_safe m count safe = record {
   asks = safe.asks;
-  grants = λ g lt. let was = safe.grants g lt in record { node = was.node; clocks = was.clocks };
+  grants = λ g lt. let was = safe.grants g lt in record { there = was.there; clocks = was.clocks };
   answered = safe.answered;
-  leases = λ n end e. let was = safe.leases n end e in record { node = was.node; clocks = was.clocks };
+  leases = λ n end e. let was = safe.leases n end e in record { there = was.there; clocks = was.clocks };
   members = safe.members;
   others = safe.others;
 }
@@ -252,14 +256,14 @@ module _ (m : Machine) (i : ℕ) (a : Ask) (safe : IsSafe m) (is : ask_of m i �
   kept_covered : (k end : ℕ) → IsCovered m k end → IsCovered after k end
   kept_covered k end covered =
       let was = changed_covered m a.node new exists refl (omega arith) k end covered in
-      record { node = was.node; clocks = was.clocks }
+      record { there = was.there; clocks = was.clocks }
 
   new_covered : IsCovered after a.node (a.clock + m.length)
   new_covered =
-      let before : a.clock ≤ (node m a.node).clock = rw is at safe.asks i there in
+      let before : a.clock ≤ (node m a.node).clock = subst (λ (b : Ask). b.clock ≤ (node m b.node).clock) is (safe.asks i there) in
       let here : nth no_node (put no_node m.nodes a.node new) a.node ≡ new = nth-put_same no_node m.nodes a.node new in
       record {
-        node = rw (length-put no_node m.nodes a.node new exists) exists;
+        there = rw (length-put no_node m.nodes a.node new exists) exists;
         clocks = rw here (grant_covers (100 + m.percent) m.service (wait m) a.clock (node m a.node).clock m.length new.expiry before (omega arith));
       }
 
@@ -278,8 +282,12 @@ module _ (m : Machine) (i : ℕ) (a : Ask) (safe : IsSafe m) (is : ask_of m i �
       go : (b : Bool) → (a.node == n) ≡ b → (node after n).expiry ≤ m.service
       go true e =
           let same : a.node ≡ n = eqb-true a.node n e in
-          absurd (rw same at member (cc))
+          let there : has n (last_view m.views) ≡ true = rw same at member in absurd cc
       go false e = rw (nth-put_other no_node m.nodes a.node n new (eqb-false a.node n e)) (safe.others n h)
+
+  granted_same : (n end : ℕ) → a.node ≡ n → (node after n).end ≡ Some end → (node m n).end ≡ Some end
+  granted_same n end same e =
+      ap (λ (k : ℕ). (node m k).end) (sym same) ∙ ap (λ (x : Node). x.end) (sym (nth-put_same no_node m.nodes a.node new)) ∙ ap (λ (k : ℕ). (node after k).end) same ∙ e
 
   granted_end : (n end : ℕ) → (node after n).end ≡ Some end → (node m n).end ≡ Some end
   granted_end n end e = go (a.node == n) refl
@@ -287,8 +295,8 @@ module _ (m : Machine) (i : ℕ) (a : Ask) (safe : IsSafe m) (is : ask_of m i �
       go : (b : Bool) → (a.node == n) ≡ b → (node m n).end ≡ Some end
       go true f =
           let same : a.node ≡ n = eqb-true a.node n f in
-          rw (← same, nth-put_same) at e (rw (← same) e)
-      go false f = rw (nth-put_other no_node m.nodes a.node n new (eqb-false a.node n f)) at e e
+          granted_same n end same e
+      go false f = ap (λ (x : Node). x.end) (sym (nth-put_other no_node m.nodes a.node n new (eqb-false a.node n f))) ∙ e
 
   granted_safe : IsSafe after
   granted_safe =
@@ -309,7 +317,7 @@ hear_safe m i (Some a) e safe =
     let found = found_at no_ask m.asks i a e in
     go (has a.node (last_view m.views)) refl found
   where
-    go : (b : Bool) → has a.node (last_view m.views) ≡ b → (ask_of m i ≡ a) × (i < length m.asks) → IsSafe (cond b (granted m i a.node) (record { machine = m; answer = answers.Dropped })).machine
+    go : (b : Bool) → has a.node (last_view m.views) ≡ b → (ask_of m i ≡ a) × (i < length m.asks) → IsSafe (cond {A = Did} b (granted m i a.node) (record { machine = m; answer = answers.Dropped })).machine
     go true h found = granted_safe m i a safe found.0 found.1 h
     go false h found = safe
 
@@ -320,7 +328,7 @@ module _ (m : Machine) (i : ℕ) (g : ℕ) (safe : IsSafe m) (is : nth 0 m.grant
   of = ask_of m i
 
   covered_grant : IsCovered m of.node (of.clock + m.length)
-  covered_grant = rw is at safe.grants g there
+  covered_grant = subst (λ (j : ℕ). IsCovered m (ask_of m j).node ((ask_of m j).clock + m.length)) is (safe.grants g there)
 
   abbrev until : ℕ
   until = later (node m of.node).end (of.clock + m.length)
@@ -345,7 +353,7 @@ module _ (m : Machine) (i : ℕ) (g : ℕ) (safe : IsSafe m) (is : nth 0 m.grant
   held = with_node_at m of.node holding
 
   held_covered : (k end : ℕ) → IsCovered m k end → IsCovered held k end
-  held_covered k end covered = changed_covered m of.node holding covered_grant.node refl (omega arith) k end covered
+  held_covered k end covered = changed_covered m of.node holding covered_grant.there refl (omega arith) k end covered
 
   held_lease : (n end : ℕ) → (node held n).end ≡ Some end → IsCovered held n end
   held_lease n end e = go (of.node == n) refl
@@ -353,10 +361,10 @@ module _ (m : Machine) (i : ℕ) (g : ℕ) (safe : IsSafe m) (is : nth 0 m.grant
       go : (b : Bool) → (of.node == n) ≡ b → IsCovered held n end
       go true f =
           let same : of.node ≡ n = eqb-true of.node n f in
-          let it : Some until ≡ Some end = ap (λ (x : Node). x.end) (sym (nth-put_same no_node m.nodes of.node holding)) ∙ rw (← same) at e e in
+          let it : Some until ≡ Some end = ap (λ (x : Node). x.end) (sym (nth-put_same no_node m.nodes of.node holding)) ∙ ap (λ (k : ℕ). (node held k).end) same ∙ e in
           let end_is : until ≡ end = cc in
-          held_covered n end (rw (← same, ← end_is) until_covered)
-      go false f = held_covered n end (safe.leases n end (rw (nth-put_other no_node m.nodes of.node n holding (eqb-false of.node n f)) at e e))
+          held_covered n end (subst (λ (k : ℕ). IsCovered m k end) same (subst (IsCovered m of.node) end_is until_covered))
+      go false f = held_covered n end (safe.leases n end (ap (λ (x : Node). x.end) (sym (nth-put_other no_node m.nodes of.node n holding (eqb-false of.node n f))) ∙ e))
 
   held_expiry : (n : ℕ) → (node held n).expiry ≡ (node m n).expiry
   held_expiry n = go (of.node == n) refl
@@ -369,11 +377,11 @@ module _ (m : Machine) (i : ℕ) (g : ℕ) (safe : IsSafe m) (is : nth 0 m.grant
 
   held_safe : IsSafe held
   held_safe = record {
-    asks = λ j lt. rw (changed_clock m of.node holding covered_grant.node refl (omega arith) (ask_of m j).node) (safe.asks j lt);
+    asks = λ j lt. rw (changed_clock m of.node holding covered_grant.there refl (omega arith) (ask_of m j).node) (safe.asks j lt);
     grants = λ k lt. held_covered _ _ (safe.grants k lt);
     answered = safe.answered;
     leases = held_lease;
-    members = rw (length-put no_node m.nodes of.node holding covered_grant.node) safe.members;
+    members = rw (length-put no_node m.nodes of.node holding covered_grant.there) safe.members;
     others = λ n h. rw (held_expiry n) (safe.others n h);
   }
 
@@ -382,7 +390,8 @@ unfolding take take_by
 take_safe m g None e safe = safe
 take_safe m g (Some i) e safe = go (has (ask_of m i).node m.ended) (found_at 0 m.grants g i e)
   where
-    go : (b : Bool) → (nth 0 m.grants g ≡ i) × (g < length m.grants) → IsSafe (cond b (record { machine = m; answer = answers.Ended }) (record { machine = held m i g; answer = answers.Held (until m i g) })).machine
+    go : (b : Bool) → (nth 0 m.grants g ≡ i) × (g < length m.grants)
+        → IsSafe (cond {A = Did} b (just m answers.Ended) (just (with_node_at m (ask_of m i).node (record (node m (ask_of m i).node) { end = Some (later (node m (ask_of m i).node).end ((ask_of m i).clock + m.length)) })) (answers.Held (later (node m (ask_of m i).node).end ((ask_of m i).clock + m.length))))).machine
     go true found = safe
     go false found = held_safe m i g safe found.0 found.1
 
@@ -393,7 +402,7 @@ unfolding act_by
 act_by_safe m n None safe = safe
 act_by_safe m n (Some end) safe = go (nat_lt (node m n).clock end)
   where
-    go : (b : Bool) → IsSafe (cond b (record { machine = m; answer = answers.Acted }) (record { machine = record m { ended = with_node n m.ended }; answer = answers.Ended })).machine
+    go : (b : Bool) → IsSafe (cond {A = Did} b (record { machine = m; answer = answers.Acted }) (record { machine = record m { ended = with_node n m.ended }; answer = answers.Ended })).machine
     go true = safe
     go false = ended_safe m (with_node n m.ended) safe
 
@@ -401,7 +410,7 @@ act_safe : (m : Machine) (n : ℕ) → IsSafe m → IsSafe (act m n).machine
 unfolding act
 act_safe m n safe = go (has n m.ended)
   where
-    go : (b : Bool) → IsSafe (cond b (record { machine = m; answer = answers.Ended }) (act_by m n (node m n).end)).machine
+    go : (b : Bool) → IsSafe (cond {A = Did} b (record { machine = m; answer = answers.Ended }) (act_by m n (node m n).end)).machine
     go true = safe
     go false = act_by_safe m n (node m n).end safe
 
@@ -429,7 +438,7 @@ pass_views m ticks None = refl
 
 ask_views : (m : Machine) (n : ℕ) → (ask m n).machine.views ≡ m.views
 unfolding ask
-ask_views m n = elim (has n m.ended) as (λ b. (cond b (just m answers.Ended) (just (record m { asks = m.asks ++ record { node = n; clock = (node m n).clock } ∷ [] }) (answers.Asked (length m.asks)))).machine.views ≡ m.views) [
+ask_views m n = elim (has n m.ended) as (λ b. (cond {A = Did} b (just m answers.Ended) (just (record m { asks = m.asks ++ record { node = n; clock = (node m n).clock } ∷ [] }) (answers.Asked (length m.asks)))).machine.views ≡ m.views) [
   | true ↦ refl
   | false ↦ refl
 ]
@@ -437,7 +446,7 @@ ask_views m n = elim (has n m.ended) as (λ b. (cond b (just m answers.Ended) (j
 hear_views : (m : Machine) (i : ℕ) (o : Option Ask) → (hear m i o).machine.views ≡ m.views
 unfolding hear
 hear_views m i None = refl
-hear_views m i (Some a) = elim (has a.node (last_view m.views)) as (λ b. (cond b (granted m i a.node) (just m answers.Dropped)).machine.views ≡ m.views) [
+hear_views m i (Some a) = elim (has a.node (last_view m.views)) as (λ b. (cond {A = Did} b (granted m i a.node) (just m answers.Dropped)).machine.views ≡ m.views) [
   | true ↦ refl
   | false ↦ refl
 ]
@@ -445,7 +454,7 @@ hear_views m i (Some a) = elim (has a.node (last_view m.views)) as (λ b. (cond 
 take_views : (m : Machine) (o : Option ℕ) → (take m o).machine.views ≡ m.views
 unfolding take take_by
 take_views m None = refl
-take_views m (Some i) = elim (has (ask_of m i).node m.ended) as (λ b. (cond b (just m answers.Ended) (just (with_node_at m (ask_of m i).node (record (node m (ask_of m i).node) { end = Some (later (node m (ask_of m i).node).end ((ask_of m i).clock + m.length)) })) (answers.Held (later (node m (ask_of m i).node).end ((ask_of m i).clock + m.length))))).machine.views ≡ m.views) [
+take_views m (Some i) = elim (has (ask_of m i).node m.ended) as (λ b. (cond {A = Did} b (just m answers.Ended) (just (with_node_at m (ask_of m i).node (record (node m (ask_of m i).node) { end = Some (later (node m (ask_of m i).node).end ((ask_of m i).clock + m.length)) })) (answers.Held (later (node m (ask_of m i).node).end ((ask_of m i).clock + m.length))))).machine.views ≡ m.views) [
   | true ↦ refl
   | false ↦ refl
 ]
@@ -453,14 +462,14 @@ take_views m (Some i) = elim (has (ask_of m i).node m.ended) as (λ b. (cond b (
 act_by_views : (m : Machine) (n : ℕ) (o : Option ℕ) → (act_by m n o).machine.views ≡ m.views
 unfolding act_by
 act_by_views m n None = refl
-act_by_views m n (Some end) = elim (nat_lt (node m n).clock end) as (λ b. (cond b (just m answers.Acted) (just (record m { ended = with_node n m.ended }) answers.Ended)).machine.views ≡ m.views) [
+act_by_views m n (Some end) = elim (nat_lt (node m n).clock end) as (λ b. (cond {A = Did} b (just m answers.Acted) (just (record m { ended = with_node n m.ended }) answers.Ended)).machine.views ≡ m.views) [
   | true ↦ refl
   | false ↦ refl
 ]
 
 act_views : (m : Machine) (n : ℕ) → (act m n).machine.views ≡ m.views
 unfolding act
-act_views m n = elim (has n m.ended) as (λ b. (cond b (just m answers.Ended) (act_by m n (node m n).end)).machine.views ≡ m.views) [
+act_views m n = elim (has n m.ended) as (λ b. (cond {A = Did} b (just m answers.Ended) (act_by m n (node m n).end)).machine.views ≡ m.views) [
   | true ↦ refl
   | false ↦ act_by_views m n (node m n).end
 ]

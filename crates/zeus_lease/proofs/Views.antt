@@ -75,9 +75,9 @@ with_views m views = record m { views = views }
 viewed_safe : (m : Machine) (views : List (List ℕ)) → IsSafe m → IsBelow (length m.nodes) (last_view views) → ((n : ℕ) → has n (last_view views) ≡ false → (node m n).expiry ≤ m.service) → IsSafe (with_views m views)
 viewed_safe m views safe members others = record {
   asks = safe.asks;
-  grants = λ g lt. let was = safe.grants g lt in record { node = was.node; clocks = was.clocks };
+  grants = λ g lt. let was = safe.grants g lt in record { there = was.there; clocks = was.clocks };
   answered = safe.answered;
-  leases = λ n end e. let was = safe.leases n end e in record { node = was.node; clocks = was.clocks };
+  leases = λ n end e. let was = safe.leases n end e in record { there = was.there; clocks = was.clocks };
   members = members;
   others = others;
 }
@@ -100,7 +100,6 @@ unfolding view world_does view_or_not
 view_safe m set safe = go (view_refused (seen m) set) refl
   where
     go : (o : Option Made) → view_refused (seen m) set ≡ o → IsSafe (with_views m (view_or_not (seen m) set o).world.views)
-    unfolding view_or_not
     go (Some x) e = rw (seen_views m) (viewed_safe m m.views safe safe.members safe.others)
     go None e = rw (seen_views m) (made_safe m set e safe)
 
@@ -110,7 +109,6 @@ unfolding world_does view_or_not
 view_leaves_out m set n out = go (view_refused (seen m) set) refl
   where
     go : (o : Option Made) → view_refused (seen m) set ≡ o → has n (last_view (view_or_not (seen m) set o).world.views) ≡ false
-    unfolding view_or_not
     go (Some x) e = rw (seen_views m) out
     go None e = rw (seen_views m, last_view-more m.views set) (still (has n set) refl)
       where
@@ -125,17 +123,16 @@ or_else_some None b x h = inr h
 or_else_some (Some y) b x h = inl h
 
 none_installed : (epoch : ℕ) (f : ℕ → Bool) (c : ℕ → Made) → ((n : ℕ) → c n ≢ Installed epoch) → (ns : List ℕ) → first_of (λ n. where_true (f n) (c n)) ns ≡ Some (Installed epoch) → ⊥
-unfolding first_of
-none_installed epoch f c no [] e = cc
-none_installed epoch f c no (n ∷ ns) e =
+unfolding first_of where_true
+none_installed epoch f c never [] e = cc
+none_installed epoch f c never (n ∷ ns) e =
     elim (or_else_some (where_true (f n) (c n)) _ (Installed epoch) e) [
       | inl here ↦ one (f n) here
-      | inr later ↦ none_installed epoch f c no ns later
+      | inr later ↦ none_installed epoch f c never ns later
     ]
   where
     one : (b : Bool) → where_true b (c n) ≡ Some (Installed epoch) → ⊥
-    unfolding where_true
-    one true g = let same : c n ≡ Installed epoch = cc in no n same
+    one true g = let same : c n ≡ Installed epoch = cc in never n same
     one false g = cc
 
 empty_installed : (epoch : ℕ) (b : Bool) → where_true b Empty ≡ Some (Installed epoch) → ⊥
@@ -160,6 +157,5 @@ unfolding world_does view_or_not made_in
 view_made m set epoch h = go (view_refused (seen m) set) refl h
   where
     go : (o : Option Made) → view_refused (seen m) set ≡ o → made_in (view_or_not (seen m) set o).answer ≡ Installed epoch → last_view (view_or_not (seen m) set o).world.views ≡ set
-    unfolding view_or_not made_in
     go (Some x) e g = absurd (refused_never (seen m) set epoch (e ∙ ap (λ (y : Made). Some y) g))
     go None e g = last_view-more (seen m).views set

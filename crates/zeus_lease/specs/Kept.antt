@@ -44,7 +44,7 @@ pub record HasRanges (m : Machine) : Type 0 where
 -- to the end, since 100 * wait is at least length * (100 + percent). A pass keeps it, because the service's clock goes on by
 -- at most (100 + percent) / 100 of what the node's does.
 pub record IsCovered (m : Machine) (n end : ℕ) : Type 0 where
-  pub node : n < length m.nodes
+  pub there : n < length m.nodes
   pub clocks : 100 * m.service + 100 * wait m + (100 + m.percent) * end ≤ (100 + m.percent) * ((node m n).clock + m.length) + 100 * (node m n).expiry
 
 pub record IsSafe (m : Machine) : Type 0 where

@@ -18,9 +18,9 @@ FitsStep nodes (View set) = IsRising set × IsBelow nodes set
 
 -- 1 to 8 nodes, a length from 1 to 2^32 - 1, and at most 100 percent
 pub record FitsNumbers (nodes term percent : ℕ) : Type 0 where
-  pub nodes : (1 ≤ nodes) × (nodes ≤ 8)
-  pub term : (1 ≤ term) × (term < 2 ^ 32)
-  pub percent : percent ≤ 100
+  pub few : (1 ≤ nodes) × (nodes ≤ 8)
+  pub long : (1 ≤ term) × (term < 2 ^ 32)
+  pub close : percent ≤ 100
 
 -- a script keeps the ranges and has at most 50,000 steps, however long its text
 pub record FitsScript (s : LeaseScript) : Type 0 where
