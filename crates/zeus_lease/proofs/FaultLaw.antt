@@ -129,7 +129,7 @@ told_size bytes f h = go (nat_lt 4194304 (length bytes)) refl h
 -- a fault of a word lies in a line
 word_line : (bytes : List ℕ) (f : ScriptFault) → TellsSize bytes f → IsOfWord f.kind → f.line ≢ 0
 unfolding IsOfWord
-word_line bytes f tells word = λ zero. absurd (subst IsOfWord (tells.kind.1 (tells.line.0 zero)) word)
+word_line bytes f tells blamed = λ zero. absurd (subst IsOfWord (tells.kind.1 (tells.line.0 zero)) blamed)
 
 told : (bytes : List ℕ) (f : ScriptFault) → script_read bytes ≡ Err f → IsFaultOf bytes f
 told bytes f read =

@@ -134,10 +134,7 @@ ticks_after-sound : (count : ℕ) (before : List ℕ) (ws : List (List ℕ)) →
 unfolding ticks_after
 ticks_after-sound zero before ws = read_ok _ _ (record { ts = []; words = refl; whole = sym (append-nil before); count_is = refl; small = tt })
 ticks_after-sound (suc count) before ws =
-    read_bind _ _ _ (range_at-sound 0 (2 ^ 32) ws) (λ t p. weaken (ticks_after count (before ++ t.0 ∷ []) t.1) (λ x rest. more_ticks count before ws t x p.0 p.3 rest) (ticks_after-sound count (before ++ t.0 ∷ []) t.1))
-  where
-    weaken : {t : ℕ × List (List ℕ)} (r : Result (List ℕ × List (List ℕ)) _) → ((x : List ℕ × List (List ℕ)) → AreTicks count (before ++ t.0 ∷ []) t.1 x → AreTicks (suc count) before ws x) → IfRead r (AreTicks count (before ++ t.0 ∷ []) t.1) → IfRead r (AreTicks (suc count) before ws)
-    weaken r f h = read_weaken r _ f h
+    read_bind _ _ _ (range_at-sound 0 (2 ^ 32) ws) (λ t p. read_weaken _ _ (λ x rest. more_ticks count before ws t x p.0 p.3 rest) (ticks_after-sound count (before ++ t.0 ∷ []) t.1))
 
 -- the words are those of the step, which keeps the ranges
 pub record IsStepLine (nodes : ℕ) (k : StepWord) (ws : List (List ℕ)) (step : LeaseStep) : Type 0 where

@@ -219,4 +219,4 @@ line_told d s stages.Length ws next counts = any_ok _ _ _ (number_told d _ (code
 line_told d s stages.Percent ws next counts = any_ok _ _ _ (number_told d _ (codes "percent") ws refl next refl refl 0 101 refl)
 line_told d s stages.Steps ws next counts =
     let both = counts refl in
-    tells_bind _ _ _ _ (word_first (line_rows d) _ ws refl (rw next refl)) (λ w p. step_line_told d _ next s both.0 both.1 w.0 w.1 p)
+    tells_bind _ _ _ _ (word_first (line_rows d) _ ws refl refl) (λ w p. step_line_told d _ next s both.0 both.1 w.0 w.1 p)

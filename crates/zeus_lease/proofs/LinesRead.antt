@@ -238,7 +238,7 @@ whole_read : (t : State) → Whole t → followed taken start 1 (parts_of (all t
 unfolding script_lines script_of
 whole_read t whole =
     head_read t.nodes t.length t.percent (map step_words t.steps ++ end_line ∷ []) whole.numbers
-    ∙ steps_read t.nodes t.length t.percent whole.numbers.few.1 [] t.steps 5 whole.few whole.steps
+    ∙ steps_read t.nodes t.length t.percent whole.numbers.few.1 [] t.steps 5 (omega (arith, whole.few)) whole.steps
 
 read : (t : State) → Whole t → followed taken start 1 (parts_of (all t)) ≡ Ok t
 read t whole = whole_read t whole ∙ ap (λ (k : Stage). Ok (record { stage = k; nodes = t.nodes; length = t.length; percent = t.percent; steps = t.steps })) (sym whole.stage)

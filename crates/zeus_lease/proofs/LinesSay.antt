@@ -80,12 +80,28 @@ steps_count : (s : State) → (said (head_lines s ++ map step_words s.steps)).st
 unfolding said beginning is_among nth
 steps_count s = count_steps s.steps
 
+version_next : (said []).next ≡ words_at stages.Version
+unfolding said last_line under order words_at nth
+version_next = refl
+
+nodes_next : (said (version_line ∷ [])).next ≡ words_at stages.Nodes
+unfolding said last_line under order words_at nth
+nodes_next = refl
+
+length_next : (n : ℕ) → (said (version_line ∷ number_line (codes "nodes") n ∷ [])).next ≡ words_at stages.Length
+unfolding said last_line under order words_at nth
+length_next n = refl
+
+percent_next : (n term : ℕ) → (said (version_line ∷ number_line (codes "nodes") n ∷ number_line (codes "length") term ∷ [])).next ≡ words_at stages.Percent
+unfolding said last_line under order words_at nth
+percent_next n term = refl
+
 says_at : (s : State) (stage : Stage) → FitsAt stage s → Says s stage (said (lines_at stage s))
 unfolding lines_at FitsAt
-says_at s stages.Version fits = record { next = unfold (said, last_line, under, order, words_at, nth) in refl; counts = λ e. absurd cc }
-says_at s stages.Nodes fits = record { next = unfold (said, last_line, under, order, words_at, nth) in refl; counts = λ e. absurd cc }
-says_at s stages.Length fits = record { next = unfold (said, last_line, under, order, words_at, nth) in refl; counts = λ e. absurd cc }
-says_at s stages.Percent fits = record { next = unfold (said, last_line, under, order, words_at, nth) in refl; counts = λ e. absurd cc }
+says_at s stages.Version fits = record { next = version_next; counts = λ e. absurd cc }
+says_at s stages.Nodes fits = record { next = nodes_next; counts = λ e. absurd cc }
+says_at s stages.Length fits = record { next = length_next s.nodes; counts = λ e. absurd cc }
+says_at s stages.Percent fits = record { next = percent_next s.nodes s.length; counts = λ e. absurd cc }
 says_at s stages.Steps fits = record { next = steps_next s; counts = λ e. (steps_nodes s (omega (arith, fits.numbers.few.1)), steps_count s) }
 
 -- ---- the line of a fault

@@ -5,6 +5,7 @@
 mod answer;
 mod draft;
 mod fault_law;
+mod head;
 mod keywords;
 mod law;
 mod leases;
