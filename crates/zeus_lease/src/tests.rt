@@ -56,7 +56,7 @@ fn numbers_and_steps_are_read(rt: HostRuntime) {
     let script = script(&rt, rt.alloc(), text);
     assert!(rt; script.nodes == 8 && script.length == 4_294_967_295 && script.percent == 100);
     let [LeaseStep::Hear(number), LeaseStep::View(members)] = script.steps.as_slice() else {
-        rt.abort("two steps");
+        rt.abort()
     };
     assert!(rt; *number == 4_294_967_295 && members.bits == 0b1000_0001);
 }
@@ -65,7 +65,7 @@ fn numbers_and_steps_are_read(rt: HostRuntime) {
 fn fault(rt: &impl Abort, alloc: Global, bytes: &[u8]) -> ScriptFault {
     match read_leases(alloc, bytes) {
         Err(ReadScript::Fault(fault)) => fault,
-        _ => rt.abort("a fault"),
+        _ => rt.abort(),
     }
 }
 
