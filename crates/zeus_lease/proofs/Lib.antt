@@ -4,9 +4,11 @@ pub mod Followed
 pub mod Language
 pub mod LineFits
 pub mod LineRows
+pub mod LineSteps
 pub mod LinesRead
 pub mod LinesSay
 pub mod Ranges
 pub mod Safe
 pub mod Searching
+pub mod TickSteps
 pub mod Views

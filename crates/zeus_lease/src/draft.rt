@@ -36,7 +36,7 @@ pub(crate) struct Draft {
 }
 
 impl Draft {
-    ghost use Rattle.zeus_lease.specs.Reading.{Takes, TakesLine, start, state_of, line_taken, step_line_taken, step_taken};
+    ghost use Rattle.zeus_lease.specs.Reading.{TakesLine, start, state_of, line_taken, step_line_taken, step_taken};
 
     /// Before the first line.
     #[tactic(auto, unfolding(crate::specs::Reading::start))]

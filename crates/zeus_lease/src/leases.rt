@@ -62,16 +62,7 @@ impl Leases {
         // A node that the view of this step leaves out never acts.
         ensures never { (n : ℕ) → IsLeftOut self.new n → NeverActs self.new n }
     {
-        let answer = match step {
-            LeaseStep::Pass(ticks) => self.state.pass(ticks.as_slice()),
-            LeaseStep::Ask(node) => self.state.ask(*node)?,
-            LeaseStep::Hear(number) => self.state.hear(*number)?,
-            LeaseStep::Take(number) => self.state.take(*number),
-            LeaseStep::Act(node) => self.state.act(*node),
-            LeaseStep::View(members) => self.state.view(*members)?,
-        };
-        self.state.steps += 1;
-        Ok(answer)
+        self.state.step(step)
     }
 
     /// Whether the node may act now: whether an act of it would be acted.

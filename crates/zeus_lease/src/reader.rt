@@ -75,6 +75,7 @@ fn script_of_bytes(alloc: Global, bytes: &[u8]) -> Result<LeaseScript, ReadScrip
 /// # Errors
 /// `Fault` with the first faulty line, and what is wrong with the first of its words that does not fit; `NoMemory` where
 /// memory was wanting.
+#[tactic(auto, using(crate::proofs::FaultLaw::read_found, crate::proofs::FaultLaw::read_only))]
 pub fn read_leases(alloc: Global, bytes: &[u8]) -> Result<LeaseScript, ReadScript>
     // What is read is spelled so.
     ensures found { IfOk result (λ s. IsSpelled bytes.now s) }

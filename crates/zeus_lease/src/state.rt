@@ -5,11 +5,12 @@ ghost use Rattle.zeus_base.specs.declared.step.Step.TheVariants.{View as ViewSte
 ghost use Rattle.zeus_model.specs.Tables.{nth};
 ghost use Rattle.zeus_model.specs.World.{happens as world_does, last_view};
 ghost use Rattle.zeus_lease.specs.Kept.{IsKept, shown};
-ghost use Rattle.zeus_lease.specs.Machine.{act, act_by, ask, hear, is_below_end, is_skewed, may_act, no_node, node, pass_or_not, seen, skew, skewed_beside, start, take, take_by, view, wait, went_on};
-ghost use Rattle.zeus_lease.specs.Scripts.{FitsNumbers};
+ghost use Rattle.zeus_lease.specs.Machine.{act, act_by, ask, happens, hear, is_below_end, is_skewed, later, may_act, no_node, node, pass_or_not, seen, skew, skewed_beside, start, stepped, take, take_by, view, wait, went_on};
+ghost use Rattle.zeus_lease.specs.Scripts.{FitsNumbers, FitsStep};
 ghost use Rattle.zeus_lease.specs.declared.answer.LeaseAnswer.TheVariants.{Skewed};
 
 use crate::answer::LeaseAnswer;
+use crate::step::LeaseStep;
 use membership::Service;
 use std::alloc::Global;
 use zeus_base::{NoMemory, NodeId, NodeSet};
@@ -150,7 +151,7 @@ impl State {
 
     /// Time passes, unless a clock goes too fast.
     #[tactic(auto, unfolding(crate::specs::Machine::pass_or_not))]
-    pub(crate) fn pass(&mut self, ticks: &[u64]) -> LeaseAnswer
+    fn pass(&mut self, ticks: &[u64]) -> LeaseAnswer
         requires kept { IsKept (shown self.old) }
         requires few { self.old.steps < 50000 }
         requires count { length ticks.now ≡ suc (length self.old.nodes.items) }
@@ -167,7 +168,7 @@ impl State {
 
     /// The node asks for a lease.
     #[tactic(auto, unfolding(crate::specs::Machine::ask))]
-    pub(crate) fn ask(&mut self, node: NodeId) -> Result<LeaseAnswer, NoMemory>
+    fn ask(&mut self, node: NodeId) -> Result<LeaseAnswer, NoMemory>
         requires kept { IsKept (shown self.old) }
         requires node { node < length self.old.nodes.items }
         ensures did { IfOk result (λ a. record { machine = shown self.new; answer = a } ≡ ask (shown self.old) node) }
@@ -202,7 +203,7 @@ impl State {
 
     /// The service hears the ask of this number.
     #[tactic(auto, unfolding(crate::specs::Machine::hear))]
-    pub(crate) fn hear(&mut self, number: u32) -> Result<LeaseAnswer, NoMemory>
+    fn hear(&mut self, number: u32) -> Result<LeaseAnswer, NoMemory>
         requires kept { IsKept (shown self.old) }
         requires few { self.old.steps < 50000 }
         ensures did { IfOk result (λ a. record { machine = shown self.new; answer = a } ≡ hear (shown self.old) number (slice_get self.old.asks.items number)) }
@@ -225,7 +226,7 @@ impl State {
 
     /// The node that asked takes the grant of this number.
     #[tactic(auto, unfolding(crate::specs::Machine::take, crate::specs::Machine::take_by))]
-    pub(crate) fn take(&mut self, number: u32) -> LeaseAnswer
+    fn take(&mut self, number: u32) -> LeaseAnswer
         requires kept { IsKept (shown self.old) }
         requires few { self.old.steps < 50000 }
         ensures { record { machine = shown self.new; answer = result } ≡ take (shown self.old) (slice_get self.old.grants.items number) }
@@ -246,7 +247,7 @@ impl State {
 
     /// The node acts, if it may.
     #[tactic(auto, unfolding(crate::specs::Machine::act, crate::specs::Machine::act_by))]
-    pub(crate) fn act(&mut self, node: NodeId) -> LeaseAnswer
+    fn act(&mut self, node: NodeId) -> LeaseAnswer
         requires node { node < length self.old.nodes.items }
         ensures { record { machine = shown self.new; answer = result } ≡ act (shown self.old) node }
     {
@@ -290,7 +291,7 @@ impl State {
 
     /// The service makes a view of these members, if it may.
     #[tactic(auto, unfolding(crate::specs::Machine::view))]
-    pub(crate) fn view(&mut self, members: NodeSet) -> Result<LeaseAnswer, NoMemory>
+    fn view(&mut self, members: NodeSet) -> Result<LeaseAnswer, NoMemory>
         requires kept { IsKept (shown self.old) }
         requires few { self.old.steps < 50000 }
         ensures did { IfOk result (λ a. record { machine = shown self.new; answer = a } ≡ view (shown self.old) (world_does (seen (shown self.old)) (ViewStep members))) }
@@ -298,5 +299,39 @@ impl State {
     {
         let stopped = self.stopped();
         Ok(LeaseAnswer::View(self.views.view(members, stopped)?))
+    }
+
+    /// What the step does, which is not counted yet.
+    #[tactic(auto, unfolding(crate::specs::Machine::happens, crate::specs::Scripts::FitsStep))]
+    fn happen(&mut self, step: &LeaseStep) -> Result<LeaseAnswer, NoMemory>
+        requires kept { IsKept (shown self.old) }
+        requires few { self.old.steps < 50000 }
+        requires fits { FitsStep (length self.old.nodes.items) step.now }
+        ensures did { IfOk result (λ a. record { machine = shown self.new; answer = a } ≡ happens (shown self.old) step.now) }
+        ensures err { OnErr result (shown self.new ≡ shown self.old) }
+    {
+        match step {
+            LeaseStep::Pass(ticks) => Ok(self.pass(ticks.as_slice())),
+            LeaseStep::Ask(node) => self.ask(*node),
+            LeaseStep::Hear(number) => self.hear(*number),
+            LeaseStep::Take(number) => Ok(self.take(*number)),
+            LeaseStep::Act(node) => Ok(self.act(*node)),
+            LeaseStep::View(members) => self.view(*members),
+        }
+    }
+
+    /// Takes the step, and counts it.
+    #[tactic(auto, unfolding(crate::specs::Machine::stepped))]
+    pub(crate) fn step(&mut self, step: &LeaseStep) -> Result<LeaseAnswer, NoMemory>
+        requires kept { IsKept (shown self.old) }
+        requires few { self.old.steps < 50000 }
+        requires fits { FitsStep (length self.old.nodes.items) step.now }
+        ensures answer { IfOk result (λ a. a ≡ (happens (shown self.old) step.now).answer) }
+        ensures after { IfOk result (λ a. shown self.new ≡ stepped (shown self.old) step.now) }
+        ensures err { OnErr result (shown self.new ≡ shown self.old) }
+    {
+        let answer = self.happen(step)?;
+        self.steps += 1;
+        Ok(answer)
     }
 }

@@ -11,9 +11,10 @@ use std::alloc::Global;
 fn ticks_of(words: &mut Parts, alloc: Global, count: u8) -> Result<Ticks, Failure>
     ensures { ReadsTicks result words.new (ticks_after count [] words.old) }
 {
-    let mut ticks = Vec::with_capacity(alloc, usize::from(count))?;
-    for _ in 0..count {
-        ticks.push_reserved(words.number_in(0, 1 << 32)?);
+    let mut ticks = Vec::new(alloc);
+    for _turn in 0..count {
+        let tick = words.number_in(0, 1 << 32)?;
+        ticks.push(tick)?;
     }
     Ok(Ticks::from_vec(ticks))
 }
