@@ -24,7 +24,8 @@ use Rattle.zeus_lease.proofs.Safe.{changed_clock, found_at, start_length, start_
 use Rattle.zeus_lease.proofs.Views.{seen_views}
 
 -- ranges by how many steps may have been taken; so one step more gives the next
-record Within (count : ℕ) (m : Machine) : Type 0 where
+record Within (count size : ℕ) (m : Machine) : Type 0 where
+  same : length m.nodes ≡ size
   numbers : FitsNumbers (length m.nodes) m.length m.percent
   clocks : (k : ℕ) → (node m k).clock ≤ count * 2 ^ 32
   service : m.service ≤ count * 2 ^ 32
@@ -33,8 +34,9 @@ record Within (count : ℕ) (m : Machine) : Type 0 where
   few_grants : length m.grants ≤ count
   few_views : length m.views ≤ count + 1
 
-within : (m : Machine) → HasRanges m → Within (suc m.steps) m
+within : (m : Machine) → HasRanges m → Within (suc m.steps) (length m.nodes) m
 within m r = record {
+  same = refl;
   numbers = r.numbers;
   clocks = λ k. omega (arith, r.clocks k);
   service = omega (arith, r.service);
@@ -44,8 +46,8 @@ within m r = record {
   few_views = omega (arith, r.few_views);
 }
 
-counted : (count : ℕ) (m : Machine) → Within count m → count ≤ 50000 → HasRanges (record m { steps = count })
-counted count m w few = record {
+counted : (count size : ℕ) (m : Machine) → Within count size m → count ≤ 50000 → HasRanges (record m { steps = count })
+counted count size m w few = record {
   numbers = w.numbers;
   clocks = w.clocks;
   service = w.service;
@@ -64,12 +66,13 @@ small_at limit [] k some h = some
 small_at limit (t ∷ ts) zero some h = h.0
 small_at limit (t ∷ ts) (suc k) some h = small_at limit ts k some h.1
 
-passed_within : (m : Machine) (ticks : List ℕ) → HasRanges m → All (λ t. t < 2 ^ 32) ticks → Within (suc m.steps) (record m { nodes = went_on m.nodes ticks; service = m.service + nth 0 ticks (length m.nodes) })
+passed_within : (m : Machine) (ticks : List ℕ) → HasRanges m → All (λ t. t < 2 ^ 32) ticks → Within (suc m.steps) (length m.nodes) (record m { nodes = went_on m.nodes ticks; service = m.service + nth 0 ticks (length m.nodes) })
 passed_within m ticks r small =
     let each = recursion_from_All (λ t. t < 2 ^ 32) ticks small in
     let more : suc m.steps * 2 ^ 32 ≡ m.steps * 2 ^ 32 + 2 ^ 32 = omega arith in
     let w = within m r in
     record {
+      same = length-went_on m.nodes ticks;
       numbers = rw (length-went_on m.nodes ticks) r.numbers;
       clocks = λ k. omega (arith, more, r.clocks k, went_on-most m.nodes ticks k, small_at (2 ^ 32) ticks k (omega arith) each);
       service = omega (arith, more, r.service, small_at (2 ^ 32) ticks (length m.nodes) (omega arith) each);
@@ -79,7 +82,7 @@ passed_within m ticks r small =
       few_views = w.few_views;
     }
 
-pass_within : (m : Machine) (ticks : List ℕ) (o : Option LeaseAnswer) → HasRanges m → All (λ t. t < 2 ^ 32) ticks → Within (suc m.steps) (pass_or_not m ticks o).machine
+pass_within : (m : Machine) (ticks : List ℕ) (o : Option LeaseAnswer) → HasRanges m → All (λ t. t < 2 ^ 32) ticks → Within (suc m.steps) (length m.nodes) (pass_or_not m ticks o).machine
 unfolding pass_or_not
 pass_within m ticks (Some skewed) r small = within m r
 pass_within m ticks None r small = passed_within m ticks r small
@@ -99,11 +102,12 @@ ask_choice m n i r node lt false e =
     let low : i < length m.asks = omega arith in
     rw (nth-append_old no_ask m.asks (new_ask m n ∷ []) i low) ((within m r).asks i low)
 
-asked_within : (m : Machine) (n : ℕ) → HasRanges m → n < length m.nodes → Within (suc m.steps) (record m { asks = m.asks ++ new_ask m n ∷ [] })
+asked_within : (m : Machine) (n : ℕ) → HasRanges m → n < length m.nodes → Within (suc m.steps) (length m.nodes) (record m { asks = m.asks ++ new_ask m n ∷ [] })
 asked_within m n r there =
     let more : length (m.asks ++ new_ask m n ∷ []) ≡ length m.asks + 1 = length-append m.asks (new_ask m n ∷ []) in
     let w = within m r in
     record {
+      same = refl;
       numbers = w.numbers;
       clocks = w.clocks;
       service = w.service;
@@ -113,24 +117,25 @@ asked_within m n r there =
       few_views = w.few_views;
     }
 
-ask_within : (m : Machine) (n : ℕ) → HasRanges m → n < length m.nodes → Within (suc m.steps) (ask m n).machine
+ask_within : (m : Machine) (n : ℕ) → HasRanges m → n < length m.nodes → Within (suc m.steps) (length m.nodes) (ask m n).machine
 unfolding ask
 ask_within m n r there = go (has n m.ended)
   where
-    go : (b : Bool) → Within (suc m.steps) (cond {A = Did} b (just m answers.Ended) (just (record m { asks = m.asks ++ new_ask m n ∷ [] }) (answers.Asked (length m.asks)))).machine
+    go : (b : Bool) → Within (suc m.steps) (length m.nodes) (cond {A = Did} b (just m answers.Ended) (just (record m { asks = m.asks ++ new_ask m n ∷ [] }) (answers.Asked (length m.asks)))).machine
     go true = within m r
     go false = asked_within m n r there
 
 -- ---- a node is changed, but for its clock
 
 changed_within : (m : Machine) (n : ℕ) (new : Node) (grants : List ℕ) → HasRanges m → n < length m.nodes → new.clock ≡ (node m n).clock → length grants ≤ suc m.steps
-    → Within (suc m.steps) (record (with_node_at m n new) { grants = grants })
+    → Within (suc m.steps) (length m.nodes) (record (with_node_at m n new) { grants = grants })
 changed_within m n new grants r there clock few =
     let w = within m r in
     let same = length-put no_node m.nodes n new there in
     record {
+      same = same;
       numbers = rw same w.numbers;
-      clocks = λ k. rw (changed_clock m n new there clock k) (w.clocks k);
+      clocks = λ k. rw (changed_clock m n new clock k) (w.clocks k);
       service = w.service;
       asks = λ i lt. rw same (w.asks i lt);
       few_asks = w.few_asks;
@@ -138,27 +143,27 @@ changed_within m n new grants r there clock few =
       few_views = w.few_views;
     }
 
-hear_within : (m : Machine) (i : ℕ) (o : Option Ask) → slice_get m.asks i ≡ o → HasRanges m → Within (suc m.steps) (hear m i o).machine
+hear_within : (m : Machine) (i : ℕ) (o : Option Ask) → slice_get m.asks i ≡ o → HasRanges m → Within (suc m.steps) (length m.nodes) (hear m i o).machine
 unfolding hear
 hear_within m i None e r = within m r
 hear_within m i (Some a) e r = go (has a.node (last_view m.views)) (found_at no_ask m.asks i a e)
   where
-    go : (b : Bool) → (ask_of m i ≡ a) × (i < length m.asks) → Within (suc m.steps) (cond {A = Did} b (granted m i a.node) (just m answers.Dropped)).machine
+    go : (b : Bool) → (ask_of m i ≡ a) × (i < length m.asks) → Within (suc m.steps) (length m.nodes) (cond {A = Did} b (granted m i a.node) (just m answers.Dropped)).machine
     go true found =
         let more : length (m.grants ++ i ∷ []) ≡ length m.grants + 1 = length-append m.grants (i ∷ []) in
         let there : a.node < length m.nodes = subst (λ (b : Ask). b.node < length m.nodes) found.0 (r.asks i found.1).0 in
         changed_within m a.node _ (m.grants ++ i ∷ []) r there refl (omega (arith, more, r.few_grants))
     go false found = within m r
 
-take_by_within : (m : Machine) (i : ℕ) → HasRanges m → i < length m.asks → Within (suc m.steps) (take_by m (ask_of m i)).machine
+take_by_within : (m : Machine) (i : ℕ) → HasRanges m → i < length m.asks → Within (suc m.steps) (length m.nodes) (take_by m (ask_of m i)).machine
 unfolding take_by
 take_by_within m i r there = go (has (ask_of m i).node m.ended)
   where
-    go : (b : Bool) → Within (suc m.steps) (cond {A = Did} b (just m answers.Ended) (just (with_node_at m (ask_of m i).node (record (node m (ask_of m i).node) { end = Some (later (node m (ask_of m i).node).end ((ask_of m i).clock + m.length)) })) (answers.Held (later (node m (ask_of m i).node).end ((ask_of m i).clock + m.length))))).machine
+    go : (b : Bool) → Within (suc m.steps) (length m.nodes) (cond {A = Did} b (just m answers.Ended) (just (with_node_at m (ask_of m i).node (record (node m (ask_of m i).node) { end = Some (later (node m (ask_of m i).node).end ((ask_of m i).clock + m.length)) })) (answers.Held (later (node m (ask_of m i).node).end ((ask_of m i).clock + m.length))))).machine
     go true = within m r
     go false = changed_within m (ask_of m i).node _ m.grants r (r.asks i there).0 refl (omega (arith, r.few_grants))
 
-take_within : (m : Machine) (g : ℕ) (o : Option ℕ) → slice_get m.grants g ≡ o → HasRanges m → IsSafe m → Within (suc m.steps) (take m o).machine
+take_within : (m : Machine) (g : ℕ) (o : Option ℕ) → slice_get m.grants g ≡ o → HasRanges m → IsSafe m → Within (suc m.steps) (length m.nodes) (take m o).machine
 unfolding take
 take_within m g None e r safe = within m r
 take_within m g (Some i) e r safe =
@@ -167,44 +172,44 @@ take_within m g (Some i) e r safe =
 
 -- ---- acts and views
 
-ended_within : (m : Machine) (ended : List ℕ) → HasRanges m → Within (suc m.steps) (record m { ended = ended })
+ended_within : (m : Machine) (ended : List ℕ) → HasRanges m → Within (suc m.steps) (length m.nodes) (record m { ended = ended })
 ended_within m ended r =
     let w = within m r in
-    record { numbers = w.numbers; clocks = w.clocks; service = w.service; asks = w.asks; few_asks = w.few_asks; few_grants = w.few_grants; few_views = w.few_views }
+    record { same = refl; numbers = w.numbers; clocks = w.clocks; service = w.service; asks = w.asks; few_asks = w.few_asks; few_grants = w.few_grants; few_views = w.few_views }
 
-act_by_within : (m : Machine) (n : ℕ) (o : Option ℕ) → HasRanges m → Within (suc m.steps) (act_by m n o).machine
+act_by_within : (m : Machine) (n : ℕ) (o : Option ℕ) → HasRanges m → Within (suc m.steps) (length m.nodes) (act_by m n o).machine
 unfolding act_by
 act_by_within m n None r = within m r
 act_by_within m n (Some end) r = go (nat_lt (node m n).clock end)
   where
-    go : (b : Bool) → Within (suc m.steps) (cond {A = Did} b (just m answers.Acted) (just (record m { ended = with_node n m.ended }) answers.Ended)).machine
+    go : (b : Bool) → Within (suc m.steps) (length m.nodes) (cond {A = Did} b (just m answers.Acted) (just (record m { ended = with_node n m.ended }) answers.Ended)).machine
     go true = within m r
     go false = ended_within m (with_node n m.ended) r
 
-act_within : (m : Machine) (n : ℕ) → HasRanges m → Within (suc m.steps) (act m n).machine
+act_within : (m : Machine) (n : ℕ) → HasRanges m → Within (suc m.steps) (length m.nodes) (act m n).machine
 unfolding act
 act_within m n r = go (has n m.ended)
   where
-    go : (b : Bool) → Within (suc m.steps) (cond {A = Did} b (just m answers.Ended) (act_by m n (node m n).end)).machine
+    go : (b : Bool) → Within (suc m.steps) (length m.nodes) (cond {A = Did} b (just m answers.Ended) (act_by m n (node m n).end)).machine
     go true = within m r
     go false = act_by_within m n (node m n).end r
 
-viewed_within : (m : Machine) (views : List (List ℕ)) → HasRanges m → length views ≤ suc m.steps + 1 → Within (suc m.steps) (record m { views = views })
+viewed_within : (m : Machine) (views : List (List ℕ)) → HasRanges m → length views ≤ suc m.steps + 1 → Within (suc m.steps) (length m.nodes) (record m { views = views })
 viewed_within m views r few =
     let w = within m r in
-    record { numbers = w.numbers; clocks = w.clocks; service = w.service; asks = w.asks; few_asks = w.few_asks; few_grants = w.few_grants; few_views = few }
+    record { same = refl; numbers = w.numbers; clocks = w.clocks; service = w.service; asks = w.asks; few_asks = w.few_asks; few_grants = w.few_grants; few_views = few }
 
-view_within : (m : Machine) (set : List ℕ) → HasRanges m → Within (suc m.steps) (view m (world_does (seen m) (ViewStep set))).machine
+view_within : (m : Machine) (set : List ℕ) → HasRanges m → Within (suc m.steps) (length m.nodes) (view m (world_does (seen m) (ViewStep set))).machine
 unfolding view world_does view_or_not
 view_within m set r = go (view_refused (seen m) set)
   where
-    go : (o : Option Made) → Within (suc m.steps) (record m { views = (view_or_not (seen m) set o).world.views })
+    go : (o : Option Made) → Within (suc m.steps) (length m.nodes) (record m { views = (view_or_not (seen m) set o).world.views })
     go (Some x) = rw (seen_views m) (viewed_within m m.views r (omega (arith, r.few_views)))
     go None = let more : length (m.views ++ set ∷ []) ≡ length m.views + 1 = length-append m.views (set ∷ []) in rw (seen_views m) (viewed_within m (m.views ++ set ∷ []) r (omega (arith, more, r.few_views)))
 
 -- ---- steps
 
-happens_within : (m : Machine) (s : LeaseStep) → HasRanges m → IsSafe m → FitsStep (length m.nodes) s → Within (suc m.steps) (happens m s).machine
+happens_within : (m : Machine) (s : LeaseStep) → HasRanges m → IsSafe m → FitsStep (length m.nodes) s → Within (suc m.steps) (length m.nodes) (happens m s).machine
 unfolding happens FitsStep
 happens_within m (steps.Pass ticks) r safe fits = pass_within m ticks (skew m.percent ticks (suc (length m.nodes))) r fits.1
 happens_within m (steps.Ask n) r safe fits = ask_within m n r fits
@@ -215,7 +220,11 @@ happens_within m (steps.View set) r safe fits = view_within m set r
 
 stepped_ranges : (m : Machine) (s : LeaseStep) → HasRanges m → IsSafe m → m.steps < 50000 → FitsStep (length m.nodes) s → HasRanges (stepped m s)
 unfolding stepped
-stepped_ranges m s r safe few fits = counted (suc m.steps) (happens m s).machine (happens_within m s r safe fits) few
+stepped_ranges m s r safe few fits = counted (suc m.steps) (length m.nodes) (happens m s).machine (happens_within m s r safe fits) few
+
+pub stepped_nodes : (m : Machine) (s : LeaseStep) → IsKept m → FitsStep (length m.nodes) s → length (stepped m s).nodes ≡ length m.nodes
+unfolding stepped
+stepped_nodes m s kept fits = (happens_within m s kept.ranges kept.safe fits).same
 
 pub stepped_kept : (m : Machine) (s : LeaseStep) → IsKept m → m.steps < 50000 → FitsStep (length m.nodes) s → IsKept (stepped m s)
 stepped_kept m s kept few fits = record { ranges = stepped_ranges m s kept.ranges kept.safe few fits; safe = stepped_safe m s kept.safe }
@@ -238,3 +247,7 @@ start_kept nodes term percent numbers = record {
   safe = start_safe nodes term percent;
 }
 
+
+pub start_ready : (nodes term percent : ℕ) → (length (start nodes term percent).nodes ≡ nodes) × ((start nodes term percent).steps ≡ 0)
+unfolding start
+start_ready nodes term percent = (start_length nodes, refl)

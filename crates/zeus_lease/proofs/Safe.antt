@@ -193,14 +193,14 @@ module _ (m : Machine) (n : ℕ) (new : Node) (there : n < length m.nodes) (cloc
             clocks = rw (nth-put_other no_node m.nodes n k new (eqb-false n k e)) covered.clocks;
           }
 
-  pub changed_clock : (k : ℕ) → (node (changed m n new) k).clock ≡ (node m k).clock
-  changed_clock k = go (n == k) refl
-    where
-      go : (b : Bool) → (n == k) ≡ b → (node (changed m n new) k).clock ≡ (node m k).clock
-      go true e =
-          let is : n ≡ k = eqb-true n k e in
-          rw (← is, nth-put_same no_node m.nodes n new) clock
-      go false e = rw (nth-put_other no_node m.nodes n k new (eqb-false n k e)) refl
+pub changed_clock : (m : Machine) (n : ℕ) (new : Node) → new.clock ≡ (node m n).clock → (k : ℕ) → (node (changed m n new) k).clock ≡ (node m k).clock
+changed_clock m n new clock k = go (n == k) refl
+  where
+    go : (b : Bool) → (n == k) ≡ b → (node (changed m n new) k).clock ≡ (node m k).clock
+    go true e =
+        let is : n ≡ k = eqb-true n k e in
+        rw (← is, nth-put_same no_node m.nodes n new) clock
+    go false e = rw (nth-put_other no_node m.nodes n k new (eqb-false n k e)) refl
 
 -- what a look by index finds
 pub found_at : {A : Type 0} (d : A) (xs : List A) (i : ℕ) (x : A) → slice_get xs i ≡ Some x → (nth d xs i ≡ x) × (i < length xs)
@@ -302,7 +302,7 @@ module _ (m : Machine) (i : ℕ) (a : Ask) (safe : IsSafe m) (is : ask_of m i �
   granted_safe =
       let more : length (m.grants ++ i ∷ []) ≡ length m.grants + 1 = length-append m.grants (i ∷ []) in
       record {
-        asks = λ j lt. rw (changed_clock m a.node new exists refl (omega arith) (ask_of m j).node) (safe.asks j lt);
+        asks = λ j lt. rw (changed_clock m a.node new refl (ask_of m j).node) (safe.asks j lt);
         grants = λ g lt. (grant_choice g (omega (arith, more, lt)) (g == length m.grants) refl).0;
         answered = λ g lt. (grant_choice g (omega (arith, more, lt)) (g == length m.grants) refl).1;
         leases = λ n end e. kept_covered n end (safe.leases n end (granted_end n end e));
@@ -377,7 +377,7 @@ module _ (m : Machine) (i : ℕ) (g : ℕ) (safe : IsSafe m) (is : nth 0 m.grant
 
   held_safe : IsSafe held
   held_safe = record {
-    asks = λ j lt. rw (changed_clock m of.node holding covered_grant.there refl (omega arith) (ask_of m j).node) (safe.asks j lt);
+    asks = λ j lt. rw (changed_clock m of.node holding refl (ask_of m j).node) (safe.asks j lt);
     grants = λ k lt. held_covered _ _ (safe.grants k lt);
     answered = safe.answered;
     leases = held_lease;

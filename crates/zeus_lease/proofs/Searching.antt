@@ -1,5 +1,6 @@
 -- A search over the numbers below one, number by number.
-use Rattle.std.proofs.Common.{ℕ, suc, ◌≡◌, ◌∙◌, ◌<◌, ◌≤◌, ◌+◌, ◌-◌, Option, Some, None, refl, sym, ap, add-one, arith}
+use Rattle.std.proofs.Common.{ℕ, suc, ◌≡◌, ◌∙◌, ◌<◌, ◌≤◌, ◌+◌, ◌-◌, true, Option, Some, None, refl, sym, ap, add-one, arith}
+use Rattle.std.specs.Prelude.{is_some}
 use Rattle.zeus_model.specs.Tables.{below, first_of, numbers_from, or_else}
 
 module _ {A : Type 0} (f : ℕ → Option A) (n : ℕ) where
@@ -30,3 +31,7 @@ module _ {A : Type 0} (f : ℕ → Option A) (n : ℕ) where
   pub first_from-passed : (i : ℕ) → i < n → f i ≡ None → first_from i ≡ first_from (i + 1)
   unfolding first_of numbers_from or_else
   first_from-passed i h e = ap (first_of f) (next_number i h) ∙ rw (e, add-one) refl
+
+  pub first_from-some : (i : ℕ) (o : Option A) → i < n → f i ≡ o → is_some o ≡ true → first_from i ≡ o
+  first_from-some i None h e some = absurd cc
+  first_from-some i (Some a) h e some = first_from-found i a h e

@@ -33,17 +33,19 @@ impl Model for Leases {
 }
 
 impl Leases {
-    /// So many nodes, 1 to 8, with all clocks at 0: the length of a lease by its node's clock, and by how many percent one
-    /// clock may go faster than another.
+    /// So many nodes, 1 to 8, with all clocks at 0: `term` is the length of a lease by its node's clock, and `percent` by how
+    /// much one clock may go faster than another.
     ///
     /// # Errors
     /// `NoMemory` if the memory for it is not there.
-    pub fn new(alloc: Global, nodes: u8, length: u64, percent: u64) -> Result<Leases, NoMemory>
-        requires { FitsNumbers nodes length percent }
-        ensures start { IfOk result (λ l. l ≡ start nodes length percent) }
+    pub fn new(alloc: Global, nodes: u8, term: u64, percent: u64) -> Result<Leases, NoMemory>
+        requires { FitsNumbers nodes term percent }
+        ensures start { IfOk result (λ l. l ≡ start nodes term percent) }
+        // It has so many nodes, and no step was taken.
+        ensures ready { IfOk result (λ l. (length l.nodes ≡ nodes) × (l.steps ≡ 0)) }
     {
         Ok(Leases {
-            state: State::new(alloc, nodes, length, percent)?,
+            state: State::new(alloc, nodes, term, percent)?,
         })
     }
 
@@ -57,6 +59,8 @@ impl Leases {
         ensures answer { IfOk result (λ a. a ≡ (happens self.old step.now).answer) }
         ensures after { IfOk result (λ a. self.new ≡ stepped self.old step.now) }
         ensures err { OnErr result (self.new ≡ self.old) }
+        // The number of nodes stays.
+        ensures nodes { IfOk result (λ a. length self.new.nodes ≡ length self.old.nodes) }
         // A node that the last view leaves out stays left out, and never acts.
         ensures left_out { (n : ℕ) → IsLeftOut self.old n → IsLeftOut self.new n × NeverActs self.new n }
         // A node that the view of this step leaves out never acts.

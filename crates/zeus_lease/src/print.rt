@@ -1,8 +1,8 @@
 //! The text that is printed for a script of leases.
-ghost use Rattle.std.specs.Prelude.{◌≡◌, ◌≤◌, ◌<◌, ◌+◌, ◌^◌, ◌++◌, All, IfOk, OnOk, decimal, length, map};
+ghost use Rattle.std.specs.Prelude.{◌≡◌, ◌≤◌, ◌<◌, ◌+◌, ◌++◌, All, IfOk, OnOk, decimal, length, map};
 ghost use Rattle.zeus_model.specs.ReportWords.{made_text};
 ghost use Rattle.zeus_model.specs.Spelling.{spaced};
-ghost use Rattle.zeus_lease.specs.Machine.{happens, run};
+ghost use Rattle.zeus_lease.specs.Machine.{happens, stepped};
 ghost use Rattle.zeus_lease.specs.Scripts.{FitsScript, FitsStep};
 ghost use Rattle.zeus_lease.specs.Text.{answer_line, answer_lines, answer_text, lease_text, step_text};
 
@@ -46,11 +46,11 @@ fn write_step(out: &mut Vec<u8>, step: &LeaseStep) -> Result<(), NoMemory>
 }
 
 #[tactic(auto, unfolding(zeus_model::specs::ReportWords::made_text))]
-fn write_made(out: &mut Vec<u8>, made: &Made) -> Result<(), NoMemory>
-    ensures { OnOk result (out.new.items ≡ out.old.items ++ made_text made.now) }
+fn write_made(out: &mut Vec<u8>, made: Made) -> Result<(), NoMemory>
+    ensures { OnOk result (out.new.items ≡ out.old.items ++ made_text made) }
 {
     match made {
-        Made::Installed(epoch) => write_counted(out, b"installed", u64::from(*epoch)),
+        Made::Installed(epoch) => write_counted(out, b"installed", u64::from(epoch)),
         Made::Empty => append(out, b"empty"),
         Made::NotMember(node) => write_counted(out, b"not member", u64::from(node.0)),
         Made::NotStopped(node) => write_counted(out, b"not stopped", u64::from(node.0)),
@@ -58,22 +58,22 @@ fn write_made(out: &mut Vec<u8>, made: &Made) -> Result<(), NoMemory>
 }
 
 #[tactic(auto, unfolding(crate::specs::Text::answer_text))]
-fn write_answer(out: &mut Vec<u8>, answer: &LeaseAnswer) -> Result<(), NoMemory>
-    ensures { OnOk result (out.new.items ≡ out.old.items ++ answer_text answer.now) }
+fn write_answer(out: &mut Vec<u8>, answer: LeaseAnswer) -> Result<(), NoMemory>
+    ensures { OnOk result (out.new.items ≡ out.old.items ++ answer_text answer) }
 {
     match answer {
         LeaseAnswer::Passed => append(out, b"passed"),
         LeaseAnswer::Skewed(fast, slow) => {
-            write_counted(out, b"skewed", u64::from(*fast))?;
-            write_number(out, u64::from(*slow))
+            write_counted(out, b"skewed", u64::from(fast))?;
+            write_number(out, u64::from(slow))
         }
-        LeaseAnswer::Asked(number) => write_counted(out, b"asked", u64::from(*number)),
+        LeaseAnswer::Asked(number) => write_counted(out, b"asked", u64::from(number)),
         LeaseAnswer::Ended => append(out, b"ended"),
-        LeaseAnswer::NoAsk(count) => write_counted(out, b"no ask", u64::from(*count)),
+        LeaseAnswer::NoAsk(count) => write_counted(out, b"no ask", u64::from(count)),
         LeaseAnswer::Dropped => append(out, b"dropped"),
-        LeaseAnswer::Granted(number) => write_counted(out, b"granted", u64::from(*number)),
-        LeaseAnswer::NoGrant(count) => write_counted(out, b"no grant", u64::from(*count)),
-        LeaseAnswer::Held(end) => write_counted(out, b"held", *end),
+        LeaseAnswer::Granted(number) => write_counted(out, b"granted", u64::from(number)),
+        LeaseAnswer::NoGrant(count) => write_counted(out, b"no grant", u64::from(count)),
+        LeaseAnswer::Held(end) => write_counted(out, b"held", end),
         LeaseAnswer::NoLease => append(out, b"no lease"),
         LeaseAnswer::Acted => append(out, b"acted"),
         LeaseAnswer::View(made) => write_made(out, made),
@@ -85,9 +85,9 @@ fn write_line(
     out: &mut Vec<u8>,
     number: u64,
     step: &LeaseStep,
-    answer: &LeaseAnswer,
+    answer: LeaseAnswer,
 ) -> Result<(), NoMemory>
-    ensures { OnOk result (out.new.items ≡ out.old.items ++ answer_line number step.now answer.now) }
+    ensures { OnOk result (out.new.items ≡ out.old.items ++ answer_line number step.now answer) }
 {
     write_decimal(out, number)?;
     append(out, b" ")?;
@@ -95,6 +95,25 @@ fn write_line(
     append(out, b" = ")?;
     write_answer(out, answer)?;
     write_line_end(out)
+}
+
+/// Takes the step, and writes its line.
+fn take_step(
+    out: &mut Vec<u8>,
+    leases: &mut Leases,
+    number: u64,
+    step: &LeaseStep,
+) -> Result<(), NoMemory>
+    requires few { leases.old.steps < 50000 }
+    requires fits { FitsStep (length leases.old.nodes) step.now }
+    ensures text { OnOk result (out.new.items ≡ out.old.items ++ answer_line number step.now (happens leases.old step.now).answer) }
+    ensures after { OnOk result (leases.new ≡ stepped leases.old step.now) }
+    ensures nodes { OnOk result (length leases.new.nodes ≡ length leases.old.nodes) }
+{
+    match leases.step(step) {
+        Ok(answer) => write_line(out, number, step, answer),
+        Err(error) => Err(error),
+    }
 }
 
 /// Takes the steps, and writes a line for each.
@@ -107,11 +126,8 @@ fn write_lines(
     requires fits { All (FitsStep (length leases.old.nodes)) steps.now }
     ensures { OnOk result (out.new.items ≡ out.old.items ++ answer_lines leases.old 0 steps.now) }
 {
-    let mut number: u64 = 0;
-    for step in steps {
-        let answer = leases.step(step)?;
-        write_line(out, number, step, &answer)?;
-        number += 1;
+    for (number, step) in steps.iter().enumerate() {
+        take_step(out, leases, number as u64, step)?;
     }
     Ok(())
 }

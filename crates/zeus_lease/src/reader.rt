@@ -51,6 +51,19 @@ fn take_lines(draft: &mut Draft, bytes: &[u8]) -> Result<(), ReadScript>
     Err(ReadScript::Fault(ScriptFault { line: number, kind }))
 }
 
+/// The script that the lines say.
+#[tactic(auto, unfolding(crate::specs::Reading::script_of))]
+fn script_of(draft: Draft) -> LeaseScript
+    ensures { result ≡ script_of (state_of draft) }
+{
+    LeaseScript {
+        nodes: draft.nodes,
+        length: draft.length,
+        percent: draft.percent,
+        steps: LeaseSteps::from_vec(draft.steps),
+    }
+}
+
 /// Reads line by line.
 #[tactic(auto, unfolding(crate::specs::Reading::script_read, crate::specs::Reading::scripted, crate::specs::Reading::start))]
 fn script_of_bytes(alloc: Global, bytes: &[u8]) -> Result<LeaseScript, ReadScript>
@@ -62,12 +75,7 @@ fn script_of_bytes(alloc: Global, bytes: &[u8]) -> Result<LeaseScript, ReadScrip
     }
     let mut draft = Draft::new(alloc);
     take_lines(&mut draft, bytes)?;
-    Ok(LeaseScript {
-        nodes: draft.nodes,
-        length: draft.length,
-        percent: draft.percent,
-        steps: LeaseSteps::from_vec(draft.steps),
-    })
+    Ok(script_of(draft))
 }
 
 /// The script of leases that bytes are, or their first fault.

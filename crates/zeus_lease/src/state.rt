@@ -185,7 +185,7 @@ impl State {
 
     /// How long the service waits for a lease by its own clock.
     fn wait(&self) -> u64
-        requires { IsKept (shown self.now) }
+        requires { FitsNumbers (length self.now.nodes.items) self.now.length self.now.percent }
         ensures { result ≡ wait (shown self.now) }
     {
         (self.length * (100 + self.percent) + 99) / 100
@@ -201,6 +201,20 @@ impl State {
         }
     }
 
+    /// The ask of this number, where there is one.
+    fn ask_at(&self, number: u32) -> Option<Ask>
+        ensures { result ≡ slice_get self.now.asks.items number }
+    {
+        self.asks.get(number as usize).copied()
+    }
+
+    /// The number of the ask that the grant of this number answers, where there is one.
+    fn grant_at(&self, number: u32) -> Option<u32>
+        ensures { result ≡ slice_get self.now.grants.items number }
+    {
+        self.grants.get(number as usize).copied()
+    }
+
     /// The service hears the ask of this number.
     #[tactic(auto, unfolding(crate::specs::Machine::hear))]
     fn hear(&mut self, number: u32) -> Result<LeaseAnswer, NoMemory>
@@ -209,7 +223,7 @@ impl State {
         ensures did { IfOk result (λ a. record { machine = shown self.new; answer = a } ≡ hear (shown self.old) number (slice_get self.old.asks.items number)) }
         ensures err { OnErr result (shown self.new ≡ shown self.old) }
     {
-        let Some(ask) = self.asks.get(number as usize) else {
+        let Some(ask) = self.ask_at(number) else {
             return Ok(LeaseAnswer::NoAsk(self.asks.len() as u32));
         };
         let node = ask.node;
@@ -231,10 +245,10 @@ impl State {
         requires few { self.old.steps < 50000 }
         ensures { record { machine = shown self.new; answer = result } ≡ take (shown self.old) (slice_get self.old.grants.items number) }
     {
-        let Some(ask) = self.grants.get(number as usize) else {
+        let Some(asked) = self.grant_at(number) else {
             return LeaseAnswer::NoGrant(self.grants.len() as u32);
         };
-        let ask = self.asks[*ask as usize];
+        let ask = self.asks[asked as usize];
         if self.ended.has(ask.node) {
             return LeaseAnswer::Ended;
         }
@@ -330,8 +344,9 @@ impl State {
         ensures after { IfOk result (λ a. shown self.new ≡ stepped (shown self.old) step.now) }
         ensures err { OnErr result (shown self.new ≡ shown self.old) }
     {
+        let count = self.steps + 1;
         let answer = self.happen(step)?;
-        self.steps += 1;
+        self.steps = count;
         Ok(answer)
     }
 }
