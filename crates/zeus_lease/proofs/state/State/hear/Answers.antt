@@ -13,8 +13,7 @@ returns-clause-did c =
     let m = shown c.args.self.now in
     let a = c.in-Some.ask in
     let found = sym c.ask_at.ensures ∙ c.in-Some.is in
-    let member : has a.node (last_view c.args.self.now.views) ≡ true = ?
-    in
+    let member : has a.node (last_view c.args.self.now.views) ≡ true = sym c.is_member.ensures ∙ c.if-not-is_member.false in
     let there : a.node < length c.args.self.now.nodes.items = found_ask m c.args.number a c.requires.kept found in
     let was : node m a.node ≡ c.index_mut-node.result.now = nth_read no_node c.args.self.now.nodes.items a.node c.index_mut-node.result.now there (rw c.place.ensures at c.index_mut-node.ensures.value) in
     let expiry : c.max-node.result ≡ max c.index_mut-node.result.now.expiry (c.args.self.now.service + wait m) = c.max-node.ensures ∙ ap (λ (w : ℕ). max c.index_mut-node.result.now.expiry (c.args.self.now.service + w)) c.wait.ensures in
