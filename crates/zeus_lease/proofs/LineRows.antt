@@ -3,7 +3,7 @@ use Rattle.std.proofs.Common.{◌≡◌, ℕ, zero, suc, ◌+◌, ◌≤◌, ◌
 use Rattle.std.specs.Prelude.{codes, ◌&&◌, ◌||◌, ◌==◌, not}
 use Rattle.std.specs.Str.{bytes_eq}
 use Rattle.zeus_model.specs.Faults.{row_met}
-use Rattle.zeus_model.specs.Places.{Want, Number, Keyword, Place, must, ends, under, behind, node_place, Tail, Ends, Members, Form, no_form}
+use Rattle.zeus_model.specs.Places.{Wanted, Number, Keyword, WordPlace, must, ends, under, behind, node_place, Tail, Ends, Members, Form, no_form}
 use Rattle.zeus_model.specs.Tables.{or_else, where_true}
 use Rattle.zeus_model.specs.Words.{is_among}
 use Rattle.zeus_model.specs.declared.fault.Kind.{Kind}
