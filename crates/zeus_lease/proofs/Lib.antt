@@ -1,0 +1,16 @@
+pub mod Clocks
+pub mod FaultLaw
+pub mod Followed
+pub mod Language
+pub mod LineFits
+pub mod LineRows
+pub mod LineSteps
+pub mod Lines
+pub mod LinesRead
+pub mod LinesSay
+pub mod Ranges
+pub mod Rows
+pub mod Safe
+pub mod Searching
+pub mod TickSteps
+pub mod Views
