@@ -422,9 +422,12 @@ module _ {S : Type 0} (Fits Whole : S → Type 0) (lines all : S → Lines) (tak
           choose false last i is made = absurd cc
       go (Ok (false, u)) e g rest =
           let adds = read_is (taken s (cut 32 p)) (false, u) (Goes Fits Whole lines all s (cut 32 p)) e (L.goes s (cut 32 p) fits) in
-          let more = rest u adds.0 g in
-          (cut 32 p ∷ more.0, ap (λ (qs : List (List ℕ)). p ∷ qs) more.1 ∙ ap (λ (w : List ℕ). w ∷ parts_of more.0) (sym (words_text-cut p)), more.2,
-          more.3 ∙ ap (λ (front : Lines). front ++ more.0) adds.1 ∙ append_assoc (lines s) (cut 32 p ∷ []) more.0)
+          let more = rest u adds.0 g in (
+            cut 32 p ∷ more.0,
+            ap (λ (qs : List (List ℕ)). p ∷ qs) more.1 ∙ ap (λ (w : List ℕ). w ∷ parts_of more.0) (sym (words_text-cut p)),
+            more.2,
+            more.3 ∙ ap (λ (front : Lines). front ++ more.0) adds.1 ∙ append_assoc (lines s) (cut 32 p ∷ []) more.0,
+          )
 
   pub read_sound : (bytes : List ℕ) (t : S) → followed taken start 1 (cut 10 bytes) ≡ Ok t → Whole t × (bytes ≡ lines_text (all t))
   read_sound bytes t h =

@@ -108,11 +108,19 @@ steps_are nodes (s ∷ ss) few h = (step_is_line nodes s few h.0, steps_are node
 are : (t : State) → Whole t → AllByRecursion IsLine (all t)
 unfolding script_lines script_of
 are t whole =
-    let n = whole.numbers in
-    (version_is_line, (number_is_line (codes "nodes") t.nodes (from_test (codes "nodes") refl) (omega (arith, n.few.1)),
-    (number_is_line (codes "length") t.length (from_test (codes "length") refl) (omega (arith, n.long.1)),
-    (number_is_line (codes "percent") t.percent (from_test (codes "percent") refl) (omega (arith, n.close)),
-    steps_are t.nodes t.steps n.few.1 whole.steps))))
+    let n = whole.numbers in (
+      version_is_line,
+      (
+        number_is_line (codes "nodes") t.nodes (from_test (codes "nodes") refl) (omega (arith, n.few.1)),
+        (
+          number_is_line (codes "length") t.length (from_test (codes "length") refl) (omega (arith, n.long.1)),
+          (
+            number_is_line (codes "percent") t.percent (from_test (codes "percent") refl) (omega (arith, n.close)),
+            steps_are t.nodes t.steps n.few.1 whole.steps,
+          ),
+        ),
+      ),
+    )
 
 -- ---- what is spelled is read
 

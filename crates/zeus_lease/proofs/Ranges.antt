@@ -247,7 +247,6 @@ start_kept nodes term percent numbers = record {
   safe = start_safe nodes term percent;
 }
 
-
 pub start_ready : (nodes term percent : ℕ) → (length (start nodes term percent).nodes ≡ nodes) × ((start nodes term percent).steps ≡ 0)
 unfolding start
 start_ready nodes term percent = (start_length nodes, refl)

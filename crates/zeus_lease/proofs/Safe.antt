@@ -241,7 +241,6 @@ counted_safe m count safe = record {
 abbrev granted_node : Machine → ℕ → Node
 granted_node m n = record (node m n) { expiry = max (node m n).expiry (m.service + wait m) }
 
-
 -- the node of an ask that the service hears is a member, and its ask is not later than its clock
 module _ (m : Machine) (i : ℕ) (a : Ask) (safe : IsSafe m) (is : ask_of m i ≡ a) (there : i < length m.asks) (member : has a.node (last_view m.views) ≡ true) where
   abbrev new : Node
