@@ -19,7 +19,7 @@ pub fn finish(node: &mut NodeState, out: &mut Effect)
 {
     advance_own_streams(node, out);
     advance_streams_outside(node, out);
-    report_recovered(node, out);
+    report(node, out);
 }
 
 /// Each own stream advances.
@@ -68,7 +68,7 @@ fn advance_streams_of(node: &mut NodeState, other: NodeId, out: &mut Effect)
 }
 
 /// The node reports to the other members, if it has not done so in this epoch and has nothing to replay.
-fn report_recovered(node: &mut NodeState, out: &mut Effect)
+fn report(node: &mut NodeState, out: &mut Effect)
     requires { length out.old.sent ≤ 64 }
     ensures { IsActed (report_recovered node.old) node.new out.old out.new }
 {
