@@ -73,10 +73,10 @@ its accounts txs declared w id bank same less =
     let there : id < length txs = let count = same_count txs declared bank.operations in omega arith in
     record {
       operations =
-        ap (λ (ts : List TxDecl). ops_of (nth no_tx ts id)) same
-        ∙ sym (nth-map [] no_tx ops_of declared id less)
-        ∙ ap (λ (all : List (List Op)). nth [] all id) bank.operations
-        ∙ nth-map [] (Balance 0) operations txs id there;
+          ap (λ (ts : List TxDecl). ops_of (nth no_tx ts id)) same
+          ∙ sym (nth-map [] no_tx ops_of declared id less)
+          ∙ ap (λ (all : List (List Op)). nth [] all id) bank.operations
+          ∙ nth-map [] (Balance 0) operations txs id there;
       fits = All-nth (FitsBank accounts) (Balance 0) txs id there bank.each;
     }
 
@@ -105,7 +105,7 @@ leaves_money accounts txs w config few points l =
     let hold = held-shown (map_left w) (balances_left accounts txs w) l.shown.same in
     let paid = l.paid in
     let count : length (map_left w) ≡ length (balances_left accounts txs w) =
-      sym (length-map (map_left w) value_of) ∙ ap length l.shown.same ∙ length-map (balances_left accounts txs w) Num in
+    sym (length-map (map_left w) value_of) ∙ ap length l.shown.same ∙ length-map (balances_left accounts txs w) Num in
     record {
       size = count ∙ l.size ∙ length-replicate (2 * accounts) opening;
       balanced = l.shown.same;
@@ -126,8 +126,8 @@ keeps_money accounts txs declared steps bank fit fits =
     let config : w.config ≡ c = run-config c declared steps limits fits in
     let same : w.txs ≡ declared = run_txs c declared steps (start c declared) (start-config c declared) (start-txs c declared) (start-reached c declared limits fit.each) (fits-steps c declared steps fits) in
     let there : (id : ℕ) → 1 ≤ times id w.book.points → id < length declared =
-        λ id h. let begun = (sound.one_history.placed id h).begun in
-            begun_there c (length declared) begun.1 id steps fits ((told.begun id begun.1).0 begun.3).step in
+    λ id h. let begun = (sound.one_history.placed id h).begun in
+    begun_there c (length declared) begun.1 id steps fits ((told.begun id begun.1).0 begun.3).step in
     let once : (id : ℕ) → times id w.book.points ≤ 1 = λ id. at_most_once (times id w.book.points) (λ h. (sound.one_history.placed id h).once) in
     let count = few_points w.book.points (length declared) once there in
     let few = fit.few in

@@ -39,9 +39,9 @@ pub shown_put : (m : List Versioned) (bs : List ℕ) (x n k : ℕ) → Shows m b
 shown_put m bs x n k s =
     record {
       same =
-        map-put value_of no_content m x record { ver = k; value = Num n }
-        ∙ ap (λ (vs : List Value). put (Num 0) vs x (Num n)) s.same
-        ∙ sym (map-put Num 0 bs x n);
+          map-put value_of no_content m x record { ver = k; value = Num n }
+          ∙ ap (λ (vs : List Value). put (Num 0) vs x (Num n)) s.same
+          ∙ sym (map-put Num 0 bs x n);
     }
 
 -- ---- totals

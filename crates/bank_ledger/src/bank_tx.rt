@@ -94,10 +94,7 @@ impl BankTx {
             }
             BankTx::Withdraw(account, amount) => {
                 let savings = account.savings();
-                let ops = [
-                    Op::Need(savings, amount),
-                    Op::Add(savings, taking(amount)),
-                ];
+                let ops = [Op::Need(savings, amount), Op::Add(savings, taking(amount))];
                 tx_of(alloc, &ops)
             }
             BankTx::Pay(account, other, amount) => {

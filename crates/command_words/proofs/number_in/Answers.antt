@@ -19,6 +19,6 @@ returns-else-is_spelled-clause-none c = λ _ n is.
       | else-is_spelled-via-then-is_spelled+else-lowest-number w ↦ omega arith
       | else-is_spelled-via-else-is_spelled w ↦
           let texts : c.as_bytes.result.now ≡ c.as_bytes-2.result.now =
-            c.as_bytes.ensures.value ∙ c.format.ensures.text ∙ ap decimal same ∙ sym is.spelled ∙ sym c.as_bytes-2.ensures.value in
+          c.as_bytes.ensures.value ∙ c.format.ensures.text ∙ ap decimal same ∙ sym is.spelled ∙ sym c.as_bytes-2.ensures.value in
           told_apart c.as_bytes.result.now c.as_bytes-2.result.now c.eq-is_spelled.result c.eq-is_spelled.ensures w.if-is_spelled.false texts
     ]
