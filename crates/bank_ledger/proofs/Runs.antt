@@ -20,9 +20,9 @@ use Rattle.zeus_model.specs.World.{World, no_tx, run, start, stepped}
 use Rattle.machine_moves.specs.Fits.{StepFits}
 use Rattle.machine_moves.proofs.Start.{start-config}
 use Rattle.machine_moves.proofs.Steps.{IsStep, step_is_moves}
-use Rattle.data_safety.specs.Story.{story}
-use Rattle.data_safety.proofs.RowsRuns.{moves_txs, start-txs}
-use Rattle.data_safety.proofs.RowsSteps.{step_is_story_moves}
+use Rattle.data_safety.specs.RunState.{run_state}
+use Rattle.data_safety.proofs.StepRuns.{moves_txs, start-txs}
+use Rattle.data_safety.proofs.StepMoves.{step_is_run_moves}
 use Rattle.invariants.proofs.Start.{nth-map}
 use Rattle.soundness.specs.Telling.{IsTold}
 use Rattle.soundness.proofs.Fitting.{fits-steps}
@@ -45,7 +45,7 @@ run_txs c txs [] w config same r fits = same
 run_txs c txs (s ∷ ss) w config same r fits =
     let first : StepFits c txs s = All-head (StepFits c txs) s ss fits in
     let moved : IsStep w (stepped w s) = step_is_moves w s txs r.usual (rw config first) in
-    let kept : (stepped w s).txs ≡ w.txs = moves_txs (story w) (story (stepped w s)) (step_is_story_moves w s r.usual (rw (config, same) first)) in
+    let kept : (stepped w s).txs ≡ w.txs = moves_txs (run_state w) (run_state (stepped w s)) (step_is_run_moves w s r.usual (rw (config, same) first)) in
     run_txs c txs ss (stepped w s) (moved.config ∙ config) (kept ∙ same) (step-reached c txs w s config same r first) (All-tail (StepFits c txs) s ss fits)
 
 -- ---- which transactions are in its history

@@ -15,6 +15,8 @@ mod bank_tx;
 
 pub use account::AccountId;
 pub use bank_tx::BankTx;
+pub use zeus_base::ObjId;
+pub use zeus_txn::Tx;
 
 /// No run of a bank's transactions loses or makes money, whatever its steps lose, repeat or reorder and whichever nodes they
 /// stop: what the history leaves are the balances of its transactions in whole numbers, and the bank holds what it held at the
