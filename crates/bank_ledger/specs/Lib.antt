@@ -1,0 +1,4 @@
+pub mod Operations
+pub mod Balances
+pub mod Money
+pub mod Bank
