@@ -192,8 +192,8 @@ acked-begun p k es j h acked =
     let sound = last-sound p k es h in
     let history = sound.one_history in
     let placed = history.placed j (history.complete j (acked-same p k es j h ∙ acked)) in
-    let story = replay-book p k es (declared p.txs j).node j h (home-there p k es j h) refl in
-    sym story.begun ∙ rw (placed.begun.3) refl
+    let run_state = replay-book p k es (declared p.txs j).node j h (home-there p k es j h) refl in
+    sym run_state.begun ∙ rw (placed.begun.3) refl
 
 -- ---- what waits behind a lost transaction
 
@@ -264,11 +264,11 @@ pub record IsLostAtHome (p : Plan) (k : Cluster) (x : ℕ) : Type 0 where
 refused-lost : (p : Plan) (k : Cluster) (es : Events) (x : ℕ) → IsLive p k es → IsRefusedIn (home p k x).book x → IsLostAtHome p k x
 refused-lost p k es x h refused =
     let txs = h.txs in
-    let story = replay-book p k es (declared p.txs x).node x h (home-there p k es x h) refl in
+    let run_state = replay-book p k es (declared p.txs x).node x h (home-there p k es x h) refl in
     let none : (record_of (last_world p k).book x).acked ≡ None =
-    refused-unacked p.config p.txs (merged p.config k) x h.limits txs.each (replay-fits p k es h) (story.refused ∙ refused) in
+    refused-unacked p.config p.txs (merged p.config k) x h.limits txs.each (replay-fits p k es h) (run_state.refused ∙ refused) in
     record {
-      unacked = sym story.acked ∙ ap (λ (o : Option ℕ). is_some o) none;
+      unacked = sym run_state.acked ∙ ap (λ (o : Option ℕ). is_some o) none;
       ended = or_left (record_of (home p k x).book x).refused ((home p k x).node).stopped refused;
     }
 
@@ -305,11 +305,11 @@ none_of (Some a) h = absurd cc
 pub replay-gone : (p : Plan) (k : Cluster) (es : Events) (id : ClientId) (t : ℕ) → IsLive p k es → IsThere p.config id → IsGone p.txs (k.clients id) t
     → IsUntouched (record_of (run (start p.config p.txs) (merged p.config k)).book t)
 replay-gone p k es id t h at g =
-    let story = replay-book p k es (declared p.txs t).node t h (home-there p k es t h) refl in
+    let run_state = replay-book p k es (declared p.txs t).node t h (home-there p k es t h) refl in
     let unbegun = gone-unbegun p k es id t h at g in
     record {
-      begun = none_of _ (story.begun ∙ false_unless (is_some (record_of (home p k t).book t).begun) unbegun);
-      acked = none_of _ (story.acked ∙ false_unless (acked_at_home p k t) (λ acked. unbegun (acked-begun p k es t h acked)));
+      begun = none_of _ (run_state.begun ∙ false_unless (is_some (record_of (home p k t).book t).begun) unbegun);
+      acked = none_of _ (run_state.acked ∙ false_unless (acked_at_home p k t) (λ acked. unbegun (acked-begun p k es t h acked)));
     }
 
 pub replay-gone_closed : (p : Plan) (k : Cluster) (es : Events) (id : ClientId) (t : ℕ) → IsLive p k es → IsThere p.config id → IsGone p.txs (k.clients id) t

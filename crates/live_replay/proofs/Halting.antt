@@ -19,15 +19,15 @@ use Rattle.zeus_model.specs.Tables.{nth, put}
 use Rattle.zeus_model.specs.World.{World, Event, no_node, node, link, nth_letter, begin_refused, step_begin, stopped_at, view_refused, view_or_not, step_install, installed_at, refuse_step, happens, stepped, run}
 use Rattle.machine_moves.specs.Fits.{StepFits}
 use Rattle.machine_moves.specs.Move.{Move, installs}
-use Rattle.machine_moves.specs.Scene.{Scene, scene, view, IsLive, nothing}
+use Rattle.machine_moves.specs.SystemState.{SystemState, system, view, IsLive, nothing}
 use Rattle.machine_moves.proofs.Finish.{finish-reached}
 use Rattle.machine_moves.proofs.Lists.{In-nothing, nth-put_same, nth-put_other}
 use Rattle.machine_moves.proofs.Reach.{Became-changed, Changes-became, changed, Reaches, IsReady}
 use Rattle.machine_moves.proofs.Steady.{IsSteady, move_keep}
 use Rattle.machine_moves.proofs.Steps.{IsStep, IsUsual, step_is_moves, viewed}
-use Rattle.data_safety.specs.Story.{story}
-use Rattle.data_safety.proofs.RowsRuns.{moves_txs}
-use Rattle.data_safety.proofs.RowsSteps.{step_is_story_moves}
+use Rattle.data_safety.specs.RunState.{run_state}
+use Rattle.data_safety.proofs.StepRuns.{moves_txs}
+use Rattle.data_safety.proofs.StepMoves.{step_is_run_moves}
 use Rattle.soundness.proofs.Runs.{IsReached}
 use Rattle.live_model.specs.Cell.{CellEvent, Deed, Began, Tried, Took, Ticked, Halted, Saw, step_of}
 use Rattle.live_model.specs.Merge.{Turn, cell_turn, service_turn, entry_of, turn_step}
@@ -37,7 +37,7 @@ use Rattle.live_replay.proofs.Reached.{step-reached}
 
 -- ---- an install stops no node
 
-installs-stopped : (s : Scene) (n e : ℕ) → IsSteady s → IsLive s n → (s.node n).epoch < e → e ≤ length s.views → (finish (viewed s n e)).node.stopped ≡ (s.node n).stopped
+installs-stopped : (s : SystemState) (n e : ℕ) → IsSteady s → IsLive s n → (s.node n).epoch < e → e ≤ length s.views → (finish (viewed s n e)).node.stopped ≡ (s.node n).stopped
 installs-stopped s n e steady live less le =
     let m = viewed s n e in
     let u = changed s n m [] in
@@ -48,7 +48,7 @@ installs-stopped s n e steady live less le =
     let keeps = r.keeps in
     keeps.stopped ∙ ap (λ (x : Node). x.stopped) first.node
 
-install-stopped : (s : Scene) (n e : ℕ) → IsSteady s → e ≤ length s.views → (install (s.node n) record { epoch = e; members = view s e }).node.stopped ≡ (s.node n).stopped
+install-stopped : (s : SystemState) (n e : ℕ) → IsSteady s → e ≤ length s.views → (install (s.node n) record { epoch = e; members = view s e }).node.stopped ≡ (s.node n).stopped
 unfolding install
 install-stopped s n e steady le =
     let m = s.node n in
@@ -89,11 +89,11 @@ view-by (Some m) w set n s h = inl h
 view-by None w set n s h = inl h
 
 install-by : (w : World) (m e n : ℕ) (s : Step) → IsUsual w → StopsBy w (step_install w m e).world n s
-unfolding step_install installed_at scene StopsBy
+unfolding step_install installed_at system StopsBy
 install-by w m e n s u =
     cond_both (nat_lt (length w.views) e) (refuse_step w _) _ (λ (x : Event). (node x.world n).stopped ≡ true → ((node w n).stopped ≡ true) ⊎ (s ≡ Stop n))
     (λ _ h. inl h)
-    (λ le h. inl (put-stopped w m n (install (node w m) record { epoch = e; members = nth [] w.views (e - 1) }).node (install-stopped (scene w) m e u.steady (ltb-false (length w.views) e le)) h))
+    (λ le h. inl (put-stopped w m n (install (node w m) record { epoch = e; members = nth [] w.views (e - 1) }).node (install-stopped (system w) m e u.steady (ltb-false (length w.views) e le)) h))
 
 step-by : (s : Step) (w : World) (n : ℕ) → IsUsual w → StepFits w.config w.txs s → StopsBy w (stepped w s) n s
 unfolding happens step_begin StepFits StopsBy
@@ -115,7 +115,7 @@ run-by c txs (s ∷ ss) w n config same r fits h =
     let first : StepFits c txs s = All-head (StepFits c txs) s ss fits in
     let fit : StepFits w.config w.txs s = rw (config, same) first in
     let moved : IsStep w (stepped w s) = step_is_moves w s txs r.usual (rw config first) in
-    let kept : (stepped w s).txs ≡ w.txs = moves_txs (story w) (story (stepped w s)) (step_is_story_moves w s r.usual fit) in
+    let kept : (stepped w s).txs ≡ w.txs = moves_txs (run_state w) (run_state (stepped w s)) (step_is_run_moves w s r.usual fit) in
     elim (run-by c txs ss (stepped w s) n (moved.config ∙ config) (kept ∙ same) (step-reached c txs w s config same r first) (All-tail (StepFits c txs) s ss fits) h) [
       | inl before ↦ elim (step-by s w n r.usual fit before) [
         | inl early ↦ inl early

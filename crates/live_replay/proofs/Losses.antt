@@ -18,13 +18,13 @@ use Rattle.machine_moves.proofs.Lists.{nth-put_same, nth-put_other}
 use Rattle.machine_moves.proofs.Steps.{IsStep, step_is_moves}
 use Rattle.machine_moves.proofs.Start.{start-config}
 use Rattle.invariants.proofs.Start.{nth-none}
-use Rattle.data_safety.specs.Story.{Story, Truth, story}
-use Rattle.data_safety.specs.StoryMoves.{StoryMove, StoryMoves, plain, rests, begins, reads, refuses, commits_tx, passes_own_tx, passes_kept_tx, ended, onward}
-use Rattle.data_safety.specs.Faithful.{Faithful}
-use Rattle.data_safety.proofs.OwnershipPlain.{IsFaithful}
-use Rattle.data_safety.proofs.RowsRuns.{moves_txs, start-txs}
-use Rattle.data_safety.proofs.RowsSteps.{step_is_story_moves}
-use Rattle.data_safety.proofs.StoryKeeps.{move-faithful}
+use Rattle.data_safety.specs.RunState.{RunState, Witness, run_state}
+use Rattle.data_safety.specs.RunMoves.{RunMove, RunMoves, plain, stutters, begins, reads, refuses, commits_tx, passes_own_tx, passes_kept_tx, ended, onward}
+use Rattle.data_safety.specs.DataInvariant.{DataInvariant}
+use Rattle.data_safety.proofs.OwnershipPlain.{HasDataInvariant}
+use Rattle.data_safety.proofs.StepRuns.{moves_txs, start-txs}
+use Rattle.data_safety.proofs.StepMoves.{step_is_run_moves}
+use Rattle.data_safety.proofs.RunKeeps.{move-invariant}
 use Rattle.soundness.proofs.Runs.{IsReached, start-reached}
 use Rattle.live_replay.proofs.Books.{tx_from-found, is_entry-node}
 use Rattle.live_replay.proofs.Reached.{step-reached}
@@ -102,9 +102,9 @@ none_acked : (o p : Option ℕ) → ((step : ℕ) → o ≡ Some step → p ≡ 
 none_acked None p h none = refl
 none_acked (Some step) p h none = let is = h step refl in absurd (cc (is, none))
 
-move-apart : (y z : Story) (u : Truth) → Faithful y u → AreApart y.book → StoryMove y z → AreApart z.book
+move-apart : (y z : RunState) (u : Witness) → DataInvariant y u → AreApart y.book → RunMove y z → AreApart z.book
 move-apart y z u f h (plain move is txs book) = rw book h
-move-apart y z u f h (rests same txs book steps) = rw book h
+move-apart y z u f h (stutters same txs book steps) = rw book h
 move-apart y z u f h (begins n s id c named tx at in_slot within fresh free ch txs book) = rw book (apart-put y.book.records id _ h (h id))
 move-apart y z u f h (reads n s c is reader clear ch txs book) =
     let booked = f.booked in rw book (read-apart y.book c.id _ (booked.current n s c is).4 h)
@@ -119,10 +119,10 @@ move-apart y z u f h (commits_tx n s c within is writer clear ch txs book) =
 move-apart y z u f h (passes_own_tx n s some ok ch txs book) = rw book (pass_tx-apart y.book true _ _ h)
 move-apart y z u f h (passes_kept_tx n s out foreign some ok ch txs book) = rw book (pass_tx-apart y.book false _ _ h)
 
-moves-apart : (y z : Story) (u : Truth) → Faithful y u → AreApart y.book → StoryMoves y z → AreApart z.book
+moves-apart : (y z : RunState) (u : Witness) → DataInvariant y u → AreApart y.book → RunMoves y z → AreApart z.book
 moves-apart y z u f h (ended _) = h
 moves-apart y z u f h (onward _ mid _ move more) =
-    let next : IsFaithful mid = move-faithful y mid u f move in moves-apart mid z next.0 next.1 (move-apart y mid u f h move) more
+    let next : HasDataInvariant mid = move-invariant y mid u f move in moves-apart mid z next.0 next.1 (move-apart y mid u f h move) more
 
 -- ---- runs
 
@@ -132,11 +132,11 @@ run-apart c txs [] w config same r h fits = h
 run-apart c txs (s ∷ ss) w config same r h fits =
     let first : StepFits c txs s = All-head (StepFits c txs) s ss fits in
     let here : StepFits w.config w.txs s = rw (config, same) first in
-    let moves = step_is_story_moves w s r.usual here in
+    let moves = step_is_run_moves w s r.usual here in
     let moved : IsStep w (stepped w s) = step_is_moves w s txs r.usual (rw config first) in
-    let kept : (stepped w s).txs ≡ w.txs = moves_txs (story w) (story (stepped w s)) moves in
+    let kept : (stepped w s).txs ≡ w.txs = moves_txs (run_state w) (run_state (stepped w s)) moves in
     run-apart c txs ss (stepped w s) (moved.config ∙ config) (kept ∙ same) (step-reached c txs w s config same r first)
-    (moves-apart (story w) (story (stepped w s)) r.truth r.faithful h moves) (All-tail (StepFits c txs) s ss fits)
+    (moves-apart (run_state w) (run_state (stepped w s)) r.witness r.data_invariant h moves) (All-tail (StepFits c txs) s ss fits)
 
 no_records : (c : Config) (txs : List TxDecl) (id : ℕ) → record_of (start c txs).book id ≡ no_record
 unfolding start

@@ -14,7 +14,7 @@ use Rattle.zeus_model.specs.Tables.{below, numbers_from}
 use Rattle.zeus_model.specs.World.{node, no_tx, run, start, start_node}
 use Rattle.invariants.proofs.Start.{nth-none}
 use Rattle.machine_moves.proofs.Start.{start-config}
-use Rattle.data_safety.proofs.RowsRuns.{start-txs}
+use Rattle.data_safety.proofs.StepRuns.{start-txs}
 use Rattle.soundness.proofs.Runs.{start-reached}
 use Rattle.machine_moves.proofs.Lists.{In-nothing, In-append_left, In-append_right, nth-past}
 use Rattle.live_model.specs.Items.{Note, Acked, Refused, Stopped, travels}
@@ -258,8 +258,8 @@ home-told p k es id x h less waits lost far =
     let first = start_core n p.config p.txs in
     let last = core n p.config p.txs (es.cells n) in
     let clocked : travels last.clock ≡ true = subst (λ (c : Core). travels c.clock ≡ true) cell.core far in
-    let story = replay-book p k es n x h there refl in
-    let unacked : is_some (record_of last.book x).acked ≡ false = subst (λ (c : Core). is_some (record_of c.book x).acked ≡ false) cell.core (sym story.acked ∙ lost.unacked) in
+    let run_state = replay-book p k es n x h there refl in
+    let unacked : is_some (record_of last.book x).acked ≡ false = subst (λ (c : Core). is_some (record_of c.book x).acked ≡ false) cell.core (sym run_state.acked ∙ lost.unacked) in
     elim (true_or_false (record_of last.book x).refused) [
       | inl refused ↦ elim (refused-told n p.config p.txs id first (es.cells n) x waits cell.clocks clocked refused) [
         | inl early ↦ absurd (no_refusals n p.config p.txs x early)
@@ -267,7 +267,7 @@ home-told p k es id x h less waits lost far =
       ]
       | inr unrefused ↦
           let world : (record_of (last_world p k).book x).refused ≡ false =
-          story.refused ∙ subst (λ (c : Core). (record_of c.book x).refused ≡ false) (sym cell.core) unrefused in
+          run_state.refused ∙ subst (λ (c : Core). (record_of c.book x).refused ≡ false) (sym cell.core) unrefused in
           let ended : ((record_of (last_world p k).book x).refused || (node (last_world p k) (declared p.txs x).node).stopped) ≡ true =
           subst (λ (ts : List TxDecl). ((record_of (last_world p k).book x).refused || (node (last_world p k) (declared ts x).node).stopped) ≡ true) (txs-same p k es h) lost.ended in
           let halted = home-halted p k es n h there (only_right _ _ world ended) in

@@ -23,4 +23,5 @@ pub use fault_law::other_bytes_have_one_fault;
 pub use print::print_script;
 pub use reader::read_script;
 pub use reading::ReadScript;
+pub use zeus_base::NoMemory;
 pub use zeus_model::{Kind, Name, Names, Script, ScriptFault};
