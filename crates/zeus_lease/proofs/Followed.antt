@@ -16,10 +16,10 @@ use Rattle.script_lang.proofs.Cutting.{Lacks, cut_not_none}
 use Rattle.script_lang.proofs.FaultKinds.{cut-first_lines, same_behind, length-cut_ended}
 use Rattle.script_lang.proofs.FaultShared.{not_ended, same_line, is_none, is_last-shown}
 use Rattle.script_lang.proofs.FirstLines.{shown, shown-front, first_lines-shown, first_lines-fewer, parts_lack}
-use Rattle.zeus_lease.proofs.Language.{Lines, parts_of, Goes, Completes, IsTextOf, Language}
+use Rattle.zeus_lease.proofs.Language.{Lines, parts_of, Goes, Language}
 use Rattle.script_lang.proofs.ReadSound.{last_is}
-use Rattle.script_lang.proofs.Sound.{IfRead, read_is}
-use Rattle.script_lang.proofs.TextComplete.{cut-words_text, cut-lines_text}
+use Rattle.script_lang.proofs.Sound.{read_is}
+use Rattle.script_lang.proofs.TextComplete.{cut-lines_text}
 use Rattle.script_lang.proofs.TextLaws.{words_text-cut, joined-cut, ended_lines, lines_of_parts}
 use Rattle.script_lang.proofs.WordKinds.{BlamesWord}
 
@@ -422,9 +422,12 @@ module _ {S : Type 0} (Fits Whole : S → Type 0) (lines all : S → Lines) (tak
           choose false last i is made = absurd cc
       go (Ok (false, u)) e g rest =
           let adds = read_is (taken s (cut 32 p)) (false, u) (Goes Fits Whole lines all s (cut 32 p)) e (L.goes s (cut 32 p) fits) in
-          let more = rest u adds.0 g in
-          (cut 32 p ∷ more.0, ap (λ (qs : List (List ℕ)). p ∷ qs) more.1 ∙ ap (λ (w : List ℕ). w ∷ parts_of more.0) (sym (words_text-cut p)), more.2,
-          more.3 ∙ ap (λ (front : Lines). front ++ more.0) adds.1 ∙ append_assoc (lines s) (cut 32 p ∷ []) more.0)
+          let more = rest u adds.0 g in (
+            cut 32 p ∷ more.0,
+            ap (λ (qs : List (List ℕ)). p ∷ qs) more.1 ∙ ap (λ (w : List ℕ). w ∷ parts_of more.0) (sym (words_text-cut p)),
+            more.2,
+            more.3 ∙ ap (λ (front : Lines). front ++ more.0) adds.1 ∙ append_assoc (lines s) (cut 32 p ∷ []) more.0,
+          )
 
   pub read_sound : (bytes : List ℕ) (t : S) → followed taken start 1 (cut 10 bytes) ≡ Ok t → Whole t × (bytes ≡ lines_text (all t))
   read_sound bytes t h =

@@ -1,16 +1,14 @@
 -- What a script of leases keeps so far, the lines that it was read from, and that each line that is taken adds itself.
-use Rattle.std.proofs.Common.{◌≡◌, ℕ, zero, suc, ◌+◌, ◌<◌, ◌≤◌, ◌^◌, Bool, true, false, cond, List, [], ◌∷◌, ◌++◌, length, Option, Some, None, Result, Ok, Err, refl, sym, ap, ◌∙◌, arith, append_assoc, append-nil, length-append, subst}
-use Rattle.std.specs.Prelude.{codes, decimal, map, ◌==◌, All}
+use Rattle.std.proofs.Common.{◌≡◌, ℕ, zero, suc, ◌+◌, ◌<◌, ◌≤◌, ◌^◌, Bool, true, false, cond, List, [], ◌∷◌, ◌++◌, length, Some, None, refl, sym, ap, ◌∙◌, arith, append_assoc, append-nil, length-append, subst}
+use Rattle.std.specs.Prelude.{codes, decimal, map, ◌==◌}
 use Rattle.std.specs.List.{AllByRecursion}
 use Rattle.std.specs.Str.{bytes_eq}
 use Rattle.std.proofs.lemmas.Bool.Decides.{nat_tests}
 use Rattle.std.proofs.lemmas.List.Elements.{All-from_recursion}
-use Rattle.zeus_base.specs.NodeLaws.{IsRising, IsBelow}
-use Rattle.script_lang.specs.NodeLists.{nodes_after}
-use Rattle.script_lang.specs.Reads.{word_at, keyword_at, ended}
+use Rattle.script_lang.specs.Reads.{ended}
 use Rattle.script_lang.proofs.DraftSound.{keyword_at-sound, word_at-sound}
 use Rattle.script_lang.proofs.FindLaws.{bytes_eq-true}
-use Rattle.script_lang.proofs.NodeLaws.{IsListed, nodes_after-sound}
+use Rattle.script_lang.proofs.NodeLaws.{nodes_after-sound}
 use Rattle.script_lang.proofs.NumberLaws.{range_at-sound}
 use Rattle.script_lang.proofs.StepLaws.{ended-sound, none_below}
 use Rattle.script_lang.proofs.Sound.{IfRead, read_bind, read_ok, read_err, read_cond, read_or, read_weaken}
@@ -198,17 +196,21 @@ module _ (s : State) (ws : List (List ℕ)) where
   unfolding line_taken FitsAt lines_at
   length_goes at fits =
       read_bind _ _ _ (number_after-sound (codes "length") 1 (2 ^ 32) ws) (λ n p.
-      read_ok _ _ ((fits.0, fits.1, p.1, p.2, fits.2),
-      subst (λ (k : Stage). version_line ∷ number_line (codes "nodes") s.nodes ∷ number_line (codes "length") n ∷ [] ≡ lines_at k s ++ ws ∷ []) (sym at) (ap (λ (l : List (List ℕ)). version_line ∷ number_line (codes "nodes") s.nodes ∷ l ∷ []) (sym p.0))))
+      read_ok _ _ (
+        (fits.0, fits.1, p.1, p.2, fits.2),
+        subst (λ (k : Stage). version_line ∷ number_line (codes "nodes") s.nodes ∷ number_line (codes "length") n ∷ [] ≡ lines_at k s ++ ws ∷ []) (sym at) (ap (λ (l : List (List ℕ)). version_line ∷ number_line (codes "nodes") s.nodes ∷ l ∷ []) (sym p.0)),
+      ))
 
   percent_goes : s.stage ≡ stages.Percent → FitsAt stages.Percent s → IfRead (line_taken s stages.Percent ws) (GoesOn s ws)
   unfolding line_taken FitsAt lines_at
   percent_goes at fits =
       read_bind _ _ _ (number_after-sound (codes "percent") 0 101 ws) (λ n p.
       let none : s.steps ≡ [] = fits.4 in
-      read_ok _ _ (record { stage = refl; numbers = record { few = (fits.0, fits.1); long = (fits.2, fits.3); close = omega (arith, p.2) }; steps = rw none tt; few = rw none (omega arith) },
-      subst (λ (k : Stage). head_lines (record s { percent = n }) ++ map step_words s.steps ≡ lines_at k s ++ ws ∷ []) (sym at)
-      (rw none (ap (λ (l : List (List ℕ)). version_line ∷ number_line (codes "nodes") s.nodes ∷ number_line (codes "length") s.length ∷ l ∷ []) (sym p.0)))))
+      read_ok _ _ (
+        record { stage = refl; numbers = record { few = (fits.0, fits.1); long = (fits.2, fits.3); close = omega (arith, p.2) }; steps = rw none tt; few = rw none (omega arith) },
+        subst (λ (k : Stage). head_lines (record s { percent = n }) ++ map step_words s.steps ≡ lines_at k s ++ ws ∷ []) (sym at)
+            (rw none (ap (λ (l : List (List ℕ)). version_line ∷ number_line (codes "nodes") s.nodes ∷ number_line (codes "length") s.length ∷ l ∷ []) (sym p.0))),
+      ))
 
   step_added : (k : StepWord) (rest : List (List ℕ)) (step : LeaseStep) → s.stage ≡ stages.Steps → Whole s → ws ≡ step_text k ∷ rest → (length s.steps == 50000) ≡ false → IsStepLine s.nodes k rest step → GoesOn s ws (false, record s { steps = s.steps ++ step ∷ [] })
   unfolding FitsAt lines_at
@@ -216,10 +218,11 @@ module _ (s : State) (ws : List (List ℕ)) where
       let more : length (s.steps ++ step ∷ []) ≡ length s.steps + 1 = length-append s.steps (step ∷ []) in
       let few : length (s.steps ++ step ∷ []) ≤ 50000 = grind (arith, nat_tests, whole.few) in
       let kept : Whole (record s { steps = s.steps ++ step ∷ [] }) = record { stage = at; numbers = whole.numbers; steps = each_more (FitsStep s.nodes) s.steps step whole.steps line.fits; few = few } in
-      let words : step_words step ≡ ws = sym (is ∙ line.spelled) in
-      (subst (λ (j : Stage). FitsAt j (record s { steps = s.steps ++ step ∷ [] })) (sym at) kept,
-      subst (λ (j : Stage). lines_at j (record s { steps = s.steps ++ step ∷ [] }) ≡ lines_at j s ++ ws ∷ []) (sym at)
-      (ap (λ (ls : Lines). head_lines s ++ ls) (map-more s.steps step ∙ ap (λ (l : List (List ℕ)). map step_words s.steps ++ l ∷ []) words)))
+      let words : step_words step ≡ ws = sym (is ∙ line.spelled) in (
+        subst (λ (j : Stage). FitsAt j (record s { steps = s.steps ++ step ∷ [] })) (sym at) kept,
+        subst (λ (j : Stage). lines_at j (record s { steps = s.steps ++ step ∷ [] }) ≡ lines_at j s ++ ws ∷ []) (sym at)
+            (ap (λ (ls : Lines). head_lines s ++ ls) (map-more s.steps step ∙ ap (λ (l : List (List ℕ)). map step_words s.steps ++ l ∷ []) words)),
+      )
 
   step_goes : (k : StepWord) (rest : List (List ℕ)) → s.stage ≡ stages.Steps → Whole s → ws ≡ step_text k ∷ rest → IfRead (step_taken s k rest) (GoesOn s ws)
   unfolding step_taken

@@ -17,7 +17,12 @@ pub(crate) fn version_after(line: &mut Parts) -> Result<(), Kind>
 
 /// The number of a line that has this keyword and no more: from the lowest on and below the limit.
 #[tactic(auto, unfolding(crate::specs::Reading::number_after))]
-pub(crate) fn number_after(line: &mut Parts, keyword: &[u8], lowest: u64, limit: u64) -> Result<u64, Kind>
+pub(crate) fn number_after(
+    line: &mut Parts,
+    keyword: &[u8],
+    lowest: u64,
+    limit: u64,
+) -> Result<u64, Kind>
     ensures number { result ≡ number_after keyword.now lowest limit line.old }
     ensures range { IfOk result (λ n. (lowest ≤ n) × (n < limit)) }
 {

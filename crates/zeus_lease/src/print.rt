@@ -13,7 +13,9 @@ use crate::step::LeaseStep;
 use std::alloc::Global;
 use zeus_base::NoMemory;
 use zeus_model::Made;
-use zeus_text::{append, write_counted, write_decimal, write_line_end, write_members, write_number};
+use zeus_text::{
+    append, write_counted, write_decimal, write_line_end, write_members, write_number,
+};
 
 #[tactic(auto, unfolding(zeus_model::specs::Spelling::spaced))]
 fn write_ticks(out: &mut Vec<u8>, ticks: &[u64]) -> Result<(), NoMemory>
@@ -117,11 +119,7 @@ fn take_step(
 }
 
 /// Takes the steps, and writes a line for each.
-fn write_lines(
-    out: &mut Vec<u8>,
-    leases: &mut Leases,
-    steps: &[LeaseStep],
-) -> Result<(), NoMemory>
+fn write_lines(out: &mut Vec<u8>, leases: &mut Leases, steps: &[LeaseStep]) -> Result<(), NoMemory>
     requires few { leases.old.steps + length steps.now ≤ 50000 }
     requires fits { All (FitsStep (length leases.old.nodes)) steps.now }
     ensures { OnOk result (out.new.items ≡ out.old.items ++ answer_lines leases.old 0 steps.now) }

@@ -127,7 +127,12 @@ fn is_below_end(clock: u64, end: Option<u64>) -> bool
 impl State {
     /// So many nodes, with all clocks at 0.
     #[tactic(auto, unfolding(crate::specs::Machine::start))]
-    pub(crate) fn new(alloc: Global, nodes: u8, length: u64, percent: u64) -> Result<State, NoMemory>
+    pub(crate) fn new(
+        alloc: Global,
+        nodes: u8,
+        length: u64,
+        percent: u64,
+    ) -> Result<State, NoMemory>
         requires { FitsNumbers nodes length percent }
         ensures { IfOk result (λ s. shown s ≡ start nodes length percent) }
     {
