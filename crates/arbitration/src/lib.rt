@@ -9,4 +9,6 @@ mod tests;
 pub use gathers::{Ack, Decision, Gathers};
 pub use object_table::Copies;
 pub use source::{GiveUp, give_up};
+pub use zeus_base::{Config, NoMemory, NodeId, NodeSet, ObjId, SlotId, Stamp};
 pub use zeus_model::Gather;
+pub use zeus_packet::{Cause, Content, Proposal};

@@ -8,4 +8,6 @@ mod tests;
 
 pub use due::Due;
 pub use pipe::{Full, Pipe, PipeOver, PlainPipe};
+pub use zeus_base::{NoMemory, NodeId, NodeSet};
 pub use zeus_model::Pending;
+pub use zeus_packet::Window;

@@ -9,7 +9,7 @@ use Rattle.zeus_packet.specs.declared.letter.Body.{Body}
 use Rattle.zeus_packet.specs.declared.letter.Body.TheVariants.{Recovered}
 use Rattle.zeus_packet.specs.declared.letter.Letter.{Letter}
 use Rattle.zeus_model.specs.Act.{Act, and_then, in_turn, letter, still, to_each}
-use Rattle.zeus_model.specs.Commit.{advance_kept, advance_kept_by, advance_own, advance_own_by, as_kept, finish, none_stored, outside, passing, report, streams_of, streams_outside}
+use Rattle.zeus_model.specs.Commit.{advance_kept, advance_kept_by, advance_own, advance_own_by, as_kept, finish, none_stored, outside, passing, report_recovered, streams_of, streams_outside}
 use Rattle.zeus_model.specs.Receive.{on_recovered}
 use Rattle.zeus_model.specs.State.{Node, log, slot}
 use Rattle.zeus_model.specs.Tables.{below, numbers_from}
@@ -191,13 +191,13 @@ still_acted : (n : Node) (out : Effect) → length out.sent ≤ 64 → IsActed (
 still_acted n out room = record { becomes = refl; adds = adds_nothing out room }
 
 -- a node that has something to replay does not report
-pub report-unrecovered : (n : Node) (out : Effect) → false ≡ none_stored n (outside n) → length out.sent ≤ 64 → IsActed (report n) n out out
-unfolding report
+pub report-unrecovered : (n : Node) (out : Effect) → false ≡ none_stored n (outside n) → length out.sent ≤ 64 → IsActed (report_recovered n) n out out
+unfolding report_recovered
 report-unrecovered n out e room = rw (← e, and-false (not (has n.me n.reported))) (still_acted n out room)
 
 -- nor does one that has reported
-pub report-again : (n m : Node) (out : Effect) → false ≡ not (has n.me n.reported) → m ≡ (on_recovered n n.me).node → length out.sent ≤ 64 → IsActed (report n) m out out
-unfolding report on_recovered
+pub report-again : (n m : Node) (out : Effect) → false ≡ not (has n.me n.reported) → m ≡ (on_recovered n n.me).node → length out.sent ≤ 64 → IsActed (report_recovered n) m out out
+unfolding report_recovered on_recovered
 report-again n m out e becomes room = rw (becomes, not_false (has n.me n.reported) e) (still_acted n out room)
 
 -- a letter depends on its sender's number and epoch alone
@@ -207,8 +207,8 @@ to_each-reported n reported [] body = refl
 to_each-reported n reported (to ∷ tos) body = ap (λ (ls : List Letter). letter n to body ∷ ls) (to_each-reported n reported tos body)
 
 -- any other reports to the members
-pub report-first : (n m : Node) (before after : Effect) → true ≡ none_stored n (outside n) → true ≡ not (has n.me n.reported) → m ≡ (on_recovered n n.me).node → Adds (to_each m (without n.me m.members) Recovered) [] before after → IsActed (report n) m before after
-unfolding report on_recovered
+pub report-first : (n m : Node) (before after : Effect) → true ≡ none_stored n (outside n) → true ≡ not (has n.me n.reported) → m ≡ (on_recovered n n.me).node → Adds (to_each m (without n.me m.members) Recovered) [] before after → IsActed (report_recovered n) m before after
+unfolding report_recovered on_recovered
 report-first n m before after e news becomes adds =
     let none = not_true (has n.me n.reported) news in
     let is = rw none at becomes in
@@ -217,8 +217,8 @@ report-first n m before after e news becomes adds =
 
 -- ---- all three
 
-pub finished : (n m k o : Node) (x y z w : Effect) → IsActed (in_turn advance_own n (below (length n.slots))) m x y → IsActed (in_turn advance_kept m (outside m)) k y z → IsActed (report k) o z w → IsActed (finish n) o x w
+pub finished : (n m k o : Node) (x y z w : Effect) → IsActed (in_turn advance_own n (below (length n.slots))) m x y → IsActed (in_turn advance_kept m (outside m)) k y z → IsActed (report_recovered k) o z w → IsActed (finish n) o x w
 unfolding finish
 finished n m k o x y z w f g h =
-    acted_then (in_turn advance_own n (below (length n.slots))) (λ a. and_then (in_turn advance_kept a (outside a)) report) m o x y w f
-    (acted_then (in_turn advance_kept m (outside m)) report k o y z w g h)
+    acted_then (in_turn advance_own n (below (length n.slots))) (λ a. and_then (in_turn advance_kept a (outside a)) report_recovered) m o x y w f
+    (acted_then (in_turn advance_kept m (outside m)) report_recovered k o y z w g h)

@@ -1,7 +1,7 @@
 //! How a node finishes: entries that are acknowledged pass, and the node reports what it has replayed.
 ghost use Rattle.std.specs.Prelude.{◌≡◌, ◌+◌, ◌<◌, ◌≤◌, [], true, length};
 ghost use Rattle.zeus_model.specs.Act.{in_turn};
-ghost use Rattle.zeus_model.specs.Commit.{advance_kept, advance_own, finish, outside, report, streams_of};
+ghost use Rattle.zeus_model.specs.Commit.{advance_kept, advance_own, finish, outside, report_recovered, streams_of};
 ghost use Rattle.zeus_model.specs.Tables.{below};
 ghost use Rattle.node_ranges.specs.Ranges.{limits_of};
 ghost use Rattle.node_state.specs.Done.{IsActed};
@@ -70,7 +70,7 @@ fn advance_streams_of(node: &mut NodeState, other: NodeId, out: &mut Effect)
 /// The node reports to the other members, if it has not done so in this epoch and has nothing to replay.
 fn report(node: &mut NodeState, out: &mut Effect)
     requires { length out.old.sent ≤ 64 }
-    ensures { IsActed (report node.old) node.new out.old out.new }
+    ensures { IsActed (report_recovered node.old) node.new out.old out.new }
 {
     if !node.is_recovered() {
         return;

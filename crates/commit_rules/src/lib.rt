@@ -9,3 +9,6 @@ mod tests;
 pub use finishing::finish;
 pub use follow::{on_rack, on_recovered, on_rinv, on_rval};
 pub use node_state::{Effect, NodeState};
+pub use zeus_base::{NodeId, Stream};
+pub use zeus_model::Outcome;
+pub use zeus_packet::RInv;

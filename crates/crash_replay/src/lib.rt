@@ -7,3 +7,4 @@ mod tests;
 
 pub use follower_log::Stored;
 pub use replay::{is_recovered, next_replay};
+pub use zeus_base::{NodeSet, Stream};

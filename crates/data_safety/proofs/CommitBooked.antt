@@ -16,12 +16,12 @@ use Rattle.zeus_model.specs.Sound.{replies_of, times}
 use Rattle.zeus_model.specs.World.{no_tx}
 use Rattle.zeus_model.specs.declared.state.Current.{Current}
 use Rattle.zeus_model.specs.declared.state.Pending.{Pending}
-use Rattle.replication_safety.specs.Line.{end}
-use Rattle.invariants.specs.Lines.{line}
-use Rattle.invariants.proofs.LineSeen.{stream_cases}
+use Rattle.replication_safety.specs.StreamState.{end}
+use Rattle.invariants.specs.Streams.{stream_state}
+use Rattle.invariants.proofs.StreamSeen.{stream_cases}
 use Rattle.invariants.proofs.ObjectSeen.{same_or_not}
-use Rattle.data_safety.specs.Story.{Story, Truth, tx_ops, txs_of}
-use Rattle.data_safety.specs.Faithful.{Faithful, IsBooked}
+use Rattle.data_safety.specs.RunState.{RunState, Witness, tx_ops, txs_of}
+use Rattle.data_safety.specs.DataInvariant.{DataInvariant, IsBooked}
 use Rattle.data_safety.proofs.Consequences.{home-end}
 use Rattle.data_safety.proofs.SerialRun.{tx_ops-same, txs_of-same}
 use Rattle.data_safety.proofs.CommitSlots.{CommitsTx, commit-slot, commit-slots, commit-done, commit-was, commit-end, commit-end_here, commit-end_away, commit-record, commit-record_other}
@@ -33,7 +33,7 @@ acked_none (Some k) p same none = let at : p ≡ Some k = same k refl in absurd 
 some_entry : (a b : EntryId) → ◌≡◌ {A = Option EntryId} (Some a) (Some b) → a ≡ b
 some_entry a b e = cc
 
-module _ (y z : Story) (u : Truth) (f : Faithful y u) (n s : ℕ) (c : Current) (h : CommitsTx y z n s c) where
+module _ (y z : RunState) (u : Witness) (f : DataInvariant y u) (n s : ℕ) (c : Current) (h : CommitsTx y z n s c) where
   begun_one : (c.tx ≡ tx_ops y c.id) × (is_some (record_of y.book c.id).begun ≡ true) × ((record_of y.book c.id).entry ≡ None) × ((record_of y.book c.id).point ≡ None)
       × ((record_of y.book c.id).refused ≡ false) × ((nth no_tx y.txs c.id).node ≡ n) × ((nth no_tx y.txs c.id).slot ≡ s)
   begun_one = f.booked.current n s c h.current
@@ -41,8 +41,8 @@ module _ (y z : Story) (u : Truth) (f : Faithful y u) (n s : ℕ) (c : Current) 
   unacked : (record_of y.book c.id).acked ≡ None
   unacked = acked_none (record_of y.book c.id).acked (record_of y.book c.id).point (f.booked.acked_at c.id) begun_one.3
 
-  last : next_number (slot (y.scene.node n) s) ≡ end (line y.scene record { node = n; slot = s })
-  last = sym (home-end y.scene record { node = n; slot = s })
+  last : next_number (slot (y.system.node n) s) ≡ end (stream_state y.system record { node = n; slot = s })
+  last = sym (home-end y.system record { node = n; slot = s })
 
   same_begun : (j : ℕ) → (record_of z.book j).begun ≡ (record_of y.book j).begun
   same_begun j = elim (same_or_not j c.id) [
@@ -68,7 +68,7 @@ module _ (y z : Story) (u : Truth) (f : Faithful y u) (n s : ℕ) (c : Current) 
     | inr other ↦ ap (λ (r : TxRecord). r.refused) (commit-record_other y z n s c h j other)
   ]
 
-  new_entry : (record_of z.book c.id).entry ≡ Some record { stream = record { node = n; slot = s }; number = end (line y.scene record { node = n; slot = s }) }
+  new_entry : (record_of z.book c.id).entry ≡ Some record { stream = record { node = n; slot = s }; number = end (stream_state y.system record { node = n; slot = s }) }
   new_entry = ap (λ (r : TxRecord). r.entry) (commit-record y z n s c h) ∙ ap (λ (k : ℕ). some_named record { node = n; slot = s } k) last
     where
       some_named : Stream → ℕ → Option EntryId
@@ -76,11 +76,11 @@ module _ (y z : Story) (u : Truth) (f : Faithful y u) (n s : ℕ) (c : Current) 
 
   -- an entry of the book is the new one or was there
   entry_cases : (j : ℕ) (e : EntryId) → (record_of z.book j).entry ≡ Some e
-      → ((j ≡ c.id) × (e ≡ record { stream = record { node = n; slot = s }; number = end (line y.scene record { node = n; slot = s }) })) ⊎ ((j ≢ c.id) × ((record_of y.book j).entry ≡ Some e))
+      → ((j ≡ c.id) × (e ≡ record { stream = record { node = n; slot = s }; number = end (stream_state y.system record { node = n; slot = s }) })) ⊎ ((j ≢ c.id) × ((record_of y.book j).entry ≡ Some e))
   entry_cases j e is = elim (same_or_not j c.id) [
     | inl same ↦ inl (
       same,
-      some_entry e record { stream = record { node = n; slot = s }; number = end (line y.scene record { node = n; slot = s }) }
+      some_entry e record { stream = record { node = n; slot = s }; number = end (stream_state y.system record { node = n; slot = s }) }
           (sym is ∙ ap (λ (i : ℕ). (record_of z.book i).entry) same ∙ new_entry),
     )
     | inr other ↦ inr (other, ap (λ (r : TxRecord). r.entry) (sym (commit-record_other y z n s c h j other)) ∙ is)
@@ -90,7 +90,7 @@ module _ (y z : Story) (u : Truth) (f : Faithful y u) (n s : ℕ) (c : Current) 
   entry_stays j e is =
       commit-record_other y z n s c h j (λ same. let gone : (record_of y.book j).entry ≡ None = ap (λ (i : ℕ). (record_of y.book i).entry) same ∙ begun_one.2 in absurd (cc (gone, is)))
 
-  commit-old_entry : (t : Stream) (k : ℕ) → k < end (line y.scene t)
+  commit-old_entry : (t : Stream) (k : ℕ) → k < end (stream_state y.system t)
       → (id : ℕ) × ((record_of z.book id).entry ≡ Some record { stream = t; number = k }) × (is_write (tx_ops z id) ≡ true)
       × ((nth no_tx z.txs id).node ≡ t.node) × ((nth no_tx z.txs id).slot ≡ t.slot)
   commit-old_entry t k below =
@@ -102,20 +102,20 @@ module _ (y z : Story) (u : Truth) (f : Faithful y u) (n s : ℕ) (c : Current) 
         ap (λ (l : List TxDecl). (nth no_tx l b.0).slot) h.txs ∙ b.4,
       )
 
-  commit-entry : (t : Stream) (k : ℕ) → k < end (line z.scene t)
+  commit-entry : (t : Stream) (k : ℕ) → k < end (stream_state z.system t)
       → (id : ℕ) × ((record_of z.book id).entry ≡ Some record { stream = t; number = k }) × (is_write (tx_ops z id) ≡ true)
       × ((nth no_tx z.txs id).node ≡ t.node) × ((nth no_tx z.txs id).slot ≡ t.slot)
-  commit-entry t k below = elim (cases_lt k (end (line y.scene t))) [
+  commit-entry t k below = elim (cases_lt k (end (stream_state y.system t))) [
     | inl old ↦ commit-old_entry t k old
     | inr past ↦ elim (stream_cases t record { node = n; slot = s }) [
       | inr other ↦ absurd (omega (arith, below, past, commit-end_away y z n s c h t other))
       | inl same ↦
           let own : Stream = record { node = n; slot = s } in
-          let below_here : k < end (line z.scene own) = subst (λ (q : Stream). k < end (line z.scene q)) same below in
-          let past_here : end (line y.scene own) ≤ k = subst (λ (q : Stream). end (line y.scene q) ≤ k) same past in
-          let at : end (line y.scene own) ≡ k = omega (arith, below_here, past_here, commit-end_here y z n s c h) in (
+          let below_here : k < end (stream_state z.system own) = subst (λ (q : Stream). k < end (stream_state z.system q)) same below in
+          let past_here : end (stream_state y.system own) ≤ k = subst (λ (q : Stream). end (stream_state y.system q) ≤ k) same past in
+          let at : end (stream_state y.system own) ≡ k = omega (arith, below_here, past_here, commit-end_here y z n s c h) in (
             c.id,
-            new_entry ∙ some_entry_at own t (end (line y.scene own)) k (sym same) at,
+            new_entry ∙ some_entry_at own t (end (stream_state y.system own)) k (sym same) at,
             ap (λ (ops : List Op). is_write ops) (tx_ops-same y z c.id h.txs ∙ sym begun_one.0) ∙ h.writes,
             ap (λ (l : List TxDecl). (nth no_tx l c.id).node) h.txs ∙ begun_one.5 ∙ ap (λ (q : Stream). q.node) (sym same),
             ap (λ (l : List TxDecl). (nth no_tx l c.id).slot) h.txs ∙ begun_one.6 ∙ ap (λ (q : Stream). q.slot) (sym same),
@@ -126,35 +126,35 @@ module _ (y z : Story) (u : Truth) (f : Faithful y u) (n s : ℕ) (c : Current) 
       some_entry_at : (t r : Stream) (j k : ℕ) → t ≡ r → j ≡ k → ◌≡◌ {A = Option EntryId} (Some record { stream = t; number = j }) (Some record { stream = r; number = k })
       some_entry_at t r j k a b = rw (a, b) refl
 
-  new_alone : (j : ℕ) (e : EntryId) → (record_of y.book j).entry ≡ Some e → e ≡ record { stream = record { node = n; slot = s }; number = end (line y.scene record { node = n; slot = s }) } → ⊥
+  new_alone : (j : ℕ) (e : EntryId) → (record_of y.book j).entry ≡ Some e → e ≡ record { stream = record { node = n; slot = s }; number = end (stream_state y.system record { node = n; slot = s }) } → ⊥
   new_alone j e is same =
       let low = f.booked.below_end j e is in
-      let low_here : end (line y.scene record { node = n; slot = s }) < end (line y.scene record { node = n; slot = s }) =
-      subst (λ (i : EntryId). i.number < end (line y.scene i.stream)) same low in
+      let low_here : end (stream_state y.system record { node = n; slot = s }) < end (stream_state y.system record { node = n; slot = s }) =
+      subst (λ (i : EntryId). i.number < end (stream_state y.system i.stream)) same low in
       omega (arith, low_here)
 
   commit-one_entry : (i j : ℕ) (e : EntryId) → (record_of z.book i).entry ≡ Some e → (record_of z.book j).entry ≡ Some e → i ≡ j
   commit-one_entry i j e one two = by (entry_cases i e one) (entry_cases j e two)
     where
-      by : ((i ≡ c.id) × (e ≡ record { stream = record { node = n; slot = s }; number = end (line y.scene record { node = n; slot = s }) })) ⊎ ((i ≢ c.id) × ((record_of y.book i).entry ≡ Some e))
-          → ((j ≡ c.id) × (e ≡ record { stream = record { node = n; slot = s }; number = end (line y.scene record { node = n; slot = s }) })) ⊎ ((j ≢ c.id) × ((record_of y.book j).entry ≡ Some e)) → i ≡ j
+      by : ((i ≡ c.id) × (e ≡ record { stream = record { node = n; slot = s }; number = end (stream_state y.system record { node = n; slot = s }) })) ⊎ ((i ≢ c.id) × ((record_of y.book i).entry ≡ Some e))
+          → ((j ≡ c.id) × (e ≡ record { stream = record { node = n; slot = s }; number = end (stream_state y.system record { node = n; slot = s }) })) ⊎ ((j ≢ c.id) × ((record_of y.book j).entry ≡ Some e)) → i ≡ j
       by (inl a) (inl b) = a.0 ∙ sym b.0
       by (inl a) (inr b) = absurd (new_alone j e b.1 a.1)
       by (inr a) (inl b) = absurd (new_alone i e a.1 b.1)
       by (inr a) (inr b) = f.booked.one_entry i j e a.1 b.1
 
-  commit-below_end : (j : ℕ) (e : EntryId) → (record_of z.book j).entry ≡ Some e → e.number < end (line z.scene e.stream)
+  commit-below_end : (j : ℕ) (e : EntryId) → (record_of z.book j).entry ≡ Some e → e.number < end (stream_state z.system e.stream)
   commit-below_end j e is = elim (entry_cases j e is) [
-    | inl new_one ↦ subst (λ (i : EntryId). i.number < end (line z.scene i.stream)) (sym new_one.1) (omega (arith, commit-end_here y z n s c h))
+    | inl new_one ↦ subst (λ (i : EntryId). i.number < end (stream_state z.system i.stream)) (sym new_one.1) (omega (arith, commit-end_here y z n s c h))
     | inr old ↦ omega (arith, f.booked.below_end j e old.1, commit-end y z n s c h e.stream)
   ]
 
-  commit-current : (m r : ℕ) (d : Current) → (slot (z.scene.node m) r).current ≡ Some d
+  commit-current : (m r : ℕ) (d : Current) → (slot (z.system.node m) r).current ≡ Some d
       → (d.tx ≡ tx_ops z d.id) × (is_some (record_of z.book d.id).begun ≡ true) × ((record_of z.book d.id).entry ≡ None) × ((record_of z.book d.id).point ≡ None)
       × ((record_of z.book d.id).refused ≡ false) × ((nth no_tx z.txs d.id).node ≡ m) × ((nth no_tx z.txs d.id).slot ≡ r)
   commit-current m r d is = elim (commit-slots y z n s c h m r) [
     | inl here ↦
-        let none : (slot (z.scene.node m) r).current ≡ None = rw (here.0, here.1) (ap (λ (l : Slot). l.current) (commit-slot y z n s c h)) in
+        let none : (slot (z.system.node m) r).current ≡ None = rw (here.0, here.1) (ap (λ (l : Slot). l.current) (commit-slot y z n s c h)) in
         absurd (cc (none, is))
     | inr away ↦
         let b = f.booked.current m r d (ap (λ (l : Slot). l.current) (sym away.1) ∙ is) in
@@ -170,15 +170,15 @@ module _ (y z : Story) (u : Truth) (f : Faithful y u) (n s : ℕ) (c : Current) 
         )
   ]
 
-  commit-pending : (t : Stream) (i : ℕ) → i < length (slot (z.scene.node t.node) t.slot).pending
-      → let p = nth no_pending (slot (z.scene.node t.node) t.slot).pending i in
-      ((record_of z.book p.id).entry ≡ Some record { stream = t; number = (slot (z.scene.node t.node) t.slot).done + i })
+  commit-pending : (t : Stream) (i : ℕ) → i < length (slot (z.system.node t.node) t.slot).pending
+      → let p = nth no_pending (slot (z.system.node t.node) t.slot).pending i in
+      ((record_of z.book p.id).entry ≡ Some record { stream = t; number = (slot (z.system.node t.node) t.slot).done + i })
       × ((record_of z.book p.id).reply ≡ Some p.reply) × (p.named ≡ named (tx_ops z p.id))
   commit-pending t i inside = elim (commit-was y z n s c h t.node t.slot i inside) [
     | inl old ↦
-        let p : Pending = nth no_pending (slot (y.scene.node t.node) t.slot).pending i in
+        let p : Pending = nth no_pending (slot (y.system.node t.node) t.slot).pending i in
         let b = f.booked.pending t i old.0 in
-        let stays = entry_stays p.id record { stream = t; number = (slot (y.scene.node t.node) t.slot).done + i } b.0 in
+        let stays = entry_stays p.id record { stream = t; number = (slot (y.system.node t.node) t.slot).done + i } b.0 in
         rw old.1 (
           ap (λ (r : TxRecord). r.entry) stays ∙ b.0 ∙ ap (λ (k : ℕ). some_named t (k + i)) (sym (commit-done y z n s c h t.node t.slot)),
           ap (λ (r : TxRecord). r.reply) stays ∙ b.1,
@@ -186,11 +186,11 @@ module _ (y z : Story) (u : Truth) (f : Faithful y u) (n s : ℕ) (c : Current) 
         )
     | inr new_one ↦
         let own : Stream = record { node = n; slot = s } in
-        let number : end (line y.scene own) ≡ (slot (z.scene.node t.node) t.slot).done + i =
-        home-end y.scene own ∙ ap (λ (k : ℕ). (slot (y.scene.node n) s).done + k) (rw (← new_one.0, ← new_one.1) (sym new_one.2))
+        let number : end (stream_state y.system own) ≡ (slot (z.system.node t.node) t.slot).done + i =
+        home-end y.system own ∙ ap (λ (k : ℕ). (slot (y.system.node n) s).done + k) (rw (← new_one.0, ← new_one.1) (sym new_one.2))
         ∙ ap (λ (k : ℕ). k + i) (rw (← new_one.0, ← new_one.1) (sym (commit-done y z n s c h t.node t.slot))) in
         rw new_one.3 (
-          new_entry ∙ ap (λ (k : ℕ). some_named own k) number ∙ ap (λ (q : Stream). some_named q ((slot (z.scene.node t.node) t.slot).done + i)) (own_is t new_one.0 new_one.1),
+          new_entry ∙ ap (λ (k : ℕ). some_named own k) number ∙ ap (λ (q : Stream). some_named q ((slot (z.system.node t.node) t.slot).done + i)) (own_is t new_one.0 new_one.1),
           ap (λ (r : TxRecord). r.reply) (commit-record y z n s c h),
           ap (λ (ops : List Op). named ops) (begun_one.0 ∙ sym (tx_ops-same y z c.id h.txs)),
         )
@@ -219,13 +219,13 @@ module _ (y z : Story) (u : Truth) (f : Faithful y u) (n s : ℕ) (c : Current) 
         | inl new_one ↦
             let own : Stream = record { node = n; slot = s } in
             let none : (record_of z.book j).point ≡ None = same_point j ∙ ap (λ (i : ℕ). (record_of y.book i).point) new_one.0 ∙ begun_one.3 in
-            let committed : u.passed own ≤ end (line y.scene own) = (f.replicated own).committed in (
+            let committed : u.passed own ≤ end (stream_state y.system own) = (f.replication own).committed in (
               λ some. absurd (cc (ap (λ (o : Option ℕ). is_some o) none, some)),
-              λ low. let low_here : end (line y.scene own) < u.passed own = subst (λ (i : EntryId). i.number < u.passed i.stream) new_one.1 low in absurd (omega (arith, low_here, committed)),
+              λ low. let low_here : end (stream_state y.system own) < u.passed own = subst (λ (i : EntryId). i.number < u.passed i.stream) new_one.1 low in absurd (omega (arith, low_here, committed)),
             )
       ]
 
-  commit-acked : (j : ℕ) (e : EntryId) → (record_of z.book j).entry ≡ Some e → (is_some (record_of z.book j).acked ≡ true) ↔ (e.number < (slot (z.scene.node e.stream.node) e.stream.slot).done)
+  commit-acked : (j : ℕ) (e : EntryId) → (record_of z.book j).entry ≡ Some e → (is_some (record_of z.book j).acked ≡ true) ↔ (e.number < (slot (z.system.node e.stream.node) e.stream.slot).done)
   commit-acked j e is =
       let acked = ap (λ (o : Option ℕ). is_some o) (same_acked j) in
       let done = commit-done y z n s c h e.stream.node e.stream.slot in
@@ -236,8 +236,8 @@ module _ (y z : Story) (u : Truth) (f : Faithful y u) (n s : ℕ) (c : Current) 
             let none : (record_of z.book j).acked ≡ None = same_acked j ∙ ap (λ (i : ℕ). (record_of y.book i).acked) new_one.0 ∙ unacked in (
               λ some. absurd (cc (ap (λ (o : Option ℕ). is_some o) none, some)),
               λ low.
-                  let low_here : end (line y.scene own) < (slot (z.scene.node n) s).done = subst (λ (i : EntryId). i.number < (slot (z.scene.node i.stream.node) i.stream.slot).done) new_one.1 low in
-                  absurd (omega (arith, low_here, commit-done y z n s c h n s, home-end y.scene own)),
+                  let low_here : end (stream_state y.system own) < (slot (z.system.node n) s).done = subst (λ (i : EntryId). i.number < (slot (z.system.node i.stream.node) i.stream.slot).done) new_one.1 low in
+                  absurd (omega (arith, low_here, commit-done y z n s c h n s, home-end y.system own)),
             )
       ]
 
@@ -266,6 +266,6 @@ module _ (y z : Story) (u : Truth) (f : Faithful y u) (n s : ℕ) (c : Current) 
     passed = commit-passed;
     acked = commit-acked;
     replies = ap (λ (ps : List Point). replies_of ps) same_points ∙ f.booked.replies
-        ∙ ap (λ (l : List (List Op)). serial_replies (start_map y.scene.config) l) (ap (λ (ps : List Point). txs_of y ps) (sym same_points) ∙ sym (txs_of-same y z z.book.points h.txs))
+        ∙ ap (λ (l : List (List Op)). serial_replies (start_map y.system.config) l) (ap (λ (ps : List Point). txs_of y ps) (sym same_points) ∙ sym (txs_of-same y z z.book.points h.txs))
         ∙ ap (λ (k : Config). serial_replies (start_map k) (txs_of z z.book.points)) (sym h.change.config);
   }

@@ -20,10 +20,10 @@ use Rattle.zeus_model.specs.Commit.{no_pending}
 use Rattle.zeus_model.specs.Local.{run_here, new_writes, replicas_of}
 use Rattle.zeus_model.specs.declared.state.Copy.{Copy}
 use Rattle.zeus_model.specs.declared.state.Current.{Current}
-use Rattle.replication_safety.specs.Line.{end}
-use Rattle.invariants.specs.Lines.{line}
-use Rattle.data_safety.specs.Story.{Story, Truth, tx_ops}
-use Rattle.data_safety.specs.Faithful.{Faithful, content_of, found_at, raised}
+use Rattle.replication_safety.specs.StreamState.{end}
+use Rattle.invariants.specs.Streams.{stream_state}
+use Rattle.data_safety.specs.RunState.{RunState, Witness, tx_ops}
+use Rattle.data_safety.specs.DataInvariant.{DataInvariant, content_of, found_at, raised}
 use Rattle.data_safety.proofs.Names.{IsOnce, raised-from, raised-once, run-named, run-once}
 use Rattle.data_safety.proofs.Consequences.{unheld}
 use Rattle.data_safety.proofs.Running.{owner-copy}
@@ -53,61 +53,61 @@ replicas-in o (v ∷ vs) w g (there _ _ i) m =
     let rest : has g (replicas_of o vs) ≡ true = replicas-in o vs w g i m in
     grind (arith, has-join g (entry o v.obj).place.replicas (replicas_of o vs), rest)
 
-module _ (y z : Story) (u : Truth) (f : Faithful y u) (n s : ℕ) (c : Current) (h : CommitsTx y z n s c) where
+module _ (y z : RunState) (u : Witness) (f : DataInvariant y u) (n s : ℕ) (c : Current) (h : CommitsTx y z n s c) where
   pub commit-ops : c.tx ≡ tx_ops y c.id
   commit-ops = (f.booked.current n s c h.current).0
 
-  pub commit-object : (x : ℕ) → mentions x (named c.tx) ≡ true → x < length y.scene.config.objects
+  pub commit-object : (x : ℕ) → mentions x (named c.tx) ≡ true → x < length y.system.config.objects
   commit-object x m = f.booked.objects c.id x (ap (λ (ops : List Op). mentions x (named ops)) (sym commit-ops) ∙ m)
 
-  pub commit-owns : (x : ℕ) → mentions x (named c.tx) ≡ true → owns (y.scene.node n) x ≡ true
-  commit-owns x m = cause-owns (y.scene.node n) s x c.tx h.free m
+  pub commit-owns : (x : ℕ) → mentions x (named c.tx) ≡ true → owns (y.system.node n) x ≡ true
+  commit-owns x m = cause-owns (y.system.node n) s x c.tx h.free m
 
   -- no other slot has a pending entry that names the object
-  pub commit-alone : (x : ℕ) → mentions x (named c.tx) ≡ true → (r i : ℕ) → r ≢ s → i < length (slot (y.scene.node n) r).pending
-      → mentions x (nth no_pending (slot (y.scene.node n) r).pending i).named ≡ true → ⊥
-  commit-alone x m r i other inside names = elim (cause-held (y.scene.node n) s x c.tx h.free m) [
-    | inl free ↦ unheld (y.scene.node n) x free r i inside names
+  pub commit-alone : (x : ℕ) → mentions x (named c.tx) ≡ true → (r i : ℕ) → r ≢ s → i < length (slot (y.system.node n) r).pending
+      → mentions x (nth no_pending (slot (y.system.node n) r).pending i).named ≡ true → ⊥
+  commit-alone x m r i other inside names = elim (cause-held (y.system.node n) s x c.tx h.free m) [
+    | inl free ↦ unheld (y.system.node n) x free r i inside names
     | inr held ↦
-        let own = holder-names (y.scene.node n) x s held in
+        let own = holder-names (y.system.node n) x s held in
         f.entered.apart n r s i own.0 x other inside own.1 names own.2
   ]
 
   -- its copies are what the entries before leave
   pub commit-copy : (x : ℕ) → mentions x (named c.tx) ≡ true
-      → (b : Copy) × (copy (y.scene.node n) x ≡ Some b) × (content_of b ≡ found_at y u record { node = n; slot = s } (end (line y.scene record { node = n; slot = s })) x)
+      → (b : Copy) × (copy (y.system.node n) x ≡ Some b) × (content_of b ≡ found_at y u record { node = n; slot = s } (end (stream_state y.system record { node = n; slot = s })) x)
   commit-copy x m =
       owner-copy y u f n x record { node = n; slot = s } refl (commit-object x m) h.change.live (commit-owns x m) (commit-alone x m)
 
   pub commit-found : (x : ℕ) → mentions x (named c.tx) ≡ true
-      → (value_of (copy (y.scene.node n) x) ≡ (found_at y u record { node = n; slot = s } (end (line y.scene record { node = n; slot = s })) x).value)
-      × (version_of (copy (y.scene.node n) x) ≡ (found_at y u record { node = n; slot = s } (end (line y.scene record { node = n; slot = s })) x).ver)
+      → (value_of (copy (y.system.node n) x) ≡ (found_at y u record { node = n; slot = s } (end (stream_state y.system record { node = n; slot = s })) x).value)
+      × (version_of (copy (y.system.node n) x) ≡ (found_at y u record { node = n; slot = s } (end (stream_state y.system record { node = n; slot = s })) x).ver)
   commit-found x m =
       let b = commit-copy x m in
-      value_found (copy (y.scene.node n) x) b.0 (found_at y u record { node = n; slot = s } (end (line y.scene record { node = n; slot = s })) x) b.1 b.2
+      value_found (copy (y.system.node n) x) b.0 (found_at y u record { node = n; slot = s } (end (stream_state y.system record { node = n; slot = s })) x) b.1 b.2
 
-  pub commit-ran : run_here (y.scene.node n) c.tx ≡ run (λ x. (found_at y u record { node = n; slot = s } (end (line y.scene record { node = n; slot = s })) x).value) c.tx
+  pub commit-ran : run_here (y.system.node n) c.tx ≡ run (λ x. (found_at y u record { node = n; slot = s } (end (stream_state y.system record { node = n; slot = s })) x).value) c.tx
   commit-ran =
-      run-agree (λ x. value_of (copy (y.scene.node n) x)) (λ x. (found_at y u record { node = n; slot = s } (end (line y.scene record { node = n; slot = s })) x).value) c.tx (λ x m. (commit-found x m).0)
+      run-agree (λ x. value_of (copy (y.system.node n) x)) (λ x. (found_at y u record { node = n; slot = s } (end (stream_state y.system record { node = n; slot = s })) x).value) c.tx (λ x m. (commit-found x m).0)
 
-  pub commit-writes : new_writes (y.scene.node n) (run_here (y.scene.node n) c.tx).writes
-      ≡ raised (found_at y u record { node = n; slot = s } (end (line y.scene record { node = n; slot = s }))) (run (λ x. (found_at y u record { node = n; slot = s } (end (line y.scene record { node = n; slot = s })) x).value) c.tx).writes
+  pub commit-writes : new_writes (y.system.node n) (run_here (y.system.node n) c.tx).writes
+      ≡ raised (found_at y u record { node = n; slot = s } (end (stream_state y.system record { node = n; slot = s }))) (run (λ x. (found_at y u record { node = n; slot = s } (end (stream_state y.system record { node = n; slot = s })) x).value) c.tx).writes
   commit-writes =
-      let found : ℕ → Content = found_at y u record { node = n; slot = s } (end (line y.scene record { node = n; slot = s })) in
+      let found : ℕ → Content = found_at y u record { node = n; slot = s } (end (stream_state y.system record { node = n; slot = s })) in
       let are : AreOf (named c.tx) (run (λ x. (found x).value) c.tx).writes = run-are_of (λ x. (found x).value) c.tx in
-      ap (λ (r : Ran). new_writes (y.scene.node n) r.writes) commit-ran
-      ∙ new_writes-raised (y.scene.node n) found (run (λ x. (found x).value) c.tx).writes (λ x m. (commit-found x (are.named x m)).1)
+      ap (λ (r : Ran). new_writes (y.system.node n) r.writes) commit-ran
+      ∙ new_writes-raised (y.system.node n) found (run (λ x. (found x).value) c.tx).writes (λ x m. (commit-found x (are.named x m)).1)
 
   -- what it writes, it names, once, with versions one above what it finds
-  pub commit-written : (w : Write) → In w (new_writes (y.scene.node n) (run_here (y.scene.node n) c.tx).writes)
-      → (mentions w.obj (named c.tx) ≡ true) × (w.ver ≡ (found_at y u record { node = n; slot = s } (end (line y.scene record { node = n; slot = s })) w.obj).ver + 1)
+  pub commit-written : (w : Write) → In w (new_writes (y.system.node n) (run_here (y.system.node n) c.tx).writes)
+      → (mentions w.obj (named c.tx) ≡ true) × (w.ver ≡ (found_at y u record { node = n; slot = s } (end (stream_state y.system record { node = n; slot = s })) w.obj).ver + 1)
   commit-written w i =
-      let found : ℕ → Content = found_at y u record { node = n; slot = s } (end (line y.scene record { node = n; slot = s })) in
+      let found : ℕ → Content = found_at y u record { node = n; slot = s } (end (stream_state y.system record { node = n; slot = s })) in
       let m : In w (raised found (run (λ x. (found x).value) c.tx).writes) = rw (← commit-writes) i in
       let from = raised-from found (run (λ x. (found x).value) c.tx).writes w m in
       (run-named (λ x. (found x).value) c.tx (w.obj, w.value) from.0, from.1)
 
-  pub commit-once : IsOnce (new_writes (y.scene.node n) (run_here (y.scene.node n) c.tx).writes)
+  pub commit-once : IsOnce (new_writes (y.system.node n) (run_here (y.system.node n) c.tx).writes)
   commit-once =
-      let found : ℕ → Content = found_at y u record { node = n; slot = s } (end (line y.scene record { node = n; slot = s })) in
+      let found : ℕ → Content = found_at y u record { node = n; slot = s } (end (stream_state y.system record { node = n; slot = s })) in
       rw commit-writes (raised-once found (run (λ x. (found x).value) c.tx).writes (run-once (λ x. (found x).value) c.tx))

@@ -20,21 +20,21 @@ use Rattle.zeus_model.specs.Commit.{as_kept, no_kept, no_pending}
 use Rattle.zeus_model.specs.Ownership.{is_node, is_source, unready_cause, missing_cause, held_cause}
 use Rattle.zeus_model.specs.declared.state.Copy.{Copy}
 use Rattle.zeus_model.specs.declared.state.Pending.{Pending}
-use Rattle.machine_moves.specs.Scene.{Scene, IsLive, IsNumbered}
+use Rattle.machine_moves.specs.SystemState.{SystemState, IsLive, IsNumbered}
 use Rattle.machine_moves.specs.Move.{own_kept}
 use Rattle.machine_moves.proofs.Causes.{or_else-none}
 use Rattle.machine_moves.proofs.Lists.{nth-past}
 use Rattle.machine_moves.proofs.Steady.{IsNumbered-steady}
 use Rattle.ownership_safety.proofs.Arbiters.{source-owner}
-use Rattle.replication_safety.specs.Line.{Has, IsAlive, end, entry, entry_of, kept_at, Entry}
-use Rattle.replication_safety.specs.Replicated.{Replicated}
+use Rattle.replication_safety.specs.StreamState.{Has, IsAlive, end, entry, entry_of, kept_at, Entry}
+use Rattle.replication_safety.specs.ReplicationInvariant.{ReplicationInvariant}
 use Rattle.replication_safety.proofs.Consequences.{content-agrees, kept-alive, open-reported, replay-over}
-use Rattle.invariants.specs.Lines.{line}
-use Rattle.invariants.proofs.LineMoves.{line-home, line-stopped}
-use Rattle.invariants.proofs.LineSeen.{own_done_is, own_kept_is, stream_cases}
+use Rattle.invariants.specs.Streams.{stream_state}
+use Rattle.invariants.proofs.StreamFrames.{stream-home, stream-stopped}
+use Rattle.invariants.proofs.StreamSeen.{own_done_is, own_kept_is, stream_cases}
 use Rattle.invariants.proofs.ObjectSeen.{same_or_not}
-use Rattle.data_safety.specs.Story.{Story, Truth, tx_ops, place_now, pending_at, Lives}
-use Rattle.data_safety.specs.Faithful.{Faithful, IsClean, IsNewer, IsRun, left, content_of, raised, found_at}
+use Rattle.data_safety.specs.RunState.{RunState, Witness, tx_ops, place_now, pending_at, Lives}
+use Rattle.data_safety.specs.DataInvariant.{DataInvariant, IsClean, IsNewer, IsRun, left, content_of, raised, found_at}
 use Rattle.data_safety.proofs.Names.{run-named, raised-from}
 
 -- ---- the entries that a stream's own node keeps
@@ -45,25 +45,25 @@ nth-kept [] i = refl
 nth-kept (p ∷ ps) zero = refl
 nth-kept (p ∷ ps) (suc i) = nth-kept ps i
 
-pub home-done : (s : Scene) (t : Stream) → (line s t).done (line s t).home ≡ (slot (s.node t.node) t.slot).done
-home-done s t = rw (line-home s t) (own_done_is s t t.node refl)
+pub home-done : (s : SystemState) (t : Stream) → (stream_state s t).done (stream_state s t).home ≡ (slot (s.node t.node) t.slot).done
+home-done s t = rw (stream-home s t) (own_done_is s t t.node refl)
 
-pub home-kept : (s : Scene) (t : Stream) → (line s t).kept (line s t).home ≡ own_kept (s.node t.node) t.slot
-home-kept s t = rw (line-home s t) (own_kept_is s t t.node refl)
+pub home-kept : (s : SystemState) (t : Stream) → (stream_state s t).kept (stream_state s t).home ≡ own_kept (s.node t.node) t.slot
+home-kept s t = rw (stream-home s t) (own_kept_is s t t.node refl)
 
 pub own-length : (n : Node) (s : ℕ) → length (own_kept n s) ≡ length (slot n s).pending
 unfolding own_kept
 own-length n s = length-map (slot n s).pending as_kept
 
 -- how many entries a stream has
-pub home-end : (s : Scene) (t : Stream) → end (line s t) ≡ (slot (s.node t.node) t.slot).done + length (slot (s.node t.node) t.slot).pending
+pub home-end : (s : SystemState) (t : Stream) → end (stream_state s t) ≡ (slot (s.node t.node) t.slot).done + length (slot (s.node t.node) t.slot).pending
 home-end s t = rw (home-done s t, home-kept s t) (ap (λ (k : ℕ). (slot (s.node t.node) t.slot).done + k) (own-length (s.node t.node) t.slot))
 
 -- an entry of a stream is that of its own node
-pub home-entry : (y : Story) (t : Stream) (k : ℕ) → entry (line y.scene t) k ≡ entry_of (as_kept (pending_at y t k))
+pub home-entry : (y : RunState) (t : Stream) (k : ℕ) → entry (stream_state y.system t) k ≡ entry_of (as_kept (pending_at y t k))
 unfolding own_kept
 home-entry y t k =
-    rw (home-done y.scene t, home-kept y.scene t) (ap entry_of (nth-kept (slot (y.scene.node t.node) t.slot).pending (k - (slot (y.scene.node t.node) t.slot).done)))
+    rw (home-done y.system t, home-kept y.system t) (ap entry_of (nth-kept (slot (y.system.node t.node) t.slot).pending (k - (slot (y.system.node t.node) t.slot).done)))
 
 -- ---- slots that hold an object
 
@@ -132,24 +132,24 @@ node-some (Some k) m h = ap (λ (j : ℕ). Some j) (eq_from k m h)
 pub is_source-some : (n : Node) (place : Place) → is_source n place ≡ true → source place n.members ≡ Some n.me
 is_source-some n place h = node-some (source place n.members) n.me h
 
-module _ (y : Story) (u : Truth) (f : Faithful y u) where
-  pub numbered : IsNumbered y.scene
-  numbered = IsNumbered-steady y.scene f.steady
+module _ (y : RunState) (u : Witness) (f : DataInvariant y u) where
+  pub numbered : IsNumbered y.system
+  numbered = IsNumbered-steady y.system f.steady
 
   -- an entry that can still pass is pending
   pub lives-pending : (t : Stream) (k : ℕ) → Lives y u t k
-      → ((slot (y.scene.node t.node) t.slot).done ≤ k) × (k - (slot (y.scene.node t.node) t.slot).done < length (slot (y.scene.node t.node) t.slot).pending)
+      → ((slot (y.system.node t.node) t.slot).done ≤ k) × (k - (slot (y.system.node t.node) t.slot).done < length (slot (y.system.node t.node) t.slot).pending)
   unfolding IsAlive
   lives-pending t k alive =
-      let r = f.replicated t in
-      let low : (line y.scene t).done (line y.scene t).home ≤ u.passed t = r.most (line y.scene t).home in
-      let d = home-done y.scene t in
-      let e = home-end y.scene t in
+      let r = f.replication t in
+      let low : (stream_state y.system t).done (stream_state y.system t).home ≤ u.passed t = r.most (stream_state y.system t).home in
+      let d = home-done y.system t in
+      let e = home-end y.system t in
       (omega (arith, low, d, alive.0), omega (arith, low, d, e, alive.0, alive.1))
 
   -- it is that of its transaction
   pub lives-named : (t : Stream) (k : ℕ) → Lives y u t k → (pending_at y t k).named ≡ named (tx_ops y (pending_at y t k).id)
-  lives-named t k alive = (f.booked.pending t (k - (slot (y.scene.node t.node) t.slot).done) (lives-pending t k alive).1).2
+  lives-named t k alive = (f.booked.pending t (k - (slot (y.system.node t.node) t.slot).done) (lives-pending t k alive).1).2
 
   -- what it writes, it names
   pub written-named : (t : Stream) (k : ℕ) (w : Write) → Lives y u t k → In w (pending_at y t k).writes → mentions w.obj (pending_at y t k).named ≡ true
@@ -166,9 +166,9 @@ module _ (y : Story) (u : Truth) (f : Faithful y u) where
   disjoint t r k j x ne one two m l =
       let same : t.node ≡ r.node = f.entered.owner t k x one m ∙ sym (f.entered.owner r j x two l) in
       let other : t.slot ≢ r.slot = λ slots. ne (stream_eq t r same slots) in
-      let two_in : j - (slot (y.scene.node t.node) r.slot).done < length (slot (y.scene.node t.node) r.slot).pending = rw same (lives-pending r j two).1 in
-      let two_named : mentions x (nth no_pending (slot (y.scene.node t.node) r.slot).pending (j - (slot (y.scene.node t.node) r.slot).done)).named ≡ true = rw same l in
-      f.entered.apart t.node t.slot r.slot (k - (slot (y.scene.node t.node) t.slot).done) (j - (slot (y.scene.node t.node) r.slot).done) x other
+      let two_in : j - (slot (y.system.node t.node) r.slot).done < length (slot (y.system.node t.node) r.slot).pending = rw same (lives-pending r j two).1 in
+      let two_named : mentions x (nth no_pending (slot (y.system.node t.node) r.slot).pending (j - (slot (y.system.node t.node) r.slot).done)).named ≡ true = rw same l in
+      f.entered.apart t.node t.slot r.slot (k - (slot (y.system.node t.node) t.slot).done) (j - (slot (y.system.node t.node) r.slot).done) x other
       (lives-pending t k one).1 two_in m two_named
     where
       stream_of : ℕ → ℕ → Stream
@@ -179,47 +179,47 @@ module _ (y : Story) (u : Truth) (f : Faithful y u) where
 
   -- ---- what a live node keeps
 
-  pub kept-lives : (t : Stream) (n k : ℕ) → IsLive y.scene n → Has (line y.scene t) n k → u.passed t ≤ k → Lives y u t k
-  kept-lives t n k live h above = kept-alive (line y.scene t) (u.passed t) n k (f.replicated t) (line-stopped y.scene t n ∙ live) h above
+  pub kept-lives : (t : Stream) (n k : ℕ) → IsLive y.system n → Has (stream_state y.system t) n k → u.passed t ≤ k → Lives y u t k
+  kept-lives t n k live h above = kept-alive (stream_state y.system t) (u.passed t) n k (f.replication t) (stream-stopped y.system t n ∙ live) h above
 
-  pub kept-entry : (t : Stream) (n k : ℕ) → Has (line y.scene t) n k → u.passed t ≤ k → entry_of (kept_at (line y.scene t) n k) ≡ entry_of (as_kept (pending_at y t k))
-  kept-entry t n k h above = content-agrees (line y.scene t) (u.passed t) n k (f.replicated t) h above ∙ home-entry y t k
+  pub kept-entry : (t : Stream) (n k : ℕ) → Has (stream_state y.system t) n k → u.passed t ≤ k → entry_of (kept_at (stream_state y.system t) n k) ≡ entry_of (as_kept (pending_at y t k))
+  kept-entry t n k h above = content-agrees (stream_state y.system t) (u.passed t) n k (f.replication t) h above ∙ home-entry y t k
 
-  pub kept-writes : (t : Stream) (n k : ℕ) → Has (line y.scene t) n k → u.passed t ≤ k → (kept_at (line y.scene t) n k).writes ≡ (pending_at y t k).writes
+  pub kept-writes : (t : Stream) (n k : ℕ) → Has (stream_state y.system t) n k → u.passed t ≤ k → (kept_at (stream_state y.system t) n k).writes ≡ (pending_at y t k).writes
   kept-writes t n k h above = ap (λ (e : Entry). e.writes) (kept-entry t n k h above)
 
   -- ---- when an object is clean
 
   -- no pending entry of the owner of the latest placement names it
-  pub clean-owner : (x : ℕ) → ((s i : ℕ) → i < length (slot (y.scene.node (place_now y u x).owner) s).pending
-      → mentions x (nth no_pending (slot (y.scene.node (place_now y u x).owner) s).pending i).named ≡ true → ⊥) → IsClean y u x
+  pub clean-owner : (x : ℕ) → ((s i : ℕ) → i < length (slot (y.system.node (place_now y u x).owner) s).pending
+      → mentions x (nth no_pending (slot (y.system.node (place_now y u x).owner) s).pending i).named ≡ true → ⊥) → IsClean y u x
   unfolding IsClean
   clean-owner x none t k alive m =
       let own : t.node ≡ (place_now y u x).owner = f.entered.owner t k x alive m in
-      none t.slot (k - (slot (y.scene.node (place_now y u x).owner) t.slot).done) (rw own at (lives-pending t k alive).1) (rw own at m)
+      none t.slot (k - (slot (y.system.node (place_now y u x).owner) t.slot).done) (rw own at (lives-pending t k alive).1) (rw own at m)
 
-  all_reported : (t : Stream) (k n : ℕ) → IsLive y.scene n → is_open (y.scene.node n) ≡ true
-      → has t.node (y.scene.node n).members ≡ false → (y.scene.node n).epoch ≢ 1 → Lives y u t k → ⊥
-  unfolding line is_open
+  all_reported : (t : Stream) (k n : ℕ) → IsLive y.system n → is_open (y.system.node n) ≡ true
+      → has t.node (y.system.node n).members ≡ false → (y.system.node n).epoch ≢ 1 → Lives y u t k → ⊥
+  unfolding stream_state is_open
   all_reported t k n live opened gone later alive =
-      let r : Replicated (line y.scene t) (u.passed t) = f.replicated t in
+      let r : ReplicationInvariant (stream_state y.system t) (u.passed t) = f.replication t in
       let known = f.steady.nodes n live in
-      let two : 2 ≤ (y.scene.node n).epoch = omega (arith, known.first, later) in
-      let sub : is_subset (nth [] y.scene.views ((y.scene.node n).epoch - 1)) (y.scene.node n).reported ≡ true = rw (← known.members) opened in
-      let out : has t.node (nth [] y.scene.views ((y.scene.node n).epoch - 1)) ≡ false = rw (← known.members) gone in
-      replay-over (line y.scene t) (u.passed t) (y.scene.node n).epoch k r (known.first, known.made) out
-      (λ m member. open-reported (line y.scene t) (u.passed t) n m r live two sub member) alive
+      let two : 2 ≤ (y.system.node n).epoch = omega (arith, known.first, later) in
+      let sub : is_subset (nth [] y.system.views ((y.system.node n).epoch - 1)) (y.system.node n).reported ≡ true = rw (← known.members) opened in
+      let out : has t.node (nth [] y.system.views ((y.system.node n).epoch - 1)) ≡ false = rw (← known.members) gone in
+      replay-over (stream_state y.system t) (u.passed t) (y.system.node n).epoch k r (known.first, known.made) out
+      (λ m member. open-reported (stream_state y.system t) (u.passed t) n m r live two sub member) alive
 
   -- an open live node is in a view without that owner
-  pub clean-open : (n x : ℕ) → IsLive y.scene n → is_open (y.scene.node n) ≡ true → has (place_now y u x).owner (y.scene.node n).members ≡ false → IsClean y u x
+  pub clean-open : (n x : ℕ) → IsLive y.system n → is_open (y.system.node n) ≡ true → has (place_now y u x).owner (y.system.node n).members ≡ false → IsClean y u x
   unfolding IsClean
   clean-open n x live opened out t k alive m =
       let own : t.node ≡ (place_now y u x).owner = f.entered.owner t k x alive m in
       let known = f.steady.nodes n live in
-      let gone : has t.node (y.scene.node n).members ≡ false = rw own out in
-      let later : (y.scene.node n).epoch ≢ 1 = λ one.
-      let first : has t.node (nth [] y.scene.views ((y.scene.node n).epoch - 1)) ≡ true =
-      rw one (f.entered.home t (k - (slot (y.scene.node t.node) t.slot).done) (lives-pending t k alive).1) in
+      let gone : has t.node (y.system.node n).members ≡ false = rw own out in
+      let later : (y.system.node n).epoch ≢ 1 = λ one.
+      let first : has t.node (nth [] y.system.views ((y.system.node n).epoch - 1)) ≡ true =
+      rw one (f.entered.home t (k - (slot (y.system.node t.node) t.slot).done) (lives-pending t k alive).1) in
       true≢false (sym first ∙ sym (ap (λ (ms : List ℕ). has t.node ms) known.members) ∙ gone)
       in
       all_reported t k n live opened gone later alive
@@ -227,7 +227,7 @@ module _ (y : Story) (u : Truth) (f : Faithful y u) where
   -- ---- copies
 
   -- a copy of a clean object is what the history leaves
-  pub clean-copy : (n x : ℕ) (c : Copy) → x < length y.scene.config.objects → IsLive y.scene n → IsClean y u x → copy (y.scene.node n) x ≡ Some c → content_of c ≡ left y x
+  pub clean-copy : (n x : ℕ) (c : Copy) → x < length y.system.config.objects → IsLive y.system n → IsClean y u x → copy (y.system.node n) x ≡ Some c → content_of c ≡ left y x
   unfolding IsClean
   clean-copy n x c within live clean is =
       elim (f.copied.content n x c within live is) [
@@ -240,42 +240,42 @@ module _ (y : Story) (u : Truth) (f : Faithful y u) where
       ]
 
   -- a valid copy is what the history leaves
-  pub read-valid : (n x : ℕ) (c : Copy) → x < length y.scene.config.objects → IsLive y.scene n → copy (y.scene.node n) x ≡ Some c → c.state ≡ Valid → content_of c ≡ left y x
+  pub read-valid : (n x : ℕ) (c : Copy) → x < length y.system.config.objects → IsLive y.system n → copy (y.system.node n) x ≡ Some c → c.state ≡ Valid → content_of c ≡ left y x
   read-valid n x c within live is valid =
       elim (f.copied.content n x c within live is) [ inl same ↦ same | inr newer ↦ absurd (newer.not_valid valid) ]
 
   -- an open source of the latest placement, none of whose slots holds the object, has a clean object
-  pub source-clean : (n x : ℕ) → IsLive y.scene n → is_open (y.scene.node n) ≡ true → is_source (y.scene.node n) (place_now y u x) ≡ true
-      → holder (y.scene.node n) x ≡ None → IsClean y u x
+  pub source-clean : (n x : ℕ) → IsLive y.system n → is_open (y.system.node n) ≡ true → is_source (y.system.node n) (place_now y u x) ≡ true
+      → holder (y.system.node n) x ≡ None → IsClean y u x
   source-clean n x live opened is free =
-      elim (cases_Bool (has (place_now y u x).owner (y.scene.node n).members)) [
+      elim (cases_Bool (has (place_now y u x).owner (y.system.node n).members)) [
         | inr out ↦ clean-open n x live opened out
         | inl member ↦
-            let own : ◌≡◌ {A = Option ℕ} (Some (place_now y u x).owner) (Some (y.scene.node n).me) =
-            sym (source-owner (place_now y u x) (y.scene.node n).members member) ∙ is_source-some (y.scene.node n) (place_now y u x) is in
+            let own : ◌≡◌ {A = Option ℕ} (Some (place_now y u x).owner) (Some (y.system.node n).me) =
+            sym (source-owner (place_now y u x) (y.system.node n).members member) ∙ is_source-some (y.system.node n) (place_now y u x) is in
             let same : (place_now y u x).owner ≡ n = some_same _ _ own ∙ numbered.me n live in
-            clean-owner x (λ s i inside m. unheld (y.scene.node n) x free s i (rw same at inside) (rw same at m))
+            clean-owner x (λ s i inside m. unheld (y.system.node n) x free s i (rw same at inside) (rw same at m))
       ]
     where
       some_same : (a b : ℕ) → ◌≡◌ {A = Option ℕ} (Some a) (Some b) → a ≡ b
       some_same a b e = cc
 
   -- so what it gives is what the history leaves
-  pub source-content : (n x : ℕ) (c : Copy) → x < length y.scene.config.objects → IsLive y.scene n → is_open (y.scene.node n) ≡ true → is_source (y.scene.node n) (place_now y u x) ≡ true
-      → unready_cause (y.scene.node n) x ≡ None → copy (y.scene.node n) x ≡ Some c → IsClean y u x × (content_of c ≡ left y x)
+  pub source-content : (n x : ℕ) (c : Copy) → x < length y.system.config.objects → IsLive y.system n → is_open (y.system.node n) ≡ true → is_source (y.system.node n) (place_now y u x) ≡ true
+      → unready_cause (y.system.node n) x ≡ None → copy (y.system.node n) x ≡ Some c → IsClean y u x × (content_of c ≡ left y x)
   source-content n x c within live opened is ready has_copy =
-      let clean : IsClean y u x = source-clean n x live opened is (unready-none (y.scene.node n) x ready).1 in
+      let clean : IsClean y u x = source-clean n x live opened is (unready-none (y.system.node n) x ready).1 in
       (clean, clean-copy n x c within live clean has_copy)
 
   -- ---- newer copies
 
   -- where an entry of a stream that can still pass names the object, a newer copy was written by that stream
-  pub witness-same_stream : (n x k : ℕ) (t : Stream) (c : Copy) → IsLive y.scene n → IsNewer y u n x c → Lives y u t k → mentions x (pending_at y t k).named ≡ true
-      → (j : ℕ) × (u.passed t ≤ j) × Has (line y.scene t) n j × In record { obj = x; ver = c.ver; value = c.value } (kept_at (line y.scene t) n j).writes
+  pub witness-same_stream : (n x k : ℕ) (t : Stream) (c : Copy) → IsLive y.system n → IsNewer y u n x c → Lives y u t k → mentions x (pending_at y t k).named ≡ true
+      → (j : ℕ) × (u.passed t ≤ j) × Has (stream_state y.system t) n j × In record { obj = x; ver = c.ver; value = c.value } (kept_at (stream_state y.system t) n j).writes
   witness-same_stream n x k t c live newer alive m =
       let w = newer.written in
       elim (stream_cases w.0 t) [
-        | inl same ↦ subst (λ (s : Stream). (j : ℕ) × (u.passed s ≤ j) × Has (line y.scene s) n j × In record { obj = x; ver = c.ver; value = c.value } (kept_at (line y.scene s) n j).writes) same (w.1, w.2, w.3, w.4)
+        | inl same ↦ subst (λ (s : Stream). (j : ℕ) × (u.passed s ≤ j) × Has (stream_state y.system s) n j × In record { obj = x; ver = c.ver; value = c.value } (kept_at (stream_state y.system s) n j).writes) same (w.1, w.2, w.3, w.4)
         | inr other ↦
             let there_lives : Lives y u w.0 w.1 = kept-lives w.0 n w.1 live w.3 w.2 in
             let i : In record { obj = x; ver = c.ver; value = c.value } (pending_at y w.0 w.1).writes = rw (← kept-writes w.0 n w.1 w.3 w.2) w.4 in

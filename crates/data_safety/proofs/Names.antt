@@ -11,7 +11,7 @@ use Rattle.zeus_txn.specs.Ops.{mentions, named}
 use Rattle.zeus_txn.specs.Run.{run}
 use Rattle.zeus_txn.specs.RunLaws.{keys, AreDistinct, run-are_of}
 use Rattle.zeus_model.specs.In.{In, here, there}
-use Rattle.data_safety.specs.Faithful.{raised}
+use Rattle.data_safety.specs.DataInvariant.{raised}
 
 -- every written object is among the names
 abbrev pub AreNamed : List (ℕ × Value) → List ℕ → Type 0

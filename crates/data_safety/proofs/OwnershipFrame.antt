@@ -18,15 +18,15 @@ use Rattle.zeus_model.specs.Book.{Book, Point}
 use Rattle.zeus_model.specs.Serial.{content, start_map, serial_map}
 use Rattle.zeus_model.specs.World.{no_tx}
 use Rattle.zeus_model.specs.declared.state.Copy.{Copy}
-use Rattle.machine_moves.specs.Scene.{IsLive, view}
-use Rattle.replication_safety.specs.Line.{Entry, Has, end, kept_at}
-use Rattle.replication_safety.specs.Replicated.{Replicated}
-use Rattle.invariants.specs.Lines.{line}
-use Rattle.invariants.proofs.LineSeen.{Seen}
-use Rattle.data_safety.specs.Story.{Story, Truth, tx_ops, txs_of, place_now, pending_at, Lives, running, overwritten}
-use Rattle.data_safety.specs.Faithful.{Faithful, IsCopied, IsClean, IsNewer, left, found_at, content_of}
+use Rattle.machine_moves.specs.SystemState.{IsLive, view}
+use Rattle.replication_safety.specs.StreamState.{Entry, Has, end, kept_at}
+use Rattle.replication_safety.specs.ReplicationInvariant.{ReplicationInvariant}
+use Rattle.invariants.specs.Streams.{stream_state}
+use Rattle.invariants.proofs.StreamSeen.{Seen}
+use Rattle.data_safety.specs.RunState.{RunState, Witness, tx_ops, txs_of, place_now, pending_at, Lives, running, overwritten}
+use Rattle.data_safety.specs.DataInvariant.{DataInvariant, IsCopied, IsClean, IsNewer, left, found_at, content_of}
 use Rattle.data_safety.proofs.Consequences.{lives-named, written-named, kept-lives, kept-writes}
-use Rattle.data_safety.proofs.OwnershipStill.{SameRows, SameSlots, IsSamePending, still-replicated, still-alive, rows-had, rows-has, rows-entry}
+use Rattle.data_safety.proofs.StreamsUnchanged.{SameRows, SameSlots, IsSamePending, still-replication, still-alive, rows-had, rows-has, rows-entry}
 
 -- ---- what the history leaves
 
@@ -34,7 +34,7 @@ txs_in : List TxDecl → List Point → List (List Op)
 txs_in txs [] = []
 txs_in txs (p ∷ ps) = (nth no_tx txs p.id).tx ∷ txs_in txs ps
 
-txs_of-in : (y : Story) (ps : List Point) → txs_of y ps ≡ txs_in y.txs ps
+txs_of-in : (y : RunState) (ps : List Point) → txs_of y ps ≡ txs_in y.txs ps
 unfolding txs_of txs_in
 txs_of-in y [] = refl
 txs_of-in y (p ∷ ps) = ap (λ (z : List (List Op)). tx_ops y p.id ∷ z) (txs_of-in y ps)
@@ -42,19 +42,19 @@ txs_of-in y (p ∷ ps) = ap (λ (z : List (List Op)). tx_ops y p.id ∷ z) (txs_
 map_content : List Versioned → ℕ → Content
 map_content m x = record { ver = (content m x).ver; value = (content m x).value }
 
-left-map : (y : Story) → left y ≡ map_content (serial_map (start_map y.scene.config) (txs_of y y.book.points))
+left-map : (y : RunState) → left y ≡ map_content (serial_map (start_map y.system.config) (txs_of y y.book.points))
 unfolding left map_content
 left-map y = refl
 
-pub txs-same : (y z : Story) → z.txs ≡ y.txs → z.book ≡ y.book → txs_of z z.book.points ≡ txs_of y y.book.points
+pub txs-same : (y z : RunState) → z.txs ≡ y.txs → z.book ≡ y.book → txs_of z z.book.points ≡ txs_of y y.book.points
 txs-same y z txs book =
     txs_of-in z z.book.points ∙ ap (λ (t : List TxDecl). txs_in t z.book.points) txs
     ∙ ap (λ (b : Book). txs_in y.txs b.points) book ∙ sym (txs_of-in y y.book.points)
 
-pub left-same : (y z : Story) → z.scene.config ≡ y.scene.config → z.txs ≡ y.txs → z.book ≡ y.book → left z ≡ left y
+pub left-same : (y z : RunState) → z.system.config ≡ y.system.config → z.txs ≡ y.txs → z.book ≡ y.book → left z ≡ left y
 left-same y z config txs book =
     left-map z ∙ ap (λ (c : Config). map_content (serial_map (start_map c) (txs_of z z.book.points))) config
-    ∙ ap (λ (t : List (List Op)). map_content (serial_map (start_map y.scene.config) t)) (txs-same y z txs book) ∙ sym (left-map y)
+    ∙ ap (λ (t : List (List Op)). map_content (serial_map (start_map y.system.config) t)) (txs-same y z txs book) ∙ sym (left-map y)
 
 running-same : (found : ℕ → Content) (one two : ℕ → List Write) (j : ℕ) → ((i : ℕ) → one i ≡ two i) → running found one j ≡ running found two j
 unfolding running
@@ -64,41 +64,41 @@ running-same found one two (suc j) same =
 
 -- ---- what the move leaves
 
-pub record IsFramed (y z : Story) (u : Truth) : Type 0 where
-  pub config : z.scene.config ≡ y.scene.config
+pub record IsFramed (y z : RunState) (u : Witness) : Type 0 where
+  pub config : z.system.config ≡ y.system.config
   pub txs : z.txs ≡ y.txs
   pub book : z.book ≡ y.book
-  pub live : (n : ℕ) → IsLive z.scene n → IsLive y.scene n
-  pub slots : (n : ℕ) → SameSlots (y.scene.node n) (z.scene.node n)
-  pub dones : (t : Stream) (m : ℕ) → (line z.scene t).done m ≡ (line y.scene t).done m
-  pub ends : (t : Stream) → end (line z.scene t) ≡ end (line y.scene t)
-  pub seen : (t : Stream) → Seen (line y.scene t) (line z.scene t) (u.passed t)
-  pub first : (n : ℕ) → has n (view y.scene 1) ≡ true → has n (view z.scene 1) ≡ true
+  pub live : (n : ℕ) → IsLive z.system n → IsLive y.system n
+  pub slots : (n : ℕ) → SameSlots (y.system.node n) (z.system.node n)
+  pub dones : (t : Stream) (m : ℕ) → (stream_state z.system t).done m ≡ (stream_state y.system t).done m
+  pub ends : (t : Stream) → end (stream_state z.system t) ≡ end (stream_state y.system t)
+  pub seen : (t : Stream) → Seen (stream_state y.system t) (stream_state z.system t) (u.passed t)
+  pub first : (n : ℕ) → has n (view y.system 1) ≡ true → has n (view z.system 1) ≡ true
 
--- the truth with these chains
-abbrev pub with_chains : Truth → (ℕ → List Proposal) → Truth
+-- the witness with these chains
+abbrev pub with_chains : Witness → (ℕ → List Proposal) → Witness
 with_chains u chain = record { chain = chain; passed = u.passed }
 
 -- the placement and the copies of an object stay
-pub record IsSameObject (y z : Story) (u v : Truth) (x : ℕ) : Type 0 where
+pub record IsSameObject (y z : RunState) (u v : Witness) (x : ℕ) : Type 0 where
   pub place : place_now z v x ≡ place_now y u x
-  pub copies : (n : ℕ) → IsLive z.scene n → copy (z.scene.node n) x ≡ copy (y.scene.node n) x
+  pub copies : (n : ℕ) → IsLive z.system n → copy (z.system.node n) x ≡ copy (y.system.node n) x
 
 -- the placement of a clean object is another, and its copies are what the history leaves
-pub record IsRenewed (y z : Story) (u v : Truth) (x : ℕ) : Type 0 where
+pub record IsRenewed (y z : RunState) (u v : Witness) (x : ℕ) : Type 0 where
   pub clean : IsClean y u x
-  pub placed : (n : ℕ) → IsLive z.scene n → (is_some (copy (z.scene.node n) x) ≡ true) ↔ (has n (place_now z v x).replicas ≡ true)
-  pub content : (n : ℕ) (c : Copy) → IsLive z.scene n → copy (z.scene.node n) x ≡ Some c → content_of c ≡ left y x
+  pub placed : (n : ℕ) → IsLive z.system n → (is_some (copy (z.system.node n) x) ≡ true) ↔ (has n (place_now z v x).replicas ≡ true)
+  pub content : (n : ℕ) (c : Copy) → IsLive z.system n → copy (z.system.node n) x ≡ Some c → content_of c ≡ left y x
 
-module _ (y z : Story) (u : Truth) (chain : ℕ → List Proposal) (f : Faithful y u) (s : IsFramed y z u) where
-  pub framed-replicated : (t : Stream) → Replicated (line z.scene t) (u.passed t)
-  framed-replicated t = still-replicated (line y.scene t) (line z.scene t) (u.passed t) (f.replicated t) (s.dones t) (s.seen t)
+module _ (y z : RunState) (u : Witness) (chain : ℕ → List Proposal) (f : DataInvariant y u) (s : IsFramed y z u) where
+  pub framed-replication : (t : Stream) → ReplicationInvariant (stream_state z.system t) (u.passed t)
+  framed-replication t = still-replication (stream_state y.system t) (stream_state z.system t) (u.passed t) (f.replication t) (s.dones t) (s.seen t)
 
   pub framed-lives : (t : Stream) (k : ℕ) → Lives z u t k → Lives y u t k
-  framed-lives t k alive = still-alive (line y.scene t) (line z.scene t) (u.passed t) k (f.replicated t) (s.dones t) (s.ends t) (s.seen t) alive
+  framed-lives t k alive = still-alive (stream_state y.system t) (stream_state z.system t) (u.passed t) k (f.replication t) (s.dones t) (s.ends t) (s.seen t) alive
 
   pub framed-pending : (t : Stream) (k : ℕ) → IsSamePending (pending_at y t k) (pending_at z t k)
-  framed-pending t k = rw ((s.slots t.node).done t.slot) ((s.slots t.node).pending t.slot (k - (slot (y.scene.node t.node) t.slot).done))
+  framed-pending t k = rw ((s.slots t.node).done t.slot) ((s.slots t.node).pending t.slot (k - (slot (y.system.node t.node) t.slot).done))
 
   pub framed-left : left z ≡ left y
   framed-left = left-same y z s.config s.txs s.book
@@ -119,22 +119,22 @@ module _ (y z : Story) (u : Truth) (chain : ℕ → List Proposal) (f : Faithful
   pub framed-ops : (id : ℕ) → tx_ops z id ≡ tx_ops y id
   framed-ops id = ap (λ (t : List TxDecl). (nth no_tx t id).tx) s.txs
 
-  pub framed-within : (x : ℕ) → x < length z.scene.config.objects → x < length y.scene.config.objects
+  pub framed-within : (x : ℕ) → x < length z.system.config.objects → x < length y.system.config.objects
   framed-within x h = rw s.config at h
 
   -- what an entry that can still pass names is an object of the configuration
-  pub lives-within : (t : Stream) (k x : ℕ) → Lives y u t k → mentions x (pending_at y t k).named ≡ true → x < length y.scene.config.objects
+  pub lives-within : (t : Stream) (k x : ℕ) → Lives y u t k → mentions x (pending_at y t k).named ≡ true → x < length y.system.config.objects
   lives-within t k x alive m = f.booked.objects (pending_at y t k).id x (rw (lives-named y u f t k alive) at m)
 
   -- ---- copies
 
-  module _ (rows : (n : ℕ) → SameRows (y.scene.node n) (z.scene.node n))
-      (objects : (x : ℕ) → x < length y.scene.config.objects → IsSameObject y z u (with_chains u chain) x ⊎ IsRenewed y z u (with_chains u chain) x) where
-    framed-kept : (t : Stream) (n k : ℕ) → (kept_at (line z.scene t) n k).writes ≡ (kept_at (line y.scene t) n k).writes
-    framed-kept t n k = ap (λ (e : Entry). e.writes) (rows-entry y.scene z.scene rows t n k)
+  module _ (rows : (n : ℕ) → SameRows (y.system.node n) (z.system.node n))
+      (objects : (x : ℕ) → x < length y.system.config.objects → IsSameObject y z u (with_chains u chain) x ⊎ IsRenewed y z u (with_chains u chain) x) where
+    framed-kept : (t : Stream) (n k : ℕ) → (kept_at (stream_state z.system t) n k).writes ≡ (kept_at (stream_state y.system t) n k).writes
+    framed-kept t n k = ap (λ (e : Entry). e.writes) (rows-entry y.system z.system rows t n k)
 
-    framed-placed : (n x : ℕ) → x < length z.scene.config.objects → IsLive z.scene n
-        → (is_some (copy (z.scene.node n) x) ≡ true) ↔ (has n (place_now z (with_chains u chain) x).replicas ≡ true)
+    framed-placed : (n x : ℕ) → x < length z.system.config.objects → IsLive z.system n
+        → (is_some (copy (z.system.node n) x) ≡ true) ↔ (has n (place_now z (with_chains u chain) x).replicas ≡ true)
     framed-placed n x within live =
         elim (objects x (framed-within x within)) [
           | inr renewed ↦ renewed.placed n live
@@ -149,10 +149,10 @@ module _ (y z : Story) (u : Truth) (chain : ℕ → List Proposal) (f : Faithful
         record {
           above = rw framed-left newer.above;
           not_valid = newer.not_valid;
-          written = (w.0, w.1, w.2, rows-has y.scene z.scene rows w.0 n w.1 w.3, rw (framed-kept w.0 n w.1) w.4);
+          written = (w.0, w.1, w.2, rows-has y.system z.system rows w.0 n w.1 w.3, rw (framed-kept w.0 n w.1) w.4);
         }
 
-    framed-content : (n x : ℕ) (c : Copy) → x < length z.scene.config.objects → IsLive z.scene n → copy (z.scene.node n) x ≡ Some c
+    framed-content : (n x : ℕ) (c : Copy) → x < length z.system.config.objects → IsLive z.system n → copy (z.system.node n) x ≡ Some c
         → (content_of c ≡ left z x) ⊎ IsNewer z (with_chains u chain) n x c
     framed-content n x c within live is =
         elim (objects x (framed-within x within)) [
@@ -164,17 +164,17 @@ module _ (y z : Story) (u : Truth) (chain : ℕ → List Proposal) (f : Faithful
               ]
         ]
 
-    clean-none : (t : Stream) (n k : ℕ) (w : Write) → IsClean y u w.obj → IsLive y.scene n → Has (line y.scene t) n k → u.passed t ≤ k → In w (kept_at (line y.scene t) n k).writes → ⊥
+    clean-none : (t : Stream) (n k : ℕ) (w : Write) → IsClean y u w.obj → IsLive y.system n → Has (stream_state y.system t) n k → u.passed t ≤ k → In w (kept_at (stream_state y.system t) n k).writes → ⊥
     unfolding IsClean
     clean-none t n k w clean live had above i =
         let alive = kept-lives y u f t n k live had above in
         clean t k alive (written-named y u f t k w alive (rw (← kept-writes y u f t n k had above) i))
 
-    framed-taken : (n : ℕ) (t : Stream) (k : ℕ) (w : Write) (c : Copy) → w.obj < length z.scene.config.objects → IsLive z.scene n → Has (line z.scene t) n k → u.passed t ≤ k
-        → In w (kept_at (line z.scene t) n k).writes → copy (z.scene.node n) w.obj ≡ Some c → w.ver ≤ c.ver
+    framed-taken : (n : ℕ) (t : Stream) (k : ℕ) (w : Write) (c : Copy) → w.obj < length z.system.config.objects → IsLive z.system n → Has (stream_state z.system t) n k → u.passed t ≤ k
+        → In w (kept_at (stream_state z.system t) n k).writes → copy (z.system.node n) w.obj ≡ Some c → w.ver ≤ c.ver
     framed-taken n t k w c within live h above i is =
-        let had : Has (line y.scene t) n k = rows-had y.scene z.scene rows t n k h in
-        let i' : In w (kept_at (line y.scene t) n k).writes = rw (framed-kept t n k) at i in
+        let had : Has (stream_state y.system t) n k = rows-had y.system z.system rows t n k h in
+        let i' : In w (kept_at (stream_state y.system t) n k).writes = rw (framed-kept t n k) at i in
         elim (objects w.obj (framed-within w.obj within)) [
           | inl same ↦ f.copied.taken n t k w c (framed-within w.obj within) (s.live n live) had above i' (sym (same.copies n live) ∙ is)
           | inr renewed ↦ absurd (clean-none t n k w renewed.clean (s.live n live) had above i')

@@ -17,22 +17,22 @@ use Rattle.zeus_model.specs.Commit.{no_pending}
 use Rattle.zeus_model.specs.Book.{Book, EntryId, record_of}
 use Rattle.zeus_model.specs.World.{no_tx}
 use Rattle.zeus_model.specs.declared.state.Current.{Current}
-use Rattle.machine_moves.specs.Scene.{IsLive, view}
+use Rattle.machine_moves.specs.SystemState.{IsLive, view}
 use Rattle.ownership_safety.specs.Object.{HasGiven}
-use Rattle.replication_safety.specs.Line.{Entry, Stores, end}
-use Rattle.invariants.specs.Lines.{line}
+use Rattle.replication_safety.specs.StreamState.{Entry, Stores, end}
+use Rattle.invariants.specs.Streams.{stream_state}
 use Rattle.invariants.specs.Objects.{object}
-use Rattle.data_safety.specs.Story.{Story, Truth, tx_ops, place_now, pending_at, Lives}
-use Rattle.data_safety.specs.Faithful.{Faithful, IsEntered, IsBooked, IsClean, IsRun, left, found_at, raised}
+use Rattle.data_safety.specs.RunState.{RunState, Witness, tx_ops, place_now, pending_at, Lives}
+use Rattle.data_safety.specs.DataInvariant.{DataInvariant, IsEntered, IsBooked, IsClean, IsRun, left, found_at, raised}
 use Rattle.data_safety.proofs.Consequences.{written-named}
-use Rattle.data_safety.proofs.OwnershipStill.{still-sent}
+use Rattle.data_safety.proofs.StreamsUnchanged.{still-sent}
 use Rattle.data_safety.proofs.OwnershipFrame.{IsFramed, IsSameObject, IsRenewed, with_chains, txs-same, framed-lives, framed-pending, framed-left, framed-found, framed-clean, framed-ops, framed-within, lives-within}
 
-module _ (y z : Story) (u : Truth) (chain : ℕ → List Proposal) (f : Faithful y u) (s : IsFramed y z u) where
+module _ (y z : RunState) (u : Witness) (chain : ℕ → List Proposal) (f : DataInvariant y u) (s : IsFramed y z u) where
   -- ---- entries
 
-  module _ (objects : (x : ℕ) → x < length y.scene.config.objects → IsSameObject y z u (with_chains u chain) x ⊎ IsRenewed y z u (with_chains u chain) x) where
-    framed-home : (t : Stream) (i : ℕ) → i < length (slot (z.scene.node t.node) t.slot).pending → has t.node (view z.scene 1) ≡ true
+  module _ (objects : (x : ℕ) → x < length y.system.config.objects → IsSameObject y z u (with_chains u chain) x ⊎ IsRenewed y z u (with_chains u chain) x) where
+    framed-home : (t : Stream) (i : ℕ) → i < length (slot (z.system.node t.node) t.slot).pending → has t.node (view z.system 1) ≡ true
     framed-home t i inside = s.first t.node (f.entered.home t i (rw ((s.slots t.node).count t.slot) at inside))
 
     -- the placement of what can still pass has not changed
@@ -72,32 +72,32 @@ module _ (y z : Story) (u : Truth) (chain : ℕ → List Proposal) (f : Faithful
               ∙ ap (λ (o : List Op). raised (found_at y u t k) (run (λ x. (found_at y u t k x).value) o).writes) ops ∙ is.writes ∙ sym p.writes;
         }
 
-    framed-apart : (n a b i j x : ℕ) → a ≢ b → i < length (slot (z.scene.node n) a).pending → j < length (slot (z.scene.node n) b).pending
-        → mentions x (nth no_pending (slot (z.scene.node n) a).pending i).named ≡ true
-        → mentions x (nth no_pending (slot (z.scene.node n) b).pending j).named ≡ true → ⊥
+    framed-apart : (n a b i j x : ℕ) → a ≢ b → i < length (slot (z.system.node n) a).pending → j < length (slot (z.system.node n) b).pending
+        → mentions x (nth no_pending (slot (z.system.node n) a).pending i).named ≡ true
+        → mentions x (nth no_pending (slot (z.system.node n) b).pending j).named ≡ true → ⊥
     framed-apart n a b i j x ne ii jj m l =
         let r = s.slots n in
         f.entered.apart n a b i j x ne (rw (r.count a) at ii) (rw (r.count b) at jj) (rw ((r.pending a i).named) at m) (rw ((r.pending b j).named) at l)
 
-    framed-low : (t : Stream) (from to e k d : ℕ) (i : Entry) (w : Write) → In (Stores from to e k d i) (line z.scene t).letters → k < u.passed t
+    framed-low : (t : Stream) (from to e k d : ℕ) (i : Entry) (w : Write) → In (Stores from to e k d i) (stream_state z.system t).letters → k < u.passed t
         → In w i.writes → w.ver ≤ (left z w.obj).ver
     framed-low t from to e k d i w m below inside =
-        let sent = still-sent (line y.scene t) (line z.scene t) (u.passed t) from to e k d i (f.replicated t) (s.seen t) m below in
+        let sent = still-sent (stream_state y.system t) (stream_state z.system t) (u.passed t) from to e k d i (f.replication t) (s.seen t) m below in
         rw (framed-left y z u chain f s) (f.entered.low t sent.0 sent.1 sent.2 k sent.3 i w sent.4 below inside)
 
-    module _ (owned : (n a i x : ℕ) → IsLive z.scene n → i < length (slot (y.scene.node n) a).pending
-        → mentions x (nth no_pending (slot (y.scene.node n) a).pending i).named ≡ true → owns (y.scene.node n) x ≡ true → owns (z.scene.node n) x ≡ true)
-        (given : (n x e : ℕ) (p : Proposal) (c : Content) → x < length y.scene.config.objects → HasGiven (object z.scene x) n p c e
+    module _ (owned : (n a i x : ℕ) → IsLive z.system n → i < length (slot (y.system.node n) a).pending
+        → mentions x (nth no_pending (slot (y.system.node n) a).pending i).named ≡ true → owns (y.system.node n) x ≡ true → owns (z.system.node n) x ≡ true)
+        (given : (n x e : ℕ) (p : Proposal) (c : Content) → x < length y.system.config.objects → HasGiven (object z.system x) n p c e
         → p.base.ver ≡ length (chain x) → IsClean y u x × (c ≡ left y x)) where
-      framed-owned : (n a i x : ℕ) → IsLive z.scene n → i < length (slot (z.scene.node n) a).pending
-          → mentions x (nth no_pending (slot (z.scene.node n) a).pending i).named ≡ true → owns (z.scene.node n) x ≡ true
+      framed-owned : (n a i x : ℕ) → IsLive z.system n → i < length (slot (z.system.node n) a).pending
+          → mentions x (nth no_pending (slot (z.system.node n) a).pending i).named ≡ true → owns (z.system.node n) x ≡ true
       framed-owned n a i x live ii m =
           let r = s.slots n in
-          let ii' : i < length (slot (y.scene.node n) a).pending = rw (r.count a) at ii in
-          let m' : mentions x (nth no_pending (slot (y.scene.node n) a).pending i).named ≡ true = rw ((r.pending a i).named) at m in
+          let ii' : i < length (slot (y.system.node n) a).pending = rw (r.count a) at ii in
+          let m' : mentions x (nth no_pending (slot (y.system.node n) a).pending i).named ≡ true = rw ((r.pending a i).named) at m in
           owned n a i x live ii' m' (f.entered.owned n a i x (s.live n live) ii' m')
 
-      framed-given : (n x e : ℕ) (p : Proposal) (c : Content) → x < length z.scene.config.objects → HasGiven (object z.scene x) n p c e
+      framed-given : (n x e : ℕ) (p : Proposal) (c : Content) → x < length z.system.config.objects → HasGiven (object z.system x) n p c e
           → p.base.ver ≡ length (chain x) → IsClean z (with_chains u chain) x × (c ≡ left z x)
       framed-given n x e p c within g last =
           let was = given n x e p c (framed-within y z u chain f s x within) g last in
@@ -120,15 +120,15 @@ module _ (y z : Story) (u : Truth) (chain : ℕ → List Proposal) (f : Faithful
   framed-record : (id : ℕ) → record_of z.book id ≡ record_of y.book id
   framed-record id = ap (λ (b : Book). record_of b id) s.book
 
-  framed-objects : (id x : ℕ) → mentions x (named (tx_ops z id)) ≡ true → x < length z.scene.config.objects
+  framed-objects : (id x : ℕ) → mentions x (named (tx_ops z id)) ≡ true → x < length z.system.config.objects
   framed-objects id x m =
       let m' : mentions x (named (tx_ops y id)) ≡ true = rw (framed-ops y z u chain f s id) at m in
       rw s.config (f.booked.objects id x m')
 
-  framed-end : (t : Stream) → end (line z.scene t) ≡ end (line y.scene t)
+  framed-end : (t : Stream) → end (stream_state z.system t) ≡ end (stream_state y.system t)
   framed-end t = s.ends t
 
-  framed-entry : (t : Stream) (k : ℕ) → k < end (line z.scene t)
+  framed-entry : (t : Stream) (k : ℕ) → k < end (stream_state z.system t)
       → (id : ℕ) × ((record_of z.book id).entry ≡ Some record { stream = t; number = k }) × (is_write (tx_ops z id) ≡ true)
       × ((nth no_tx z.txs id).node ≡ t.node) × ((nth no_tx z.txs id).slot ≡ t.slot)
   framed-entry t k below =
@@ -140,24 +140,24 @@ module _ (y z : Story) (u : Truth) (chain : ℕ → List Proposal) (f : Faithful
         ap (λ (t : List TxDecl). (nth no_tx t was.0).slot) s.txs ∙ was.4,
       )
 
-  framed-below : (id : ℕ) (e : EntryId) → (record_of z.book id).entry ≡ Some e → e.number < end (line z.scene e.stream)
+  framed-below : (id : ℕ) (e : EntryId) → (record_of z.book id).entry ≡ Some e → e.number < end (stream_state z.system e.stream)
   framed-below id e is = rw (framed-end e.stream) (f.booked.below_end id e (rw (framed-record id) at is))
 
-  framed-own : (t : Stream) (i : ℕ) → i < length (slot (z.scene.node t.node) t.slot).pending
-      → ((record_of z.book (nth no_pending (slot (z.scene.node t.node) t.slot).pending i).id).entry ≡ Some record { stream = t; number = (slot (z.scene.node t.node) t.slot).done + i })
-      × ((record_of z.book (nth no_pending (slot (z.scene.node t.node) t.slot).pending i).id).reply ≡ Some (nth no_pending (slot (z.scene.node t.node) t.slot).pending i).reply)
-      × ((nth no_pending (slot (z.scene.node t.node) t.slot).pending i).named ≡ named (tx_ops z (nth no_pending (slot (z.scene.node t.node) t.slot).pending i).id))
+  framed-own : (t : Stream) (i : ℕ) → i < length (slot (z.system.node t.node) t.slot).pending
+      → ((record_of z.book (nth no_pending (slot (z.system.node t.node) t.slot).pending i).id).entry ≡ Some record { stream = t; number = (slot (z.system.node t.node) t.slot).done + i })
+      × ((record_of z.book (nth no_pending (slot (z.system.node t.node) t.slot).pending i).id).reply ≡ Some (nth no_pending (slot (z.system.node t.node) t.slot).pending i).reply)
+      × ((nth no_pending (slot (z.system.node t.node) t.slot).pending i).named ≡ named (tx_ops z (nth no_pending (slot (z.system.node t.node) t.slot).pending i).id))
   framed-own t i inside =
       let r = s.slots t.node in
       let p = r.pending t.slot i in
       let was = f.booked.pending t i (rw (r.count t.slot) at inside) in
-      let id = (nth no_pending (slot (z.scene.node t.node) t.slot).pending i).id in (
+      let id = (nth no_pending (slot (z.system.node t.node) t.slot).pending i).id in (
         rw (framed-record id, p.id, r.done t.slot) was.0,
         rw (framed-record id, p.id, p.reply) was.1,
         p.named ∙ was.2 ∙ ap (λ (o : List Op). named o) (sym (framed-ops y z u chain f s id ∙ ap (λ (j : ℕ). tx_ops y j) p.id)),
       )
 
-  framed-current : (n a : ℕ) (c : Current) → (slot (z.scene.node n) a).current ≡ Some c
+  framed-current : (n a : ℕ) (c : Current) → (slot (z.system.node n) a).current ≡ Some c
       → (c.tx ≡ tx_ops z c.id) × (is_some (record_of z.book c.id).begun ≡ true) × ((record_of z.book c.id).entry ≡ None) × ((record_of z.book c.id).point ≡ None)
       × ((record_of z.book c.id).refused ≡ false) × ((nth no_tx z.txs c.id).node ≡ n) × ((nth no_tx z.txs c.id).slot ≡ a)
   framed-current n a c is =

@@ -13,12 +13,12 @@ use Rattle.zeus_model.specs.Tables.{nth}
 use Rattle.zeus_model.specs.State.{Node, copy, entry, owns, slot}
 use Rattle.zeus_model.specs.Commit.{no_pending}
 use Rattle.zeus_model.specs.declared.state.Copy.{Copy}
-use Rattle.machine_moves.specs.Scene.{Scene, IsLive, Changes, Sends}
+use Rattle.machine_moves.specs.SystemState.{SystemState, IsLive, Changes, Sends}
 use Rattle.machine_moves.specs.Move.{Move}
 use Rattle.machine_moves.proofs.Steady.{move_keep}
 use Rattle.ownership_safety.specs.Object.{Object, Acknowledges, Validates, HasGiven, Letter as Said, chain_stamp, place_at}
 use Rattle.ownership_safety.specs.Moves as moves
-use Rattle.ownership_safety.specs.Ordered.{Ordered}
+use Rattle.ownership_safety.specs.OwnershipInvariant.{OwnershipInvariant}
 use Rattle.ownership_safety.proofs.Chain.{stamp_at-ver}
 use Rattle.ownership_safety.proofs.KeepsGathers.{keeps_Notes, keeps_Tells}
 use Rattle.ownership_safety.proofs.KeepsSettled.{keeps_Settles, keeps_Decides}
@@ -26,98 +26,98 @@ use Rattle.ownership_safety.proofs.KeepsSpeech.{keeps_Drives, keeps_Accepts, kee
 use Rattle.ownership_safety.proofs.KeepsViews.{keeps_NewView, keeps_Stops, keeps_Installs}
 use Rattle.invariants.specs.Objects.{object, declared_entry}
 use Rattle.invariants.proofs.AboutObjects.{says, sends_object, object-entry}
-use Rattle.invariants.proofs.LineKeeps.{sees_move as line_sees_move}
+use Rattle.invariants.proofs.StreamKeeps.{sees_move as stream_sees_move}
 use Rattle.invariants.proofs.ObjectKeeps.{sees_move as object_sees_move}
 use Rattle.invariants.proofs.ObjectMoves.{entry_after, same_entry_as}
 use Rattle.invariants.proofs.ObjectSeen.{Seen, viewed, stopped, installed, settled, driven_by, accepted, redriven, noted_by, decided, told, same_or_not}
-use Rattle.data_safety.specs.Story.{Story, Truth, place_now}
-use Rattle.data_safety.specs.Faithful.{Faithful, IsClean, left}
+use Rattle.data_safety.specs.RunState.{RunState, Witness, place_now}
+use Rattle.data_safety.specs.DataInvariant.{DataInvariant, IsClean, left}
 use Rattle.data_safety.proofs.Consequences.{numbered}
-use Rattle.data_safety.proofs.OwnershipStill.{SameRows, same-rows, same-slots, rows-done, rows-end}
-use Rattle.data_safety.proofs.OwnershipFrame.{IsFramed, IsSameObject, IsRenewed, with_chains, framed-replicated, framed-copied}
+use Rattle.data_safety.proofs.StreamsUnchanged.{SameRows, same-rows, same-slots, rows-done, rows-end}
+use Rattle.data_safety.proofs.OwnershipFrame.{IsFramed, IsSameObject, IsRenewed, with_chains, framed-replication, framed-copied}
 use Rattle.data_safety.proofs.OwnershipKept.{framed-entered, framed-booked}
 
 -- ---- objects whose chain stays
 
 -- where no settled stamp is above the chain, what holds of the object holds with the same chain
-pub still-ordered : (old new : Object) (chain : List Proposal) → Ordered old chain → ((m : ℕ) → (new.entry m).stamp.ver ≤ length chain) → Seen old new chain → Ordered new chain
-still-ordered old new chain ordered low (viewed set v) = keeps_NewView old new set v chain ordered
-still-ordered old new chain ordered low (stopped n s) = keeps_Stops old new n s chain ordered
-still-ordered old new chain ordered low (installed n e i) = keeps_Installs old new n e i chain ordered
-still-ordered old new chain ordered low (settled n u s) = keeps_Settles old new chain ordered n u s
-still-ordered old new chain ordered low (driven_by n p d) = keeps_Drives old new n p d chain ordered
-still-ordered old new chain ordered low (accepted n p a) = keeps_Accepts old new n p a chain ordered
-still-ordered old new chain ordered low (redriven n p r) = keeps_Redrives old new n p r chain ordered
-still-ordered old new chain ordered low (noted_by n p a c t) = keeps_Notes old new n p a c t chain ordered
-still-ordered old new chain ordered low (decided n g d) =
-    elim (keeps_Decides old new chain ordered n g d) [
-      | inl again ↦ again.ordered
-      | inr first ↦ absurd (too_high g.proposal first.ordered)
+pub still-ownership : (old new : Object) (chain : List Proposal) → OwnershipInvariant old chain → ((m : ℕ) → (new.entry m).stamp.ver ≤ length chain) → Seen old new chain → OwnershipInvariant new chain
+still-ownership old new chain ownership low (viewed set v) = keeps_NewView old new set v chain ownership
+still-ownership old new chain ownership low (stopped n s) = keeps_Stops old new n s chain ownership
+still-ownership old new chain ownership low (installed n e i) = keeps_Installs old new n e i chain ownership
+still-ownership old new chain ownership low (settled n u s) = keeps_Settles old new chain ownership n u s
+still-ownership old new chain ownership low (driven_by n p d) = keeps_Drives old new n p d chain ownership
+still-ownership old new chain ownership low (accepted n p a) = keeps_Accepts old new n p a chain ownership
+still-ownership old new chain ownership low (redriven n p r) = keeps_Redrives old new n p r chain ownership
+still-ownership old new chain ownership low (noted_by n p a c t) = keeps_Notes old new n p a c t chain ownership
+still-ownership old new chain ownership low (decided n g d) =
+    elim (keeps_Decides old new chain ownership n g d) [
+      | inl again ↦ again.ownership
+      | inr first ↦ absurd (too_high g.proposal first.ownership)
     ]
   where
-    too_high : (p : Proposal) → Ordered new (chain ++ p ∷ []) → ⊥
+    too_high : (p : Proposal) → OwnershipInvariant new (chain ++ p ∷ []) → ⊥
     too_high p longer =
         let known = longer.known in
         let ver : (new.entry known.0).stamp.ver ≡ length (chain ++ p ∷ []) =
         ap (λ (t : Stamp). t.ver) known.1 ∙ stamp_at-ver new (chain ++ p ∷ []) longer (length (chain ++ p ∷ [])) (le_refl (length (chain ++ p ∷ []))) in
         omega (arith, ver, low known.0, length-append chain (p ∷ []))
-still-ordered old new chain ordered low (told n t) = keeps_Tells old new n t chain ordered
+still-ownership old new chain ownership low (told n t) = keeps_Tells old new n t chain ownership
 
 -- the latest placement depends on the chain alone
-pub place-same : (y z : Story) (u v : Truth) (x : ℕ) → z.scene.config ≡ y.scene.config → v.chain x ≡ u.chain x → place_now z v x ≡ place_now y u x
+pub place-same : (y z : RunState) (u v : Witness) (x : ℕ) → z.system.config ≡ y.system.config → v.chain x ≡ u.chain x → place_now z v x ≡ place_now y u x
 unfolding object
 place-same y z u v x config chain =
-    ap (λ (c : List Proposal). Rattle.ownership_safety.specs.Object.chain_place (declared_entry z.scene.config x).place c (length c)) chain
+    ap (λ (c : List Proposal). Rattle.ownership_safety.specs.Object.chain_place (declared_entry z.system.config x).place c (length c)) chain
     ∙ ap (λ (c : Config). Rattle.ownership_safety.specs.Object.chain_place (declared_entry c x).place (u.chain x) (length (u.chain x))) config
 
 -- ---- a move of one node
 
-pub changed-rows : (y z : Scene) (n : ℕ) (after : Node) (allowed : Letter → Type 0) → Changes y z n after allowed → SameRows (y.node n) after → (m : ℕ) → SameRows (y.node m) (z.node m)
+pub changed-rows : (y z : SystemState) (n : ℕ) (after : Node) (allowed : Letter → Type 0) → Changes y z n after allowed → SameRows (y.node n) after → (m : ℕ) → SameRows (y.node m) (z.node m)
 changed-rows y z n after allowed c rows m = elim (same_or_not m n) [
   | inl same ↦ rw (same, c.node) rows
   | inr other ↦ rw (c.others m other) (same-rows (y.node m) (y.node m) refl refl)
 ]
 
-pub changed-live : (y z : Scene) (n : ℕ) (after : Node) (allowed : Letter → Type 0) → Changes y z n after allowed → (m : ℕ) → IsLive z m → IsLive y m
+pub changed-live : (y z : SystemState) (n : ℕ) (after : Node) (allowed : Letter → Type 0) → Changes y z n after allowed → (m : ℕ) → IsLive z m → IsLive y m
 changed-live y z n after allowed c m live = elim (same_or_not m n) [
   | inl same ↦ rw same c.live
   | inr other ↦ let was : IsLive y m = rw (c.others m other) at live in was
 ]
 
-pub changed-frame : (y z : Story) (u : Truth) (f : Faithful y u) (n : ℕ) (after : Node) (allowed : Letter → Type 0) → Move y.scene z.scene → Changes y.scene z.scene n after allowed
-    → SameRows (y.scene.node n) after → z.txs ≡ y.txs → z.book ≡ y.book → IsFramed y z u
+pub changed-frame : (y z : RunState) (u : Witness) (f : DataInvariant y u) (n : ℕ) (after : Node) (allowed : Letter → Type 0) → Move y.system z.system → Changes y.system z.system n after allowed
+    → SameRows (y.system.node n) after → z.txs ≡ y.txs → z.book ≡ y.book → IsFramed y z u
 changed-frame y z u f n after allowed move c rows txs book = record {
   config = c.config;
   txs = txs;
   book = book;
-  live = changed-live y.scene z.scene n after allowed c;
-  slots = λ m. same-slots (y.scene.node m) (z.scene.node m) (changed-rows y.scene z.scene n after allowed c rows m);
-  dones = rows-done y.scene z.scene (changed-rows y.scene z.scene n after allowed c rows);
-  ends = rows-end y.scene z.scene (changed-rows y.scene z.scene n after allowed c rows);
-  seen = λ t. line_sees_move y.scene z.scene t (u.passed t) (numbered y u f) (f.replicated t) move;
+  live = changed-live y.system z.system n after allowed c;
+  slots = λ m. same-slots (y.system.node m) (z.system.node m) (changed-rows y.system z.system n after allowed c rows m);
+  dones = rows-done y.system z.system (changed-rows y.system z.system n after allowed c rows);
+  ends = rows-end y.system z.system (changed-rows y.system z.system n after allowed c rows);
+  seen = λ t. stream_sees_move y.system z.system t (u.passed t) (numbered y u f) (f.replication t) move;
   first = λ m h. rw c.views h;
 }
 
 -- no settled stamp is above the chain
-pub low-before : (y : Story) (u : Truth) (f : Faithful y u) (n x : ℕ) → IsLive y.scene n → x < length y.scene.config.objects → (entry (y.scene.node n) x).stamp.ver ≤ length (u.chain x)
+pub low-before : (y : RunState) (u : Witness) (f : DataInvariant y u) (n x : ℕ) → IsLive y.system n → x < length y.system.config.objects → (entry (y.system.node n) x).stamp.ver ≤ length (u.chain x)
 low-before y u f n x live within =
-    let is : (object y.scene x).entry n ≡ entry (y.scene.node n) x = object-entry y.scene x n (f.steady.nodes n live).within in
-    rw (← is) ((f.ordered x within).settled n).ver
+    let is : (object y.system x).entry n ≡ entry (y.system.node n) x = object-entry y.system x n (f.steady.nodes n live).within in
+    rw (← is) ((f.ownership x within).settled n).ver
 
 -- settled stamps after a change of one node
-pub changed-low : (y z : Story) (u : Truth) (f : Faithful y u) (n x : ℕ) (after : Node) (allowed : Letter → Type 0) → Changes y.scene z.scene n after allowed → x < length y.scene.config.objects
-    → (entry after x).stamp.ver ≤ length (u.chain x) → (m : ℕ) → ((object z.scene x).entry m).stamp.ver ≤ length (u.chain x)
+pub changed-low : (y z : RunState) (u : Witness) (f : DataInvariant y u) (n x : ℕ) (after : Node) (allowed : Letter → Type 0) → Changes y.system z.system n after allowed → x < length y.system.config.objects
+    → (entry after x).stamp.ver ≤ length (u.chain x) → (m : ℕ) → ((object z.system x).entry m).stamp.ver ≤ length (u.chain x)
 changed-low y z u f n x after allowed c within low m =
     elim (same_or_not m n) [
-      | inl same ↦ rw (same, entry_after y.scene z.scene x n after allowed c (numbered y u f)) low
-      | inr other ↦ rw (same_entry_as y.scene z.scene x m c.config (c.others m other)) ((f.ordered x within).settled m).ver
+      | inl same ↦ rw (same, entry_after y.system z.system x n after allowed c (numbered y u f)) low
+      | inr other ↦ rw (same_entry_as y.system z.system x m c.config (c.others m other)) ((f.ownership x within).settled m).ver
     ]
 
 -- who owns what its pending entries name, where the node that changes does
-pub changed-owned : (y z : Story) (n : ℕ) (after : Node) (allowed : Letter → Type 0) → Changes y.scene z.scene n after allowed
-    → ((a i x : ℕ) → i < length (slot (y.scene.node n) a).pending → mentions x (nth no_pending (slot (y.scene.node n) a).pending i).named ≡ true → owns (y.scene.node n) x ≡ true → owns after x ≡ true)
-    → (m a i x : ℕ) → IsLive z.scene m → i < length (slot (y.scene.node m) a).pending
-    → mentions x (nth no_pending (slot (y.scene.node m) a).pending i).named ≡ true → owns (y.scene.node m) x ≡ true → owns (z.scene.node m) x ≡ true
+pub changed-owned : (y z : RunState) (n : ℕ) (after : Node) (allowed : Letter → Type 0) → Changes y.system z.system n after allowed
+    → ((a i x : ℕ) → i < length (slot (y.system.node n) a).pending → mentions x (nth no_pending (slot (y.system.node n) a).pending i).named ≡ true → owns (y.system.node n) x ≡ true → owns after x ≡ true)
+    → (m a i x : ℕ) → IsLive z.system m → i < length (slot (y.system.node m) a).pending
+    → mentions x (nth no_pending (slot (y.system.node m) a).pending i).named ≡ true → owns (y.system.node m) x ≡ true → owns (z.system.node m) x ≡ true
 changed-owned y z n after allowed c here_now m a i x live inside names own =
     elim (same_or_not m n) [
       | inl same ↦ rw (same, c.node) (here_now a i x (rw same at inside) (rw same at names) (rw same at own))
@@ -125,8 +125,8 @@ changed-owned y z n after allowed c here_now m a i x live inside names own =
     ]
 
 -- objects whose chain and copies stay
-pub changed-copies : (y z : Story) (u : Truth) (n x : ℕ) (after : Node) (allowed : Letter → Type 0) → Changes y.scene z.scene n after allowed
-    → copy after x ≡ copy (y.scene.node n) x → IsSameObject y z u u x
+pub changed-copies : (y z : RunState) (u : Witness) (n x : ℕ) (after : Node) (allowed : Letter → Type 0) → Changes y.system z.system n after allowed
+    → copy after x ≡ copy (y.system.node n) x → IsSameObject y z u u x
 changed-copies y z u n x after allowed c same = record {
   place = place-same y z u u x c.config refl;
   copies = λ m live. elim (same_or_not m n) [
@@ -136,7 +136,7 @@ changed-copies y z u n x after allowed c same = record {
 }
 
 -- contents that were given before
-pub given-before : (y z : Scene) (x : ℕ) (allowed : Letter → Type 0) → Sends y z allowed
+pub given-before : (y z : SystemState) (x : ℕ) (allowed : Letter → Type 0) → Sends y z allowed
     → ((l : Letter) (from to e : ℕ) (p : Proposal) (c : Content) → allowed l → In (Acknowledges from to e p (Some c)) (says x l) → ⊥)
     → (n e : ℕ) (p : Proposal) (c : Content) → HasGiven (object z x) n p c e → HasGiven (object y x) n p c e
 given-before y z x allowed sends none n e p c given =
@@ -149,38 +149,38 @@ given-before y z x allowed sends none n e p c given =
     ]
 
 -- everything that holds, put together
-pub framed-faithful : (y z : Story) (u : Truth) (chain : ℕ → List Proposal) (f : Faithful y u) (s : IsFramed y z u) → ((n : ℕ) → SameRows (y.scene.node n) (z.scene.node n)) → Move y.scene z.scene
-    → ((x : ℕ) → x < length y.scene.config.objects → IsSameObject y z u (with_chains u chain) x ⊎ IsRenewed y z u (with_chains u chain) x)
-    → ((x : ℕ) → x < length y.scene.config.objects → Ordered (object z.scene x) (chain x))
-    → ((n a i x : ℕ) → IsLive z.scene n → i < length (slot (y.scene.node n) a).pending
-    → mentions x (nth no_pending (slot (y.scene.node n) a).pending i).named ≡ true → owns (y.scene.node n) x ≡ true → owns (z.scene.node n) x ≡ true)
-    → ((n x e : ℕ) (p : Proposal) (c : Content) → x < length y.scene.config.objects → HasGiven (object z.scene x) n p c e
+pub framed-invariant : (y z : RunState) (u : Witness) (chain : ℕ → List Proposal) (f : DataInvariant y u) (s : IsFramed y z u) → ((n : ℕ) → SameRows (y.system.node n) (z.system.node n)) → Move y.system z.system
+    → ((x : ℕ) → x < length y.system.config.objects → IsSameObject y z u (with_chains u chain) x ⊎ IsRenewed y z u (with_chains u chain) x)
+    → ((x : ℕ) → x < length y.system.config.objects → OwnershipInvariant (object z.system x) (chain x))
+    → ((n a i x : ℕ) → IsLive z.system n → i < length (slot (y.system.node n) a).pending
+    → mentions x (nth no_pending (slot (y.system.node n) a).pending i).named ≡ true → owns (y.system.node n) x ≡ true → owns (z.system.node n) x ≡ true)
+    → ((n x e : ℕ) (p : Proposal) (c : Content) → x < length y.system.config.objects → HasGiven (object z.system x) n p c e
     → p.base.ver ≡ length (chain x) → IsClean y u x × (c ≡ left y x))
-    → Faithful z (with_chains u chain)
-framed-faithful y z u chain f s rows move objects ordered owned given = record {
+    → DataInvariant z (with_chains u chain)
+framed-invariant y z u chain f s rows move objects ownership owned given = record {
   limits = rw s.config f.limits;
-  steady = move_keep y.scene z.scene move f.steady;
-  ordered = λ x within. ordered x (rw s.config at within);
-  replicated = framed-replicated y z u chain f s;
+  steady = move_keep y.system z.system move f.steady;
+  ownership = λ x within. ownership x (rw s.config at within);
+  replication = framed-replication y z u chain f s;
   copied = framed-copied y z u chain f s rows objects;
   entered = framed-entered y z u chain f s objects owned given;
   booked = framed-booked y z u chain f s;
 }
 
 -- a node that keeps its copies, its entries for objects, and its streams but for acknowledgements, and gives no content
-pub quiet-move : (y z : Story) (u : Truth) (f : Faithful y u) (n : ℕ) (after : Node) (allowed : Letter → Type 0) → Move y.scene z.scene → Changes y.scene z.scene n after allowed
-    → SameRows (y.scene.node n) after → after.copies ≡ (y.scene.node n).copies → after.entries ≡ (y.scene.node n).entries → after.me ≡ (y.scene.node n).me
+pub quiet-move : (y z : RunState) (u : Witness) (f : DataInvariant y u) (n : ℕ) (after : Node) (allowed : Letter → Type 0) → Move y.system z.system → Changes y.system z.system n after allowed
+    → SameRows (y.system.node n) after → after.copies ≡ (y.system.node n).copies → after.entries ≡ (y.system.node n).entries → after.me ≡ (y.system.node n).me
     → ((x : ℕ) (l : Letter) (from to e : ℕ) (p : Proposal) (k : Content) → allowed l → In (Acknowledges from to e p (Some k)) (says x l) → ⊥)
-    → z.txs ≡ y.txs → z.book ≡ y.book → Faithful z u
+    → z.txs ≡ y.txs → z.book ≡ y.book → DataInvariant z u
 unfolding owns
 quiet-move y z u f n after allowed move c rows copies entries me none txs book =
-    framed-faithful y z u u.chain f (changed-frame y z u f n after allowed move c rows txs book) (changed-rows y.scene z.scene n after allowed c rows) move
+    framed-invariant y z u u.chain f (changed-frame y z u f n after allowed move c rows txs book) (changed-rows y.system z.system n after allowed c rows) move
     (λ x within. inl (changed-copies y z u n x after allowed c (ap (λ (k : List (Option Copy)). nth None k x) copies)))
-    (λ x within. still-ordered (object y.scene x) (object z.scene x) (u.chain x) (f.ordered x within)
+    (λ x within. still-ownership (object y.system x) (object z.system x) (u.chain x) (f.ownership x within)
     (changed-low y z u f n x after allowed c within (low x within))
-    (object_sees_move y.scene z.scene x (u.chain x) (numbered y u f) (f.ordered x within) move))
+    (object_sees_move y.system z.system x (u.chain x) (numbered y u f) (f.ownership x within) move))
     (changed-owned y z n after allowed c (λ a i x inside names own. rw (entries, me) own))
-    (λ m x e p k within given last. f.entered.given m x e p k within (given-before y.scene z.scene x allowed c.sends (none x) m e p k given) last)
+    (λ m x e p k within given last. f.entered.given m x e p k within (given-before y.system z.system x allowed c.sends (none x) m e p k given) last)
   where
-    low : (x : ℕ) → x < length y.scene.config.objects → (entry after x).stamp.ver ≤ length (u.chain x)
+    low : (x : ℕ) → x < length y.system.config.objects → (entry after x).stamp.ver ≤ length (u.chain x)
     low x within = rw entries (low-before y u f n x c.live within)

@@ -1,4 +1,4 @@
--- A node that drives, accepts or says a proposal again keeps what holds of a story: what it gives is what the history leaves.
+-- A node that drives, accepts or says a proposal again keeps what holds of a run: what it gives is what the history leaves.
 use Rattle.std.specs.Prelude.{ℕ, ◌≡◌, ◌==◌, ◌<◌, ◌≤◌, Bool, true, ◌&&◌, List, length, Option, Some, None}
 use Rattle.std.proofs.Common.{arith, refl, sym, ap, subst, ◌∙◌, inl, inr}
 use Rattle.std.proofs.lemmas.Bool.{cases_Bool, eq-eqb}
@@ -18,11 +18,11 @@ use Rattle.zeus_model.specs.Commit.{no_pending}
 use Rattle.zeus_model.specs.Ownership.{holding, driven, is_node, is_source, own_content, content_of}
 use Rattle.zeus_model.specs.declared.state.Copy.{Copy}
 use Rattle.zeus_model.specs.declared.state.Entry.{Entry}
-use Rattle.machine_moves.specs.Scene.{IsLive, Changes}
+use Rattle.machine_moves.specs.SystemState.{IsLive, Changes}
 use Rattle.machine_moves.specs.Move.{Move, IsAboutProposal, to_arbiter, to_collector, HasAcked, MayDrive, MayAccept}
 use Rattle.ownership_safety.specs.Object.{Invalidates, Acknowledges, HasGiven, IsSaid, Letter as Said, place_at}
 use Rattle.ownership_safety.specs.Moves as moves
-use Rattle.ownership_safety.specs.Ordered.{Ordered, IsHeld}
+use Rattle.ownership_safety.specs.OwnershipInvariant.{OwnershipInvariant, IsHeld}
 use Rattle.ownership_safety.proofs.Arbiters.{source-owner}
 use Rattle.ownership_safety.proofs.Chain.{ack-said}
 use Rattle.ownership_safety.proofs.Choice.{settled-base}
@@ -32,11 +32,11 @@ use Rattle.invariants.proofs.Frames.{holding-entry, holding-other}
 use Rattle.invariants.proofs.ObjectKeeps.{sees_move as object_sees_move}
 use Rattle.invariants.proofs.ObjectMoves.{object-live}
 use Rattle.invariants.proofs.ObjectSeen.{same_or_not, accept_here}
-use Rattle.data_safety.specs.Story.{Story, Truth, place_now}
-use Rattle.data_safety.specs.Faithful.{Faithful, IsClean, left}
+use Rattle.data_safety.specs.RunState.{RunState, Witness, place_now}
+use Rattle.data_safety.specs.DataInvariant.{DataInvariant, IsClean, left}
 use Rattle.data_safety.proofs.Consequences.{numbered, unheld, unready-none, source-content}
-use Rattle.data_safety.proofs.OwnershipStill.{SameRows, same-rows}
-use Rattle.data_safety.proofs.OwnershipMoves.{still-ordered, changed-frame, changed-rows, changed-low, changed-owned, changed-copies, low-before, framed-faithful}
+use Rattle.data_safety.proofs.StreamsUnchanged.{SameRows, same-rows}
+use Rattle.data_safety.proofs.OwnershipMoves.{still-ownership, changed-frame, changed-rows, changed-low, changed-owned, changed-copies, low-before, framed-invariant}
 
 -- ---- what a source gives
 
@@ -70,76 +70,76 @@ not_invalidates : (n to e m there f : ℕ) (p q : Proposal) (k : Content) → Ac
 not_invalidates n to e m there f p q k is = cc
 
 -- a node that owns an object is the source of its settled placement
-pub owns-source : (y : Story) (u : Truth) (f : Faithful y u) (n x : ℕ) → IsLive y.scene n → owns (y.scene.node n) x ≡ true → is_source (y.scene.node n) (entry (y.scene.node n) x).place ≡ true
+pub owns-source : (y : RunState) (u : Witness) (f : DataInvariant y u) (n x : ℕ) → IsLive y.system n → owns (y.system.node n) x ≡ true → is_source (y.system.node n) (entry (y.system.node n) x).place ≡ true
 unfolding owns is_node
 owns-source y u f n x live own =
     let known = f.steady.nodes n live in
-    let me : (entry (y.scene.node n) x).place.owner ≡ (y.scene.node n).me = first_from _ _ _ own in
-    let member : has n (y.scene.node n).members ≡ true = rw known.members (known.everywhere (y.scene.node n).epoch known.first known.made) in
-    let owner : has (entry (y.scene.node n) x).place.owner (y.scene.node n).members ≡ true = rw (me, known.me) member in
-    rw (source-owner (entry (y.scene.node n) x).place (y.scene.node n).members owner, me) (eq-eqb (y.scene.node n).me (y.scene.node n).me refl)
+    let me : (entry (y.system.node n) x).place.owner ≡ (y.system.node n).me = first_from _ _ _ own in
+    let member : has n (y.system.node n).members ≡ true = rw known.members (known.everywhere (y.system.node n).epoch known.first known.made) in
+    let owner : has (entry (y.system.node n) x).place.owner (y.system.node n).members ≡ true = rw (me, known.me) member in
+    rw (source-owner (entry (y.system.node n) x).place (y.system.node n).members owner, me) (eq-eqb (y.system.node n).me (y.system.node n).me refl)
   where
     first_from : (a b : ℕ) (c : Bool) → ((a == b) && c) ≡ true → a ≡ b
     first_from a b c h = grind (arith, nat_tests)
 
 -- a pending entry names objects of the configuration
-pub pending-within : (y : Story) (u : Truth) (f : Faithful y u) (n a i x : ℕ) → i < length (slot (y.scene.node n) a).pending
-    → mentions x (nth no_pending (slot (y.scene.node n) a).pending i).named ≡ true → x < length y.scene.config.objects
+pub pending-within : (y : RunState) (u : Witness) (f : DataInvariant y u) (n a i x : ℕ) → i < length (slot (y.system.node n) a).pending
+    → mentions x (nth no_pending (slot (y.system.node n) a).pending i).named ≡ true → x < length y.system.config.objects
 pending-within y u f n a i x inside m =
     let t : Stream = record { node = n; slot = a } in
-    f.booked.objects (nth no_pending (slot (y.scene.node n) a).pending i).id x (rw ((f.booked.pending t i inside).2) at m)
+    f.booked.objects (nth no_pending (slot (y.system.node n) a).pending i).id x (rw ((f.booked.pending t i inside).2) at m)
 
 -- what an open node gives for the latest placement is what the history leaves, and nothing can change it
-about-given : (y : Story) (u : Truth) (f : Faithful y u) (n x : ℕ) (p : Proposal) → IsLive y.scene n → is_open (y.scene.node n) ≡ true
-    → (x < length y.scene.config.objects → p.base.ver ≡ length (u.chain x) → p.base_place ≡ place_now y u x)
-    → (l : Letter) → IsAboutProposal (y.scene.node n) x p l → (w m to e : ℕ) (q : Proposal) (k : Content) → In (Acknowledges m to e q (Some k)) (says w l)
-    → w < length y.scene.config.objects → q.base.ver ≡ length (u.chain w) → IsClean y u w × (k ≡ left y w)
+about-given : (y : RunState) (u : Witness) (f : DataInvariant y u) (n x : ℕ) (p : Proposal) → IsLive y.system n → is_open (y.system.node n) ≡ true
+    → (x < length y.system.config.objects → p.base.ver ≡ length (u.chain x) → p.base_place ≡ place_now y u x)
+    → (l : Letter) → IsAboutProposal (y.system.node n) x p l → (w m to e : ℕ) (q : Proposal) (k : Content) → In (Acknowledges m to e q (Some k)) (says w l)
+    → w < length y.system.config.objects → q.base.ver ≡ length (u.chain w) → IsClean y u w × (k ≡ left y w)
 unfolding said_of
 about-given y u f n x p live opened base l (to_arbiter there h) w m to e q k i within last =
-    let found : (x ≡ w) × (Acknowledges m to e q (Some k) ≡ Invalidates (y.scene.node n).me there (y.scene.node n).epoch p) =
-    only_about-from w x (Acknowledges m to e q (Some k)) (Invalidates (y.scene.node n).me there (y.scene.node n).epoch p) i in
-    absurd (not_invalidates m to e (y.scene.node n).me there (y.scene.node n).epoch p q k found.1)
+    let found : (x ≡ w) × (Acknowledges m to e q (Some k) ≡ Invalidates (y.system.node n).me there (y.system.node n).epoch p) =
+    only_about-from w x (Acknowledges m to e q (Some k)) (Invalidates (y.system.node n).me there (y.system.node n).epoch p) i in
+    absurd (not_invalidates m to e (y.system.node n).me there (y.system.node n).epoch p q k found.1)
 about-given y u f n x p live opened base l (to_collector there h ready) w m to e q k i within last =
-    let given = own_content (y.scene.node n) x p.base_place in
-    let found : (x ≡ w) × (Acknowledges m to e q (Some k) ≡ Acknowledges (y.scene.node n).me there (y.scene.node n).epoch p given) =
-    only_about-from w x (Acknowledges m to e q (Some k)) (Acknowledges (y.scene.node n).me there (y.scene.node n).epoch p given) i in
-    let parts = ack_parts m to e (y.scene.node n).me there (y.scene.node n).epoch p q k given found.1 in
-    let is = own_content-some (y.scene.node n) x p.base_place k parts.1 in
-    let within_x : x < length y.scene.config.objects = rw found.0 within in
+    let given = own_content (y.system.node n) x p.base_place in
+    let found : (x ≡ w) × (Acknowledges m to e q (Some k) ≡ Acknowledges (y.system.node n).me there (y.system.node n).epoch p given) =
+    only_about-from w x (Acknowledges m to e q (Some k)) (Acknowledges (y.system.node n).me there (y.system.node n).epoch p given) i in
+    let parts = ack_parts m to e (y.system.node n).me there (y.system.node n).epoch p q k given found.1 in
+    let is = own_content-some (y.system.node n) x p.base_place k parts.1 in
+    let within_x : x < length y.system.config.objects = rw found.0 within in
     let last_x : p.base.ver ≡ length (u.chain x) = rw found.0 (sym (ap (λ (r : Proposal). r.base.ver) parts.0) ∙ last) in
-    let source_now : is_source (y.scene.node n) (place_now y u x) ≡ true = sym (ap (λ (pl : Place). is_source (y.scene.node n) pl) (base within_x last_x)) ∙ is.0 in
+    let source_now : is_source (y.system.node n) (place_now y u x) ≡ true = sym (ap (λ (pl : Place). is_source (y.system.node n) pl) (base within_x last_x)) ∙ is.0 in
     let at_left = source-content y u f n x is.1.0 within_x live opened source_now (ready is.0) is.1.1 in
     subst (λ (v : ℕ). IsClean y u v × (k ≡ left y v)) found.0 (at_left.0, is.1.2 ∙ at_left.1)
 
 -- a content that is given with a letter about an object is what the history leaves
-abbrev IsGiven : Story → Truth → ℕ → Said → Type 0
-IsGiven y u w m = (from to e : ℕ) (q : Proposal) (k : Content) → m ≡ Acknowledges from to e q (Some k) → w < length y.scene.config.objects → q.base.ver ≡ length (u.chain w)
+abbrev IsGiven : RunState → Witness → ℕ → Said → Type 0
+IsGiven y u w m = (from to e : ℕ) (q : Proposal) (k : Content) → m ≡ Acknowledges from to e q (Some k) → w < length y.system.config.objects → q.base.ver ≡ length (u.chain w)
     → IsClean y u w × (k ≡ left y w)
 
 -- ---- a node that says a proposal
 
-proposal-move : (y z : Story) (u : Truth) (f : Faithful y u) (n x : ℕ) (p : Proposal) (after : Node) → Move y.scene z.scene
-    → Changes y.scene z.scene n after (IsAboutProposal (y.scene.node n) x p) → SameRows (y.scene.node n) after → after.copies ≡ (y.scene.node n).copies
-    → ((w : ℕ) → (entry after w).stamp ≡ (entry (y.scene.node n) w).stamp) → is_open (y.scene.node n) ≡ true
-    → (x < length y.scene.config.objects → p.base.ver ≡ length (u.chain x) → p.base_place ≡ place_now y u x)
-    → ((a i w : ℕ) → i < length (slot (y.scene.node n) a).pending → mentions w (nth no_pending (slot (y.scene.node n) a).pending i).named ≡ true → owns (y.scene.node n) w ≡ true → owns after w ≡ true)
-    → z.txs ≡ y.txs → z.book ≡ y.book → Faithful z u
+proposal-move : (y z : RunState) (u : Witness) (f : DataInvariant y u) (n x : ℕ) (p : Proposal) (after : Node) → Move y.system z.system
+    → Changes y.system z.system n after (IsAboutProposal (y.system.node n) x p) → SameRows (y.system.node n) after → after.copies ≡ (y.system.node n).copies
+    → ((w : ℕ) → (entry after w).stamp ≡ (entry (y.system.node n) w).stamp) → is_open (y.system.node n) ≡ true
+    → (x < length y.system.config.objects → p.base.ver ≡ length (u.chain x) → p.base_place ≡ place_now y u x)
+    → ((a i w : ℕ) → i < length (slot (y.system.node n) a).pending → mentions w (nth no_pending (slot (y.system.node n) a).pending i).named ≡ true → owns (y.system.node n) w ≡ true → owns after w ≡ true)
+    → z.txs ≡ y.txs → z.book ≡ y.book → DataInvariant z u
 proposal-move y z u f n x p after move c rows copies stamps opened base owned txs book =
-    framed-faithful y z u u.chain f (changed-frame y z u f n after (IsAboutProposal (y.scene.node n) x p) move c rows txs book) (changed-rows y.scene z.scene n after (IsAboutProposal (y.scene.node n) x p) c rows) move
-    (λ w within. inl (changed-copies y z u n w after (IsAboutProposal (y.scene.node n) x p) c (ap (λ (k : List (Option Copy)). nth None k w) copies)))
-    (λ w within. still-ordered (object y.scene w) (object z.scene w) (u.chain w) (f.ordered w within)
-    (changed-low y z u f n w after (IsAboutProposal (y.scene.node n) x p) c within (low w within))
-    (object_sees_move y.scene z.scene w (u.chain w) (numbered y u f) (f.ordered w within) move))
-    (changed-owned y z n after (IsAboutProposal (y.scene.node n) x p) c owned)
+    framed-invariant y z u u.chain f (changed-frame y z u f n after (IsAboutProposal (y.system.node n) x p) move c rows txs book) (changed-rows y.system z.system n after (IsAboutProposal (y.system.node n) x p) c rows) move
+    (λ w within. inl (changed-copies y z u n w after (IsAboutProposal (y.system.node n) x p) c (ap (λ (k : List (Option Copy)). nth None k w) copies)))
+    (λ w within. still-ownership (object y.system w) (object z.system w) (u.chain w) (f.ownership w within)
+    (changed-low y z u f n w after (IsAboutProposal (y.system.node n) x p) c within (low w within))
+    (object_sees_move y.system z.system w (u.chain w) (numbered y u f) (f.ownership w within) move))
+    (changed-owned y z n after (IsAboutProposal (y.system.node n) x p) c owned)
     (λ m w e q k within given last. now_given m w e q k within given last)
   where
-    low : (w : ℕ) → w < length y.scene.config.objects → (entry after w).stamp.ver ≤ length (u.chain w)
+    low : (w : ℕ) → w < length y.system.config.objects → (entry after w).stamp.ver ≤ length (u.chain w)
     low w within = rw (stamps w) (low-before y u f n w c.live within)
 
-    now_given : (m w e : ℕ) (q : Proposal) (k : Content) → w < length y.scene.config.objects → HasGiven (object z.scene w) m q k e → q.base.ver ≡ length (u.chain w) → IsClean y u w × (k ≡ left y w)
+    now_given : (m w e : ℕ) (q : Proposal) (k : Content) → w < length y.system.config.objects → HasGiven (object z.system w) m q k e → q.base.ver ≡ length (u.chain w) → IsClean y u w × (k ≡ left y w)
     now_given m w e q k within given last =
-        let s : moves.Sends (object y.scene w) (object z.scene w) (IsGiven y u w) =
-        sends_object y.scene z.scene w (IsAboutProposal (y.scene.node n) x p) (IsGiven y u w) c.sends
+        let s : moves.Sends (object y.system w) (object z.system w) (IsGiven y u w) =
+        sends_object y.system z.system w (IsAboutProposal (y.system.node n) x p) (IsGiven y u w) c.sends
         (λ l said a i from to e2 q2 k2 is. about-given y u f n x p c.live opened base l a w from to e2 q2 k2 (rw is at i)) in
         elim (s.only (Acknowledges m given.0 e q (Some k)) given.1) [
           | inl before ↦ f.entered.given m w e q k within (given.0, before) last
@@ -153,62 +153,62 @@ holding-stamp n x p w = elim (same_or_not x w) [
   | inr other ↦ rw ((holding-other n x w p other).entry) refl
 ]
 
-holding-owned : (y : Story) (u : Truth) (f : Faithful y u) (n x : ℕ) (p : Proposal)
-    → ((a i : ℕ) → i < length (slot (y.scene.node n) a).pending → mentions x (nth no_pending (slot (y.scene.node n) a).pending i).named ≡ true → owns (y.scene.node n) x ≡ true → ⊥)
-    → (a i w : ℕ) → i < length (slot (y.scene.node n) a).pending → mentions w (nth no_pending (slot (y.scene.node n) a).pending i).named ≡ true → owns (y.scene.node n) w ≡ true → owns (holding (y.scene.node n) x p) w ≡ true
+holding-owned : (y : RunState) (u : Witness) (f : DataInvariant y u) (n x : ℕ) (p : Proposal)
+    → ((a i : ℕ) → i < length (slot (y.system.node n) a).pending → mentions x (nth no_pending (slot (y.system.node n) a).pending i).named ≡ true → owns (y.system.node n) x ≡ true → ⊥)
+    → (a i w : ℕ) → i < length (slot (y.system.node n) a).pending → mentions w (nth no_pending (slot (y.system.node n) a).pending i).named ≡ true → owns (y.system.node n) w ≡ true → owns (holding (y.system.node n) x p) w ≡ true
 unfolding owns
 holding-owned y u f n x p none a i w inside m own = elim (same_or_not x w) [
   | inl same ↦ absurd (none a i inside (rw same m) (rw same own))
-  | inr other ↦ rw ((holding-other (y.scene.node n) x w p other).entry) own
+  | inr other ↦ rw ((holding-other (y.system.node n) x w p other).entry) own
 ]
 
 -- ---- the moves
 
-pub drives-faithful : (y z : Story) (u : Truth) (f : Faithful y u) (n x requester : ℕ) (want : Want) → Move y.scene z.scene → MayDrive y.scene n x requester want
-    → Changes y.scene z.scene n (holding (y.scene.node n) x (driven (y.scene.node n) x requester want)) (IsAboutProposal (y.scene.node n) x (driven (y.scene.node n) x requester want))
-    → z.txs ≡ y.txs → z.book ≡ y.book → Faithful z u
-drives-faithful y z u f n x requester want move may c txs book =
-    proposal-move y z u f n x (driven (y.scene.node n) x requester want) (holding (y.scene.node n) x (driven (y.scene.node n) x requester want)) move c
-    (same-rows (y.scene.node n) (holding (y.scene.node n) x (driven (y.scene.node n) x requester want)) refl refl) refl
-    (holding-stamp (y.scene.node n) x (driven (y.scene.node n) x requester want)) may.opened
+pub drives-invariant : (y z : RunState) (u : Witness) (f : DataInvariant y u) (n x requester : ℕ) (want : Want) → Move y.system z.system → MayDrive y.system n x requester want
+    → Changes y.system z.system n (holding (y.system.node n) x (driven (y.system.node n) x requester want)) (IsAboutProposal (y.system.node n) x (driven (y.system.node n) x requester want))
+    → z.txs ≡ y.txs → z.book ≡ y.book → DataInvariant z u
+drives-invariant y z u f n x requester want move may c txs book =
+    proposal-move y z u f n x (driven (y.system.node n) x requester want) (holding (y.system.node n) x (driven (y.system.node n) x requester want)) move c
+    (same-rows (y.system.node n) (holding (y.system.node n) x (driven (y.system.node n) x requester want)) refl refl) refl
+    (holding-stamp (y.system.node n) x (driven (y.system.node n) x requester want)) may.opened
     (λ within last.
-    let is : (object y.scene x).entry n ≡ entry (y.scene.node n) x = object-entry y.scene x n (f.steady.nodes n c.live).within in
-    let place : (entry (y.scene.node n) x).place ≡ place_at (object y.scene x) (u.chain x) (entry (y.scene.node n) x).stamp.ver = rw is at ((f.ordered x within).settled n).place in
-    place ∙ ap (λ (v : ℕ). place_at (object y.scene x) (u.chain x) v) last)
-    (holding-owned y u f n x (driven (y.scene.node n) x requester want)
-    (λ a i inside m own. unheld (y.scene.node n) x (unready-none (y.scene.node n) x (may.ready (owns-source y u f n x c.live own))).1 a i inside m))
+    let is : (object y.system x).entry n ≡ entry (y.system.node n) x = object-entry y.system x n (f.steady.nodes n c.live).within in
+    let place : (entry (y.system.node n) x).place ≡ place_at (object y.system x) (u.chain x) (entry (y.system.node n) x).stamp.ver = rw is at ((f.ownership x within).settled n).place in
+    place ∙ ap (λ (v : ℕ). place_at (object y.system x) (u.chain x) v) last)
+    (holding-owned y u f n x (driven (y.system.node n) x requester want)
+    (λ a i inside m own. unheld (y.system.node n) x (unready-none (y.system.node n) x (may.ready (owns-source y u f n x c.live own))).1 a i inside m))
     txs book
 
 -- a proposal that was said on the latest version has the latest placement as base
-said-base : (y : Story) (u : Truth) (f : Faithful y u) (x e : ℕ) (p : Proposal) → x < length y.scene.config.objects → IsSaid (object y.scene x) p e → p.base.ver ≡ length (u.chain x) → p.base_place ≡ place_now y u x
+said-base : (y : RunState) (u : Witness) (f : DataInvariant y u) (x e : ℕ) (p : Proposal) → x < length y.system.config.objects → IsSaid (object y.system x) p e → p.base.ver ≡ length (u.chain x) → p.base_place ≡ place_now y u x
 said-base y u f x e p within said last =
-    ((f.ordered x within).proposals p e said).base_place ∙ ap (λ (v : ℕ). place_at (object y.scene x) (u.chain x) v) last
+    ((f.ownership x within).proposals p e said).base_place ∙ ap (λ (v : ℕ). place_at (object y.system x) (u.chain x) v) last
 
-pub accepts-faithful : (y z : Story) (u : Truth) (f : Faithful y u) (n x : ℕ) (p : Proposal) → Move y.scene z.scene → MayAccept y.scene n x p
-    → Changes y.scene z.scene n (holding (y.scene.node n) x p) (IsAboutProposal (y.scene.node n) x p) → HasAcked z.scene (y.scene.node n) x p
-    → z.txs ≡ y.txs → z.book ≡ y.book → Faithful z u
-accepts-faithful y z u f n x p move may c acked txs book =
-    proposal-move y z u f n x p (holding (y.scene.node n) x p) move c (same-rows (y.scene.node n) (holding (y.scene.node n) x p) refl refl) refl
-    (holding-stamp (y.scene.node n) x p) may.opened
-    (λ within last. let a = accept_here y.scene z.scene n x p (u.chain x) (numbered y u f) (f.ordered x within) may c acked in said-base y u f x ((object y.scene x).epoch n) p within a.said last)
+pub accepts-invariant : (y z : RunState) (u : Witness) (f : DataInvariant y u) (n x : ℕ) (p : Proposal) → Move y.system z.system → MayAccept y.system n x p
+    → Changes y.system z.system n (holding (y.system.node n) x p) (IsAboutProposal (y.system.node n) x p) → HasAcked z.system (y.system.node n) x p
+    → z.txs ≡ y.txs → z.book ≡ y.book → DataInvariant z u
+accepts-invariant y z u f n x p move may c acked txs book =
+    proposal-move y z u f n x p (holding (y.system.node n) x p) move c (same-rows (y.system.node n) (holding (y.system.node n) x p) refl refl) refl
+    (holding-stamp (y.system.node n) x p) may.opened
+    (λ within last. let a = accept_here y.system z.system n x p (u.chain x) (numbered y u f) (f.ownership x within) may c acked in said-base y u f x ((object y.system x).epoch n) p within a.said last)
     (holding-owned y u f n x p (λ a i inside m own.
-    let within : x < length y.scene.config.objects = pending-within y u f n a i x inside m in
-    let ordered : Ordered (object y.scene x) (u.chain x) = f.ordered x within in
-    let step = accept_here y.scene z.scene n x p (u.chain x) (numbered y u f) ordered may c acked in
-    let settled = settled-base (object y.scene x) (u.chain x) ordered n p (object-live y.scene x n c.live) step.said step.arbiter step.not_below_base step.below in
-    let is : (object y.scene x).entry n ≡ entry (y.scene.node n) x = object-entry y.scene x n (f.steady.nodes n c.live).within in
-    let place : (entry (y.scene.node n) x).place ≡ p.base_place = ap (λ (e : Entry). e.place) (sym is) ∙ settled.1 in
-    let is_the_source : is_source (y.scene.node n) p.base_place ≡ true = sym (ap (λ (pl : Place). is_source (y.scene.node n) pl) place) ∙ owns-source y u f n x c.live own in
-    unheld (y.scene.node n) x (unready-none (y.scene.node n) x (may.ready is_the_source)).1 a i inside m))
+    let within : x < length y.system.config.objects = pending-within y u f n a i x inside m in
+    let ownership : OwnershipInvariant (object y.system x) (u.chain x) = f.ownership x within in
+    let step = accept_here y.system z.system n x p (u.chain x) (numbered y u f) ownership may c acked in
+    let settled = settled-base (object y.system x) (u.chain x) ownership n p (object-live y.system x n c.live) step.said step.arbiter step.not_below_base step.below in
+    let is : (object y.system x).entry n ≡ entry (y.system.node n) x = object-entry y.system x n (f.steady.nodes n c.live).within in
+    let place : (entry (y.system.node n) x).place ≡ p.base_place = ap (λ (e : Entry). e.place) (sym is) ∙ settled.1 in
+    let is_the_source : is_source (y.system.node n) p.base_place ≡ true = sym (ap (λ (pl : Place). is_source (y.system.node n) pl) place) ∙ owns-source y u f n x c.live own in
+    unheld (y.system.node n) x (unready-none (y.system.node n) x (may.ready is_the_source)).1 a i inside m))
     txs book
 
-pub redrives-faithful : (y z : Story) (u : Truth) (f : Faithful y u) (n x : ℕ) (p : Proposal) → Move y.scene z.scene → (entry (y.scene.node n) x).proposal ≡ Some p
-    → is_open (y.scene.node n) ≡ true → Changes y.scene z.scene n (y.scene.node n) (IsAboutProposal (y.scene.node n) x p) → z.txs ≡ y.txs → z.book ≡ y.book → Faithful z u
-redrives-faithful y z u f n x p move held opened c txs book =
-    proposal-move y z u f n x p (y.scene.node n) move c (same-rows (y.scene.node n) (y.scene.node n) refl refl) refl (λ w. refl) opened
+pub redrives-invariant : (y z : RunState) (u : Witness) (f : DataInvariant y u) (n x : ℕ) (p : Proposal) → Move y.system z.system → (entry (y.system.node n) x).proposal ≡ Some p
+    → is_open (y.system.node n) ≡ true → Changes y.system z.system n (y.system.node n) (IsAboutProposal (y.system.node n) x p) → z.txs ≡ y.txs → z.book ≡ y.book → DataInvariant z u
+redrives-invariant y z u f n x p move held opened c txs book =
+    proposal-move y z u f n x p (y.system.node n) move c (same-rows (y.system.node n) (y.system.node n) refl refl) refl (λ w. refl) opened
     (λ within last.
-    let ordered : Ordered (object y.scene x) (u.chain x) = f.ordered x within in
-    let is : (object y.scene x).entry n ≡ entry (y.scene.node n) x = object-entry y.scene x n (f.steady.nodes n c.live).within in
-    let h : IsHeld (object y.scene x) n p = ordered.held n p (ap (λ (e : Entry). e.proposal) is ∙ held) in
-    said-base y u f x h.acked.0 p within (ack-said (object y.scene x) (u.chain x) ordered n p h.acked.0 h.acked.2) last)
+    let ownership : OwnershipInvariant (object y.system x) (u.chain x) = f.ownership x within in
+    let is : (object y.system x).entry n ≡ entry (y.system.node n) x = object-entry y.system x n (f.steady.nodes n c.live).within in
+    let h : IsHeld (object y.system x) n p = ownership.held n p (ap (λ (e : Entry). e.proposal) is ∙ held) in
+    said-base y u f x h.acked.0 p within (ack-said (object y.system x) (u.chain x) ownership n p h.acked.0 h.acked.2) last)
     (λ a i w inside m own. own) txs book

@@ -17,16 +17,16 @@ use Rattle.zeus_model.specs.Sound.{replies_of, times}
 use Rattle.zeus_model.specs.World.{no_tx}
 use Rattle.zeus_model.specs.declared.state.Current.{Current}
 use Rattle.zeus_model.specs.declared.state.Pending.{Pending}
-use Rattle.invariants.proofs.LineSeen.{stream_cases}
+use Rattle.invariants.proofs.StreamSeen.{stream_cases}
 use Rattle.invariants.proofs.ObjectSeen.{same_or_not}
-use Rattle.data_safety.specs.Story.{Story, Truth, tx_ops, txs_of, pending_at}
-use Rattle.data_safety.specs.Faithful.{Faithful, IsBooked, IsRun}
+use Rattle.data_safety.specs.RunState.{RunState, Witness, tx_ops, txs_of, pending_at}
+use Rattle.data_safety.specs.DataInvariant.{DataInvariant, IsBooked, IsRun}
 use Rattle.data_safety.proofs.SerialRun.{HasPointed, tx_ops-same, txs_of-same, times-append, first-replies}
 use Rattle.data_safety.proofs.Booking.{HasPassed}
-use Rattle.data_safety.proofs.PassThins.{Thins}
+use Rattle.data_safety.proofs.EntriesShrink.{EntriesShrink}
 
 -- a pass that is a transaction's point
-pub record IsPoint (y z : Story) (u v : Truth) (p : Stream) (k id : ℕ) (own : Bool) : Type 0 where
+pub record IsPoint (y z : RunState) (u v : Witness) (p : Stream) (k id : ℕ) (own : Bool) : Type 0 where
   pub passed : HasPassed y.book z.book own id
   pub entry : (record_of y.book id).entry ≡ Some record { stream = p; number = k }
   pub reply : (record_of y.book id).reply ≡ Some (pending_at y p k).reply
@@ -34,9 +34,9 @@ pub record IsPoint (y z : Story) (u v : Truth) (p : Stream) (k id : ℕ) (own : 
   pub first : u.passed p ≡ k
   pub rises : v.passed p ≡ suc k
   pub others : (t : Stream) → t ≢ p → v.passed t ≡ u.passed t
-  pub done_others : (t : Stream) → t ≢ p → (slot (z.scene.node t.node) t.slot).done ≡ (slot (y.scene.node t.node) t.slot).done
-  pub done_own : own ≡ true → ((slot (z.scene.node p.node) p.slot).done ≡ suc k) × ((slot (y.scene.node p.node) p.slot).done ≡ k)
-  pub done_kept : own ≡ false → (slot (z.scene.node p.node) p.slot).done ≡ (slot (y.scene.node p.node) p.slot).done
+  pub done_others : (t : Stream) → t ≢ p → (slot (z.system.node t.node) t.slot).done ≡ (slot (y.system.node t.node) t.slot).done
+  pub done_own : own ≡ true → ((slot (z.system.node p.node) p.slot).done ≡ suc k) × ((slot (y.system.node p.node) p.slot).done ≡ k)
+  pub done_kept : own ≡ false → (slot (z.system.node p.node) p.slot).done ≡ (slot (y.system.node p.node) p.slot).done
   pub unacked : (record_of y.book id).acked ≡ None
 
 some_entry : (a b : EntryId) → ◌≡◌ {A = Option EntryId} (Some a) (Some b) → a ≡ b
@@ -45,17 +45,17 @@ some_entry a b e = cc
 some_step : (a b : ℕ) → ◌≡◌ {A = Option ℕ} (Some a) (Some b) → a ≡ b
 some_step a b e = cc
 
-module _ (y z : Story) (u v : Truth) (f : Faithful y u) (s : Thins y z u v) where
+module _ (y z : RunState) (u v : Witness) (f : DataInvariant y u) (s : EntriesShrink y z u v) where
   pending-booked : ((j : ℕ) → (record_of z.book j).entry ≡ (record_of y.book j).entry) → ((j : ℕ) → (record_of z.book j).reply ≡ (record_of y.book j).reply)
-      → (t : Stream) (i : ℕ) → i < length (slot (z.scene.node t.node) t.slot).pending
-      → let p = nth no_pending (slot (z.scene.node t.node) t.slot).pending i in
-      ((record_of z.book p.id).entry ≡ Some record { stream = t; number = (slot (z.scene.node t.node) t.slot).done + i })
+      → (t : Stream) (i : ℕ) → i < length (slot (z.system.node t.node) t.slot).pending
+      → let p = nth no_pending (slot (z.system.node t.node) t.slot).pending i in
+      ((record_of z.book p.id).entry ≡ Some record { stream = t; number = (slot (z.system.node t.node) t.slot).done + i })
       × ((record_of z.book p.id).reply ≡ Some p.reply) × (p.named ≡ named (tx_ops z p.id))
   pending-booked entries replies t i inside =
       let w = s.was t.node t.slot i inside in
-      let old_pending : Pending = nth no_pending (slot (y.scene.node t.node) t.slot).pending w.0 in
+      let old_pending : Pending = nth no_pending (slot (y.system.node t.node) t.slot).pending w.0 in
       let b = f.booked.pending t w.0 w.1 in
-      let e : nth no_pending (slot (z.scene.node t.node) t.slot).pending i ≡ old_pending = w.2 in
+      let e : nth no_pending (slot (z.system.node t.node) t.slot).pending i ≡ old_pending = w.2 in
       rw e (
         entries old_pending.id ∙ b.0 ∙ ap (λ (n : ℕ). entry_at t n) (sym w.3),
         replies old_pending.id ∙ b.1,
@@ -68,7 +68,7 @@ module _ (y z : Story) (u v : Truth) (f : Faithful y u) (s : Thins y z u v) wher
   -- ---- a pass that the book says nothing of
 
   pub again-booked : z.book ≡ y.book → ((t : Stream) → v.passed t ≡ u.passed t)
-      → ((n r : ℕ) → (slot (z.scene.node n) r).done ≡ (slot (y.scene.node n) r).done) → IsBooked z v
+      → ((n r : ℕ) → (slot (z.system.node n) r).done ≡ (slot (y.system.node n) r).done) → IsBooked z v
   again-booked book passed dones =
       let records = λ (j : ℕ). ap (λ (b : Book). record_of b j) book in
       record {
@@ -104,7 +104,7 @@ module _ (y z : Story) (u v : Truth) (f : Faithful y u) (s : Thins y z u v) wher
         passed = λ id e is. rw (records id, passed e.stream) (f.booked.passed id e (ap (λ (r : TxRecord). r.entry) (sym (records id)) ∙ is));
         acked = λ id e is. rw (records id, dones e.stream.node e.stream.slot) (f.booked.acked id e (ap (λ (r : TxRecord). r.entry) (sym (records id)) ∙ is));
         replies = ap (λ (b : Book). replies_of b.points) book ∙ f.booked.replies
-            ∙ ap (λ (l : List (List Op)). serial_replies (start_map y.scene.config) l) (ap (λ (b : Book). txs_of y b.points) (sym book) ∙ sym (txs_of-same y z z.book.points s.txs))
+            ∙ ap (λ (l : List (List Op)). serial_replies (start_map y.system.config) l) (ap (λ (b : Book). txs_of y b.points) (sym book) ∙ sym (txs_of-same y z z.book.points s.txs))
             ∙ ap (λ (c : Config). serial_replies (start_map c) (txs_of z z.book.points)) (sym s.config);
       }
 
@@ -153,7 +153,7 @@ module _ (y z : Story) (u v : Truth) (f : Faithful y u) (s : Thins y z u v) wher
         let same : e ≡ record { stream = p; number = k } = some_entry e record { stream = p; number = k } (sym is ∙ h.entry) in
         (ap (λ (i : EntryId). i.stream) same, ap (λ (i : EntryId). i.number) same)
 
-    point-current : (n r : ℕ) (c : Current) → (slot (z.scene.node n) r).current ≡ Some c
+    point-current : (n r : ℕ) (c : Current) → (slot (z.system.node n) r).current ≡ Some c
         → (c.tx ≡ tx_ops z c.id) × (is_some (record_of z.book c.id).begun ≡ true) × ((record_of z.book c.id).entry ≡ None) × ((record_of z.book c.id).point ≡ None)
         × ((record_of z.book c.id).refused ≡ false) × ((nth no_tx z.txs c.id).node ≡ n) × ((nth no_tx z.txs c.id).slot ≡ r)
     point-current n r c is =
@@ -267,15 +267,15 @@ module _ (y z : Story) (u v : Truth) (f : Faithful y u) (s : Thins y z u v) wher
           ]
     ]
 
-    done_in : Story → Stream → ℕ
-    done_in w t = (slot (w.scene.node t.node) t.slot).done
+    done_in : RunState → Stream → ℕ
+    done_in w t = (slot (w.system.node t.node) t.slot).done
 
-    acked-kept : own ≡ false → (j : ℕ) (e : EntryId) → (record_of z.book j).entry ≡ Some e → (is_some (record_of z.book j).acked ≡ true) ↔ (e.number < (slot (z.scene.node e.stream.node) e.stream.slot).done)
+    acked-kept : own ≡ false → (j : ℕ) (e : EntryId) → (record_of z.book j).entry ≡ Some e → (is_some (record_of z.book j).acked ≡ true) ↔ (e.number < (slot (z.system.node e.stream.node) e.stream.slot).done)
     acked-kept foreign j e is =
         let b = f.booked.acked j e (has_entry j e is) in
-        let done : (slot (z.scene.node e.stream.node) e.stream.slot).done ≡ (slot (y.scene.node e.stream.node) e.stream.slot).done = elim (stream_cases e.stream p) [
+        let done : (slot (z.system.node e.stream.node) e.stream.slot).done ≡ (slot (y.system.node e.stream.node) e.stream.slot).done = elim (stream_cases e.stream p) [
           | inr away ↦ h.done_others e.stream away
-          | inl here ↦ subst (λ (t : Stream). (slot (z.scene.node t.node) t.slot).done ≡ (slot (y.scene.node t.node) t.slot).done) (sym here) (h.done_kept foreign)
+          | inl here ↦ subst (λ (t : Stream). (slot (z.system.node t.node) t.slot).done ≡ (slot (y.system.node t.node) t.slot).done) (sym here) (h.done_kept foreign)
         ] in
         let acked : is_some (record_of z.book j).acked ≡ is_some (record_of y.book j).acked = elim (same_or_not j id) [
           | inl same ↦ rw same (ap (λ (o : Option ℕ). is_some o) (acked_by false foreign) ∙ ap (λ (o : Option ℕ). is_some o) (sym h.unacked))
@@ -283,14 +283,14 @@ module _ (y z : Story) (u v : Truth) (f : Faithful y u) (s : Thins y z u v) wher
         ] in
         (λ some. omega (arith, done, b.0 (sym acked ∙ some)), λ low. acked ∙ b.1 (omega (arith, done, low)))
 
-    acked-own : own ≡ true → (j : ℕ) (e : EntryId) → (record_of z.book j).entry ≡ Some e → (is_some (record_of z.book j).acked ≡ true) ↔ (e.number < (slot (z.scene.node e.stream.node) e.stream.slot).done)
+    acked-own : own ≡ true → (j : ℕ) (e : EntryId) → (record_of z.book j).entry ≡ Some e → (is_some (record_of z.book j).acked ≡ true) ↔ (e.number < (slot (z.system.node e.stream.node) e.stream.slot).done)
     acked-own mine j e is =
         let counts = h.done_own mine in
         let b = f.booked.acked j e (has_entry j e is) in
         elim (same_or_not j id) [
           | inl same ↦
               let at = is_entry_of e (ap (λ (i : ℕ). (record_of y.book i).entry) (sym same) ∙ has_entry j e is) in
-              let now : (slot (z.scene.node e.stream.node) e.stream.slot).done ≡ suc k = subst (λ (t : Stream). (slot (z.scene.node t.node) t.slot).done ≡ suc k) (sym at.0) counts.0 in
+              let now : (slot (z.system.node e.stream.node) e.stream.slot).done ≡ suc k = subst (λ (t : Stream). (slot (z.system.node t.node) t.slot).done ≡ suc k) (sym at.0) counts.0 in
               (λ some. omega (arith, now, at.1), λ low. ap (λ (i : ℕ). is_some (record_of z.book i).acked) same ∙ ap (λ (o : Option ℕ). is_some o) (acked_by true mine))
           | inr other ↦
               let acked = ap (λ (q : TxRecord). is_some q.acked) (h.passed.others j other) in
@@ -298,8 +298,8 @@ module _ (y z : Story) (u v : Truth) (f : Faithful y u) (s : Thins y z u v) wher
                 | inr away ↦ (λ some. omega (arith, h.done_others e.stream away, b.0 (sym acked ∙ some)), λ low. acked ∙ b.1 (omega (arith, h.done_others e.stream away, low)))
                 | inl here ↦
                     let differs = other_number j e other (has_entry j e is) here in
-                    let now : (slot (z.scene.node e.stream.node) e.stream.slot).done ≡ suc k = subst (λ (t : Stream). (slot (z.scene.node t.node) t.slot).done ≡ suc k) (sym here) counts.0 in
-                    let before : (slot (y.scene.node e.stream.node) e.stream.slot).done ≡ k = subst (λ (t : Stream). (slot (y.scene.node t.node) t.slot).done ≡ k) (sym here) counts.1 in
+                    let now : (slot (z.system.node e.stream.node) e.stream.slot).done ≡ suc k = subst (λ (t : Stream). (slot (z.system.node t.node) t.slot).done ≡ suc k) (sym here) counts.0 in
+                    let before : (slot (y.system.node e.stream.node) e.stream.slot).done ≡ k = subst (λ (t : Stream). (slot (y.system.node t.node) t.slot).done ≡ k) (sym here) counts.1 in
                     (λ some. omega (arith, now, before, b.0 (sym acked ∙ some)), λ low. acked ∙ b.1 (omega (arith, now, before, low, differs)))
               ]
         ]

@@ -12,76 +12,76 @@ use Rattle.zeus_model.specs.Tables.{nth}
 use Rattle.zeus_model.specs.State.{copy}
 use Rattle.zeus_model.specs.Commit.{validated, each_write}
 use Rattle.zeus_model.specs.declared.state.Copy.{Copy}
-use Rattle.machine_moves.specs.Scene.{IsLive}
-use Rattle.replication_safety.specs.Line.{Has, kept_at}
-use Rattle.invariants.specs.Lines.{line}
-use Rattle.invariants.proofs.LineSeen.{stream_cases}
+use Rattle.machine_moves.specs.SystemState.{IsLive}
+use Rattle.replication_safety.specs.StreamState.{Has, kept_at}
+use Rattle.invariants.specs.Streams.{stream_state}
+use Rattle.invariants.proofs.StreamSeen.{stream_cases}
 use Rattle.invariants.proofs.ObjectSeen.{same_or_not}
-use Rattle.data_safety.specs.Story.{Story, Truth, place_now, pending_at, Lives, overwritten}
-use Rattle.data_safety.specs.Faithful.{Faithful, IsCopied, IsNewer, IsWritten, left, content_of, found_at}
+use Rattle.data_safety.specs.RunState.{RunState, Witness, place_now, pending_at, Lives, overwritten}
+use Rattle.data_safety.specs.DataInvariant.{DataInvariant, IsCopied, IsNewer, IsWritten, left, content_of, found_at}
 use Rattle.data_safety.proofs.Names.{IsOnce}
 use Rattle.data_safety.proofs.Consequences.{kept-writes, written-named, witness-same_stream}
 use Rattle.data_safety.proofs.Running.{writes-cases, written_content, overwritten-in, overwritten-other, writes-once, write-version, found-start, versions-rise}
 use Rattle.data_safety.proofs.PassValidated.{Was, validated-was, validated-some}
-use Rattle.data_safety.proofs.PassThins.{Thins, ThinLine}
+use Rattle.data_safety.proofs.EntriesShrink.{EntriesShrink, ShrunkStream}
 
 -- the acting node validates the copies of these writes
-pub record Revalidates (y z : Story) (n : ℕ) (ws : List Write) : Type 0 where
-  pub here : (z.scene.node n).copies ≡ each_write validated (y.scene.node n).copies ws
-  pub others : (m : ℕ) → m ≢ n → (z.scene.node m).copies ≡ (y.scene.node m).copies
+pub record Revalidates (y z : RunState) (n : ℕ) (ws : List Write) : Type 0 where
+  pub here : (z.system.node n).copies ≡ each_write validated (y.system.node n).copies ws
+  pub others : (m : ℕ) → m ≢ n → (z.system.node m).copies ≡ (y.system.node m).copies
 
-pub revalidates-was : (y z : Story) (n m x : ℕ) (ws : List Write) (c : Copy) → Revalidates y z n ws → copy (z.scene.node m) x ≡ Some c
-    → (b : Copy) × (copy (y.scene.node m) x ≡ Some b) × Was ws x b c
+pub revalidates-was : (y z : RunState) (n m x : ℕ) (ws : List Write) (c : Copy) → Revalidates y z n ws → copy (z.system.node m) x ≡ Some c
+    → (b : Copy) × (copy (y.system.node m) x ≡ Some b) × Was ws x b c
 revalidates-was y z n m x ws c r h =
     elim (same_or_not m n) [
       | inl same ↦
-          let now : nth None (each_write validated (y.scene.node n).copies ws) x ≡ Some c =
-          ap (λ (cs : List (Option Copy)). nth None cs x) (sym r.here) ∙ ap (λ (k : ℕ). copy (z.scene.node k) x) (sym same) ∙ h in
-          let was = validated-was (y.scene.node n).copies ws x c now in
-          (was.0, ap (λ (k : ℕ). copy (y.scene.node k) x) same ∙ was.1, was.2)
+          let now : nth None (each_write validated (y.system.node n).copies ws) x ≡ Some c =
+          ap (λ (cs : List (Option Copy)). nth None cs x) (sym r.here) ∙ ap (λ (k : ℕ). copy (z.system.node k) x) (sym same) ∙ h in
+          let was = validated-was (y.system.node n).copies ws x c now in
+          (was.0, ap (λ (k : ℕ). copy (y.system.node k) x) same ∙ was.1, was.2)
       | inr other ↦ (c, ap (λ (cs : List (Option Copy)). nth None cs x) (sym (r.others m other)) ∙ h, record { content = refl; how = inl refl })
     ]
 
-pub revalidates-some : (y z : Story) (n m x : ℕ) (ws : List Write) → Revalidates y z n ws → is_some (copy (z.scene.node m) x) ≡ is_some (copy (y.scene.node m) x)
+pub revalidates-some : (y z : RunState) (n m x : ℕ) (ws : List Write) → Revalidates y z n ws → is_some (copy (z.system.node m) x) ≡ is_some (copy (y.system.node m) x)
 revalidates-some y z n m x ws r =
     elim (same_or_not m n) [
       | inl same ↦
-          ap (λ (k : ℕ). is_some (copy (z.scene.node k) x)) same ∙ ap (λ (cs : List (Option Copy)). is_some (nth None cs x)) r.here
-          ∙ validated-some (y.scene.node n).copies ws x ∙ ap (λ (k : ℕ). is_some (copy (y.scene.node k) x)) (sym same)
+          ap (λ (k : ℕ). is_some (copy (z.system.node k) x)) same ∙ ap (λ (cs : List (Option Copy)). is_some (nth None cs x)) r.here
+          ∙ validated-some (y.system.node n).copies ws x ∙ ap (λ (k : ℕ). is_some (copy (y.system.node k) x)) (sym same)
       | inr other ↦ ap (λ (cs : List (Option Copy)). is_some (nth None cs x)) (r.others m other)
     ]
 
-module _ (y z : Story) (u v : Truth) (f : Faithful y u) (s : Thins y z u v)
-    (thin : (t : Stream) → ThinLine (line y.scene t) (line z.scene t) (u.passed t) (v.passed t)) where
+module _ (y z : RunState) (u v : Witness) (f : DataInvariant y u) (s : EntriesShrink y z u v)
+    (shrunk : (t : Stream) → ShrunkStream (stream_state y.system t) (stream_state z.system t) (u.passed t) (v.passed t)) where
   -- an unpassed entry that a node keeps still writes what it wrote
-  written-stays : (n x k : ℕ) (t : Stream) (b c : Copy) → content_of c ≡ content_of b → v.passed t ≤ k → Has (line y.scene t) n k
-      → In record { obj = x; ver = b.ver; value = b.value } (kept_at (line y.scene t) n k).writes → IsWritten z v n x (content_of c)
+  written-stays : (n x k : ℕ) (t : Stream) (b c : Copy) → content_of c ≡ content_of b → v.passed t ≤ k → Has (stream_state y.system t) n k
+      → In record { obj = x; ver = b.ver; value = b.value } (kept_at (stream_state y.system t) n k).writes → IsWritten z v n x (content_of c)
   written-stays n x k t b c same above h i =
-      let now : Has (line z.scene t) n k = (s.lines t).stays n k above h in
-      let kept : kept_at (line z.scene t) n k ≡ kept_at (line y.scene t) n k = (thin t).same n k now in
-      (t, k, above, now, rw kept (subst (λ (d : Content). In record { obj = x; ver = d.ver; value = d.value } (kept_at (line y.scene t) n k).writes) (sym same) i))
+      let now : Has (stream_state z.system t) n k = (s.streams t).stays n k above h in
+      let kept : kept_at (stream_state z.system t) n k ≡ kept_at (stream_state y.system t) n k = (shrunk t).same n k now in
+      (t, k, above, now, rw kept (subst (λ (d : Content). In record { obj = x; ver = d.ver; value = d.value } (kept_at (stream_state y.system t) n k).writes) (sym same) i))
 
-  thins-placed : (n x : ℕ) (o : ℕ) (ws : List Write) → Revalidates y z o ws → x < length z.scene.config.objects → IsLive z.scene n
-      → ((is_some (copy (z.scene.node n) x) ≡ true) → (has n (place_now z v x).replicas ≡ true)) × ((has n (place_now z v x).replicas ≡ true) → (is_some (copy (z.scene.node n) x) ≡ true))
-  thins-placed n x o ws r within live =
+  shrink-placed : (n x : ℕ) (o : ℕ) (ws : List Write) → Revalidates y z o ws → x < length z.system.config.objects → IsLive z.system n
+      → ((is_some (copy (z.system.node n) x) ≡ true) → (has n (place_now z v x).replicas ≡ true)) × ((has n (place_now z v x).replicas ≡ true) → (is_some (copy (z.system.node n) x) ≡ true))
+  shrink-placed n x o ws r within live =
       let before = f.copied.placed n x (rw s.config at within) (s.live n live) in
       let some = revalidates-some y z o n x ws r in
       let place = ap (λ (p : Place). has n p.replicas) (s.objects.place x) in
       (λ h. place ∙ before.0 (sym some ∙ h), λ h. some ∙ before.1 (sym place ∙ h))
 
-  thins-taken : (n k o : ℕ) (t : Stream) (w : Write) (c : Copy) (ws : List Write) → Revalidates y z o ws → w.obj < length z.scene.config.objects → IsLive z.scene n
-      → Has (line z.scene t) n k → v.passed t ≤ k → In w (kept_at (line z.scene t) n k).writes → copy (z.scene.node n) w.obj ≡ Some c → w.ver ≤ c.ver
-  thins-taken n k o t w c ws r within live h above i is =
+  shrink-taken : (n k o : ℕ) (t : Stream) (w : Write) (c : Copy) (ws : List Write) → Revalidates y z o ws → w.obj < length z.system.config.objects → IsLive z.system n
+      → Has (stream_state z.system t) n k → v.passed t ≤ k → In w (kept_at (stream_state z.system t) n k).writes → copy (z.system.node n) w.obj ≡ Some c → w.ver ≤ c.ver
+  shrink-taken n k o t w c ws r within live h above i is =
       let was = revalidates-was y z o n w.obj ws c r is in
-      let low = f.copied.taken n t k w was.0 (rw s.config at within) (s.live n live) ((thin t).had n k h) (omega (arith, above, (s.lines t).rises))
-      (rw ((thin t).same n k h) at i) was.1 in
+      let low = f.copied.taken n t k w was.0 (rw s.config at within) (s.live n live) ((shrunk t).had n k h) (omega (arith, above, (s.streams t).rises))
+      (rw ((shrunk t).same n k h) at i) was.1 in
       omega (arith, low, ap (λ (d : Content). d.ver) was.2.content)
 
   -- ---- what has passed before
 
   again-content : (n x o : ℕ) (c : Copy) (ws : List Write) → Revalidates y z o ws → ((w : Write) → In w ws → w.ver ≤ (left y w.obj).ver)
-      → left z x ≡ left y x → ((t : Stream) → v.passed t ≡ u.passed t) → x < length z.scene.config.objects → IsLive z.scene n
-      → copy (z.scene.node n) x ≡ Some c → (content_of c ≡ left z x) ⊎ IsNewer z v n x c
+      → left z x ≡ left y x → ((t : Stream) → v.passed t ≡ u.passed t) → x < length z.system.config.objects → IsLive z.system n
+      → copy (z.system.node n) x ≡ Some c → (content_of c ≡ left z x) ⊎ IsNewer z v n x c
   again-content n x o c ws r low same passed within live is =
       let was = revalidates-was y z o n x ws c r is in
       elim (f.copied.content n x was.0 (rw s.config at within) (s.live n live) was.1) [
@@ -104,25 +104,25 @@ module _ (y z : Story) (u v : Truth) (f : Faithful y u) (s : Thins y z u v)
   pub again-copied : (o : ℕ) (ws : List Write) → Revalidates y z o ws → ((w : Write) → In w ws → w.ver ≤ (left y w.obj).ver)
       → ((x : ℕ) → left z x ≡ left y x) → ((t : Stream) → v.passed t ≡ u.passed t) → IsCopied z v
   again-copied o ws r low same passed = record {
-    placed = λ n x within live. thins-placed n x o ws r within live;
+    placed = λ n x within live. shrink-placed n x o ws r within live;
     content = λ n x c within live is. again-content n x o c ws r low (same x) passed within live is;
-    taken = λ n t k w c within live h above i is. thins-taken n k o t w c ws r within live h above i is;
+    taken = λ n t k w c within live h above i is. shrink-taken n k o t w c ws r within live h above i is;
   }
 
   -- ---- a first pass
 
   -- a newer copy of an object that the entry does not write stays newer
   first-newer : (n x k j : ℕ) (p t : Stream) (b c : Copy) → u.passed p ≡ k → ((r : Stream) → r ≢ p → v.passed r ≡ u.passed r) → v.passed p ≡ suc k
-      → ((w : Write) → In w (pending_at y p k).writes → w.obj ≢ x) → IsLive y.scene n
-      → content_of c ≡ content_of b → u.passed t ≤ j → Has (line y.scene t) n j
-      → In record { obj = x; ver = b.ver; value = b.value } (kept_at (line y.scene t) n j).writes → IsWritten z v n x (content_of c)
+      → ((w : Write) → In w (pending_at y p k).writes → w.obj ≢ x) → IsLive y.system n
+      → content_of c ≡ content_of b → u.passed t ≤ j → Has (stream_state y.system t) n j
+      → In record { obj = x; ver = b.ver; value = b.value } (kept_at (stream_state y.system t) n j).writes → IsWritten z v n x (content_of c)
   first-newer n x k j p t b c first others rises none live same above h i =
       elim (stream_cases t p) [
         | inr other ↦ written-stays n x j t b c same (rw (others t other) above) h i
         | inl is_it ↦
-            let i_here : In record { obj = x; ver = b.ver; value = b.value } (kept_at (line y.scene p) n j).writes =
-            subst (λ (r : Stream). In record { obj = x; ver = b.ver; value = b.value } (kept_at (line y.scene r) n j).writes) is_it i in
-            let h_here : Has (line y.scene p) n j = subst (λ (r : Stream). Has (line y.scene r) n j) is_it h in
+            let i_here : In record { obj = x; ver = b.ver; value = b.value } (kept_at (stream_state y.system p) n j).writes =
+            subst (λ (r : Stream). In record { obj = x; ver = b.ver; value = b.value } (kept_at (stream_state y.system r) n j).writes) is_it i in
+            let h_here : Has (stream_state y.system p) n j = subst (λ (r : Stream). Has (stream_state y.system r) n j) is_it h in
             let above_here : u.passed p ≤ j = subst (λ (r : Stream). u.passed r ≤ j) is_it above in
             let not_it : j ≢ k = λ e. none record { obj = x; ver = b.ver; value = b.value } (subst (λ (m : ℕ). In record { obj = x; ver = b.ver; value = b.value } (pending_at y p m).writes) e (rw (kept-writes y u f p n j h_here above_here) at i_here)) refl in
             written-stays n x j p b c same (omega (arith, rises, first, above_here, not_it)) h_here i_here
@@ -133,8 +133,8 @@ module _ (y z : Story) (u v : Truth) (f : Faithful y u) (s : Thins y z u v)
 
   -- a copy of an object that the entry writes has at least that write
   first-written : (n x k j : ℕ) (p : Stream) (w : Write) (b c : Copy) → u.passed p ≡ k → v.passed p ≡ suc k → Lives y u p k
-      → left z x ≡ written_content w → In w (pending_at y p k).writes → w.obj ≡ x → IsLive y.scene n → Was (pending_at y p k).writes x b c
-      → IsNewer y u n x b → u.passed p ≤ j → Has (line y.scene p) n j → In record { obj = x; ver = b.ver; value = b.value } (kept_at (line y.scene p) n j).writes
+      → left z x ≡ written_content w → In w (pending_at y p k).writes → w.obj ≡ x → IsLive y.system n → Was (pending_at y p k).writes x b c
+      → IsNewer y u n x b → u.passed p ≤ j → Has (stream_state y.system p) n j → In record { obj = x; ver = b.ver; value = b.value } (kept_at (stream_state y.system p) n j).writes
       → (content_of c ≡ left z x) ⊎ IsNewer z v n x c
   first-written n x k j p w b c first rises alive now i is live was newer above h there_is =
       let k_written : In record { obj = x; ver = b.ver; value = b.value } (pending_at y p j).writes = rw (kept-writes y u f p n j h above) at there_is in
@@ -158,13 +158,13 @@ module _ (y z : Story) (u v : Truth) (f : Faithful y u) (s : Thins y z u v)
 
   first-content : (n x o k : ℕ) (p : Stream) (c : Copy) → Revalidates y z o (pending_at y p k).writes → u.passed p ≡ k → v.passed p ≡ suc k
       → ((r : Stream) → r ≢ p → v.passed r ≡ u.passed r) → Lives y u p k → ((a : ℕ) → left z a ≡ overwritten (left y) (pending_at y p k).writes a)
-      → ((m : ℕ) → IsLive y.scene m → has m (pending_at y p k).followers ≡ true → Has (line y.scene p) m k) → Has (line y.scene p) p.node k
-      → x < length z.scene.config.objects → IsLive z.scene n → copy (z.scene.node n) x ≡ Some c → (content_of c ≡ left z x) ⊎ IsNewer z v n x c
+      → ((m : ℕ) → IsLive y.system m → has m (pending_at y p k).followers ≡ true → Has (stream_state y.system p) m k) → Has (stream_state y.system p) p.node k
+      → x < length z.system.config.objects → IsLive z.system n → copy (z.system.node n) x ≡ Some c → (content_of c ≡ left z x) ⊎ IsNewer z v n x c
   first-content n x o k p c r first rises others alive leaves stored home within live is =
       let ws : List Write = (pending_at y p k).writes in
       let was = revalidates-was y z o n x ws c r is in
       let b : Copy = was.0 in
-      let old_within : x < length y.scene.config.objects = rw s.config at within in
+      let old_within : x < length y.system.config.objects = rw s.config at within in
       let before = f.copied.content n x b old_within (s.live n live) was.1 in
       elim (writes-cases ws x) [
         | inr none ↦
@@ -186,12 +186,12 @@ module _ (y z : Story) (u v : Truth) (f : Faithful y u) (s : Thins y z u v)
             let now : left z x ≡ written_content w.0 = leaves x ∙ ap (λ (a : ℕ). overwritten (left y) ws a) (sym w.2) ∙ overwritten-in (left y) ws w.0 (writes-once y u f p k alive) w.1 in
             let placed : has n (place_now y u x).replicas ≡ true = (f.copied.placed n x old_within (s.live n live)).0 (ap (λ (q : Option Copy). is_some q) was.1) in
             let at_place : has n (place_now y u w.0.obj).replicas ≡ true = ap (λ (a : ℕ). has n (place_now y u a).replicas) w.2 ∙ placed in
-            let held : Has (line y.scene p) n k = elim (f.entered.followed p k n w.0 alive w.1 at_place) [
+            let held : Has (stream_state y.system p) n k = elim (f.entered.followed p k n w.0 alive w.1 at_place) [
               | inl follows ↦ stored n (s.live n live) follows
-              | inr own ↦ subst (λ (m : ℕ). Has (line y.scene p) m k) (sym own) home
+              | inr own ↦ subst (λ (m : ℕ). Has (stream_state y.system p) m k) (sym own) home
             ] in
-            let kept_w : In w.0 (kept_at (line y.scene p) n k).writes = rw (kept-writes y u f p n k held (omega (arith, first))) w.1 in
-            let is_at : copy (y.scene.node n) w.0.obj ≡ Some b = ap (λ (a : ℕ). copy (y.scene.node n) a) w.2 ∙ was.1 in
+            let kept_w : In w.0 (kept_at (stream_state y.system p) n k).writes = rw (kept-writes y u f p n k held (omega (arith, first))) w.1 in
+            let is_at : copy (y.system.node n) w.0.obj ≡ Some b = ap (λ (a : ℕ). copy (y.system.node n) a) w.2 ∙ was.1 in
             let low : w.0.ver ≤ b.ver = f.copied.taken n p k w.0 b (rw w.2 old_within) (s.live n live) held (omega (arith, first)) kept_w is_at in
             let ver : w.0.ver ≡ (left y x).ver + 1 =
             write-version y u f p k w.0 alive w.1 ∙ ap (λ (m : ℕ). (found_at y u p m w.0.obj).ver + 1) (sym first)
@@ -207,9 +207,9 @@ module _ (y z : Story) (u v : Truth) (f : Faithful y u) (s : Thins y z u v)
 
   pub first-copied : (o k : ℕ) (p : Stream) → Revalidates y z o (pending_at y p k).writes → u.passed p ≡ k → v.passed p ≡ suc k
       → ((r : Stream) → r ≢ p → v.passed r ≡ u.passed r) → Lives y u p k → ((a : ℕ) → left z a ≡ overwritten (left y) (pending_at y p k).writes a)
-      → ((m : ℕ) → IsLive y.scene m → has m (pending_at y p k).followers ≡ true → Has (line y.scene p) m k) → Has (line y.scene p) p.node k → IsCopied z v
+      → ((m : ℕ) → IsLive y.system m → has m (pending_at y p k).followers ≡ true → Has (stream_state y.system p) m k) → Has (stream_state y.system p) p.node k → IsCopied z v
   first-copied o k p r first rises others alive leaves stored home = record {
-    placed = λ n x within live. thins-placed n x o (pending_at y p k).writes r within live;
+    placed = λ n x within live. shrink-placed n x o (pending_at y p k).writes r within live;
     content = λ n x c within live is. first-content n x o k p c r first rises others alive leaves stored home within live is;
-    taken = λ n t j w c within live h above i is. thins-taken n j o t w c (pending_at y p k).writes r within live h above i is;
+    taken = λ n t j w c within live h above i is. shrink-taken n j o t w c (pending_at y p k).writes r within live h above i is;
   }

@@ -7,23 +7,23 @@ use Rattle.zeus_packet.specs.declared.write.Write.{Write}
 use Rattle.zeus_txn.specs.Ops.{mentions}
 use Rattle.zeus_model.specs.In.{In}
 use Rattle.zeus_model.specs.declared.state.Pending.{Pending}
-use Rattle.replication_safety.specs.Line.{Entry, Stores, entry}
-use Rattle.replication_safety.specs.Replicated.{IsCopy}
-use Rattle.invariants.specs.Lines.{line}
-use Rattle.invariants.proofs.LineSeen.{stream_cases}
+use Rattle.replication_safety.specs.StreamState.{Entry, Stores, entry}
+use Rattle.replication_safety.specs.ReplicationInvariant.{IsCopy}
+use Rattle.invariants.specs.Streams.{stream_state}
+use Rattle.invariants.proofs.StreamSeen.{stream_cases}
 use Rattle.invariants.proofs.ObjectSeen.{same_or_not}
-use Rattle.data_safety.specs.Story.{Story, Truth, pending_at, Lives, overwritten, running}
-use Rattle.data_safety.specs.Faithful.{Faithful, IsClean, left, found_at}
+use Rattle.data_safety.specs.RunState.{RunState, Witness, pending_at, Lives, overwritten, running}
+use Rattle.data_safety.specs.DataInvariant.{DataInvariant, IsClean, left, found_at}
 use Rattle.data_safety.proofs.Consequences.{disjoint, home-entry, written-named}
 use Rattle.data_safety.proofs.Running.{writes-cases, written_content, overwritten-in, overwritten-other, writes-once, write-version, found-start}
 use Rattle.data_safety.proofs.SerialContents.{running-agree, running-shift}
-use Rattle.data_safety.proofs.PassThins.{Thins, ThinsLeft, lives-above}
+use Rattle.data_safety.proofs.EntriesShrink.{EntriesShrink, ShrinkLeft, lives-above}
 
 -- the writes of the entries of a stream from its first unpassed one on
-abbrev pub unpassed_writes : Story → Truth → Stream → ℕ → List Write
+abbrev pub unpassed_writes : RunState → Witness → Stream → ℕ → List Write
 unpassed_writes y u t j = (pending_at y t (u.passed t + j)).writes
 
-module _ (y z : Story) (u v : Truth) (f : Faithful y u) (s : Thins y z u v) where
+module _ (y z : RunState) (u v : Witness) (f : DataInvariant y u) (s : EntriesShrink y z u v) where
   unpassed-same : (t : Stream) (i j : ℕ) → v.passed t ≤ i → i ≡ j → (pending_at z t i).writes ≡ (pending_at y t j).writes
   unpassed-same t i j above e = ap (λ (p : Pending). p.writes) (s.entry t i above ∙ ap (λ (m : ℕ). pending_at y t m) e)
 
@@ -38,7 +38,7 @@ module _ (y z : Story) (u v : Truth) (f : Faithful y u) (s : Thins y z u v) wher
 
   -- ---- what has passed before
 
-  pub again-left : ((x : ℕ) → left z x ≡ left y x) → ((t : Stream) → v.passed t ≡ u.passed t) → ThinsLeft y z u v
+  pub again-left : ((x : ℕ) → left z x ≡ left y x) → ((t : Stream) → v.passed t ≡ u.passed t) → ShrinkLeft y z u v
   again-left same passed = record {
     found = λ t k x alive m. found-same_count t k x (passed t) (same x);
     clean = λ x c. same x;
@@ -81,7 +81,7 @@ module _ (y z : Story) (u v : Truth) (f : Faithful y u) (s : Thins y z u v) wher
   ]
 
   first-low : (k : ℕ) (p t : Stream) (from to e j d : ℕ) (i : Entry) (w : Write) → u.passed p ≡ k → v.passed p ≡ suc k → ((r : Stream) → r ≢ p → v.passed r ≡ u.passed r) → Lives y u p k
-      → ((a : ℕ) → left z a ≡ overwritten (left y) (pending_at y p k).writes a) → In (Stores from to e j d i) (line y.scene t).letters → j < v.passed t
+      → ((a : ℕ) → left z a ≡ overwritten (left y) (pending_at y p k).writes a) → In (Stores from to e j d i) (stream_state y.system t).letters → j < v.passed t
       → In w i.writes → w.ver ≤ (left z w.obj).ver
   first-low k p t from to e j d i w first rises others alive leaves m below there_is =
       let before = λ (low : j < u.passed t). (f.entered.low t from to e j d i w m low there_is) in
@@ -95,18 +95,18 @@ module _ (y z : Story) (u v : Truth) (f : Faithful y u) (s : Thins y z u v) wher
               let low = before (omega (arith, below, at, after, differs)) in
               omega (arith, low, rise)
           | inl same ↦
-              let copy_of : IsCopy (line y.scene p) (u.passed p) to j d i = (f.replicated p).copies from to e j d i (subst (λ (r : Stream). In (Stores from to e j d i) (line y.scene r).letters) is_it m) in
-              let content : i ≡ entry (line y.scene p) j = copy_of.same (omega (arith, (f.replicated p).most (line y.scene p).home, first, same)) in
+              let copy_of : IsCopy (stream_state y.system p) (u.passed p) to j d i = (f.replication p).copies from to e j d i (subst (λ (r : Stream). In (Stores from to e j d i) (stream_state y.system r).letters) is_it m) in
+              let content : i ≡ entry (stream_state y.system p) j = copy_of.same (omega (arith, (f.replication p).most (stream_state y.system p).home, first, same)) in
               let writes : i.writes ≡ (pending_at y p k).writes = ap (λ (q : Entry). q.writes) (content ∙ home-entry y p j) ∙ ap (λ (n : ℕ). (pending_at y p n).writes) same in
               let now : left z w.obj ≡ written_content w = leaves w.obj ∙ overwritten-in (left y) (pending_at y p k).writes w (writes-once y u f p k alive) (rw writes at there_is) in
               omega (arith, ap (λ (c : Content). c.ver) now)
         ]
       ]
 
-  pub first-thins_left : (k : ℕ) (p : Stream) → u.passed p ≡ k → v.passed p ≡ suc k → ((r : Stream) → r ≢ p → v.passed r ≡ u.passed r) → Lives y u p k
-      → ((a : ℕ) → left z a ≡ overwritten (left y) (pending_at y p k).writes a) → ThinsLeft y z u v
+  pub first-shrink_left : (k : ℕ) (p : Stream) → u.passed p ≡ k → v.passed p ≡ suc k → ((r : Stream) → r ≢ p → v.passed r ≡ u.passed r) → Lives y u p k
+      → ((a : ℕ) → left z a ≡ overwritten (left y) (pending_at y p k).writes a) → ShrinkLeft y z u v
   unfolding IsClean
-  first-thins_left k p first rises others alive leaves = record {
+  first-shrink_left k p first rises others alive leaves = record {
     found = λ t j x lives m. elim (stream_cases t p) [
       | inl is_it ↦
           let above : v.passed t ≤ j = lives-above z v t j lives in
@@ -114,7 +114,7 @@ module _ (y z : Story) (u v : Truth) (f : Faithful y u) (s : Thins y z u v) wher
           (first-found k j x p first rises (omega (arith, above, ap v.passed is_it, rises)) leaves)
       | inr other ↦
           found-same_count t j x (others t other)
-          (first-unwritten k x p leaves alive (λ named_here. disjoint y u f t p j k x other ((s.lines t).alive j lives) alive m named_here))
+          (first-unwritten k x p leaves alive (λ named_here. disjoint y u f t p j k x other ((s.streams t).alive j lives) alive m named_here))
     ];
     clean = λ x c. first-unwritten k x p leaves alive (λ named_here. c p k alive named_here);
     low = λ t from to e j d i w m below there_is. first-low k p t from to e j d i w first rises others alive leaves m below there_is;

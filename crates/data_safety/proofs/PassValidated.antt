@@ -10,7 +10,7 @@ use Rattle.zeus_model.specs.Tables.{nth, put}
 use Rattle.zeus_model.specs.Commit.{validated, each_write}
 use Rattle.zeus_model.specs.declared.state.Copy.{Copy}
 use Rattle.invariants.proofs.ObjectSeen.{same_or_not}
-use Rattle.data_safety.specs.Faithful.{content_of}
+use Rattle.data_safety.specs.DataInvariant.{content_of}
 
 -- one of the writes is of this object and has this version
 abbrev pub Writes : List Write → ℕ → ℕ → Type 0

@@ -1,4 +1,4 @@
--- A read has its point and its acknowledgement at once, and all stays faithful.
+-- A read has its point and its acknowledgement at once, and the data invariant stays.
 use Rattle.std.specs.Prelude.{ℕ, zero, suc, ◌≡◌, ◌≢◌, ◌==◌, ◌+◌, ◌≤◌, true, false, List, [], ◌∷◌, ◌++◌, Option, Some, None, is_some, ◌↔◌, if◌then◌else◌}
 use Rattle.std.proofs.Common.{arith, refl, sym, ap, ◌∙◌, inl, inr, eq-eqb}
 use Rattle.std.proofs.lemmas.Bool.{ne_eqb}
@@ -14,18 +14,18 @@ use Rattle.zeus_model.specs.Book.{Book, Point, TxRecord, no_record, record_of, r
 use Rattle.zeus_model.specs.Local.{with_current, hindrance, run_here}
 use Rattle.zeus_model.specs.Sound.{times}
 use Rattle.zeus_model.specs.declared.state.Current.{Current}
-use Rattle.machine_moves.specs.Scene.{Changes, nothing}
+use Rattle.machine_moves.specs.SystemState.{Changes, nothing}
 use Rattle.machine_moves.proofs.Lists.{nth-put_same, nth-put_other}
 use Rattle.invariants.proofs.ObjectSeen.{same_or_not}
-use Rattle.data_safety.specs.Story.{Story, Truth, tx_ops, overwritten}
-use Rattle.data_safety.specs.Faithful.{Faithful, IsBooked, left, raised}
+use Rattle.data_safety.specs.RunState.{RunState, Witness, tx_ops, overwritten}
+use Rattle.data_safety.specs.DataInvariant.{DataInvariant, IsBooked, left, raised}
 use Rattle.data_safety.proofs.Consequences.{read-valid}
 use Rattle.data_safety.proofs.SerialRun.{HasPointed, pointed-left, pointed-replies, times-append}
 use Rattle.zeus_txn.specs.RunLaws.{reads_write_nothing}
 use Rattle.data_safety.proofs.ReadRun.{read_run}
-use Rattle.data_safety.proofs.RestTurned.{turned}
-use Rattle.data_safety.proofs.RestBooked.{IsHistory}
-use Rattle.data_safety.proofs.RestMoves.{resaid, resaid-faithful, slot-faithful}
+use Rattle.data_safety.proofs.CurrentOnly.{turned}
+use Rattle.data_safety.proofs.BookOnlyBooked.{IsHistory}
+use Rattle.data_safety.proofs.BookOnlyMoves.{resaid, resaid-invariant, slot-invariant}
 
 some_same : {A : Type 0} (a b : A) → ◌≡◌ {A = Option A} (Some a) (Some b) → a ≡ b
 some_same a b e = cc
@@ -78,7 +78,7 @@ read_points b id reply =
 
 -- ---- the history
 
-module _ (y : Story) (u : Truth) (b : IsBooked y u) (id : ℕ) (reply : Reply) (nodes : ℕ → Node) (book : Book) (is : book ≡ (book_read y.book id reply).book)
+module _ (y : RunState) (u : Witness) (b : IsBooked y u) (id : ℕ) (reply : Reply) (nodes : ℕ → Node) (book : Book) (is : book ≡ (book_read y.book id reply).book)
     (begun : is_some (record_of y.book id).begun ≡ true) (unpointed : (record_of y.book id).point ≡ None) where
   here : record_of book id ≡ read_record y.book id reply
   here = ap (λ (k : Book). record_of k id) is ∙ read_here y.book id reply
@@ -164,27 +164,27 @@ module _ (y : Story) (u : Truth) (b : IsBooked y u) (id : ℕ) (reply : Reply) (
 
 -- ---- the move
 
-pub reads-faithful : (y z : Story) (u : Truth) → Faithful y u → (n s : ℕ) (c : Current) → (slot (y.scene.node n) s).current ≡ Some c → is_write c.tx ≡ false → hindrance (y.scene.node n) c.tx ≡ None
-    → Changes y.scene z.scene n (with_current (y.scene.node n) s None) nothing → z.txs ≡ y.txs → z.book ≡ (book_read y.book c.id (run_here (y.scene.node n) c.tx).reply).book → Faithful z u
-reads-faithful y z u f n s c is reader none ch txs book =
+pub reads-invariant : (y z : RunState) (u : Witness) → DataInvariant y u → (n s : ℕ) (c : Current) → (slot (y.system.node n) s).current ≡ Some c → is_write c.tx ≡ false → hindrance (y.system.node n) c.tx ≡ None
+    → Changes y.system z.system n (with_current (y.system.node n) s None) nothing → z.txs ≡ y.txs → z.book ≡ (book_read y.book c.id (run_here (y.system.node n) c.tx).reply).book → DataInvariant z u
+reads-invariant y z u f n s c is reader none ch txs book =
     let x = resaid y z in
-    let g = resaid-faithful y z u f ch.config ch.views ch.sends txs in
+    let g = resaid-invariant y z u f ch.config ch.views ch.sends txs in
     let gb : IsBooked x u = g.booked in
-    let reply : Reply = (run_here (y.scene.node n) c.tx).reply in
+    let reply : Reply = (run_here (y.system.node n) c.tx).reply in
     let was = gb.current n s c is in
-    let after = here x u gb c.id reply z.scene.node z.book book was.1 was.3 in
+    let after = here x u gb c.id reply z.system.node z.book book was.1 was.3 in
     let ran : (run (λ k. (left x k).value) c.tx).reply ≡ reply = ap (λ (r : Ran). r.reply)
-    (read_run (y.scene.node n) c.tx (left x)
+    (read_run (y.system.node n) c.tx (left x)
     (λ k d m at valid. ap (λ (e : Content). e.value) (read-valid x u g n k d (gb.objects c.id k (rw (← was.0) m)) ch.live at valid)) none) in
     let same_reply : (run (λ k. (left x k).value) (tx_ops x c.id)).reply ≡ reply = ap (λ (ops : List Op). (run (λ k. (left x k).value) ops).reply) (sym was.0) ∙ ran in
-    slot-faithful y z u f n s c.id None ch txs
+    slot-invariant y z u f n s c.id None ch txs
     record {
-      others = others x u gb c.id reply z.scene.node z.book book was.1 was.3;
+      others = others x u gb c.id reply z.system.node z.book book was.1 was.3;
       before = was.2;
       after = ap (λ (r : TxRecord). r.entry) after ∙ was.2;
       node = was.5;
       slot = was.6;
     }
     (λ a no_one. absurd cc)
-    (read-left x u gb c.id reply z.scene.node z.book book was.1 was.3 (ap (λ (ops : List Op). is_write ops) (sym was.0) ∙ reader))
-    (λ b. read-history x u b c.id reply z.scene.node z.book book was.1 was.3 same_reply)
+    (read-left x u gb c.id reply z.system.node z.book book was.1 was.3 (ap (λ (ops : List Op). is_write ops) (sym was.0) ∙ reader))
+    (λ b. read-history x u b c.id reply z.system.node z.book book was.1 was.3 same_reply)

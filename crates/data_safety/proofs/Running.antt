@@ -16,14 +16,14 @@ use Rattle.zeus_model.specs.declared.state.Copy.{Copy}
 use Rattle.zeus_model.specs.declared.state.Entry.{Entry}
 use Rattle.zeus_packet.specs.declared.place.Place.{Place}
 use Rattle.zeus_base.specs.Nodes.{has}
-use Rattle.machine_moves.specs.Scene.{IsLive}
-use Rattle.replication_safety.specs.Line.{Has, IsAlive, end}
+use Rattle.machine_moves.specs.SystemState.{IsLive}
+use Rattle.replication_safety.specs.StreamState.{Has, IsAlive, end}
 use Rattle.replication_safety.proofs.Consequences.{stored-down}
-use Rattle.invariants.specs.Lines.{line}
-use Rattle.invariants.proofs.LineMoves.{line-home, line-stopped}
+use Rattle.invariants.specs.Streams.{stream_state}
+use Rattle.invariants.proofs.StreamFrames.{stream-home, stream-stopped}
 use Rattle.invariants.proofs.ObjectSeen.{same_or_not}
-use Rattle.data_safety.specs.Story.{Story, Truth, tx_ops, place_now, pending_at, Lives, running, overwritten}
-use Rattle.data_safety.specs.Faithful.{Faithful, IsRun, left, content_of, raised, found_at}
+use Rattle.data_safety.specs.RunState.{RunState, Witness, tx_ops, place_now, pending_at, Lives, running, overwritten}
+use Rattle.data_safety.specs.DataInvariant.{DataInvariant, IsRun, left, content_of, raised, found_at}
 use Rattle.data_safety.proofs.Names.{IsOnce, raised-from, raised-once, run-once}
 use Rattle.ownership_safety.specs.Object.{IsOwner}
 use Rattle.ownership_safety.proofs.Chain.{latest-placed}
@@ -78,13 +78,13 @@ writes-cases (v ∷ vs) x = elim (same_or_not v.obj x) [
 
 -- ---- what entries find
 
-pub found-start : (y : Story) (u : Truth) (t : Stream) → found_at y u t (u.passed t) ≡ left y
+pub found-start : (y : RunState) (u : Witness) (t : Stream) → found_at y u t (u.passed t) ≡ left y
 unfolding found_at running
 found-start y u t =
     let none : u.passed t - u.passed t ≡ 0 = omega arith in
     ap (λ (i : ℕ). running (left y) (λ j. (pending_at y t (u.passed t + j)).writes) i) none
 
-pub found-next : (y : Story) (u : Truth) (t : Stream) (k : ℕ) → u.passed t ≤ k → found_at y u t (suc k) ≡ overwritten (found_at y u t k) (pending_at y t k).writes
+pub found-next : (y : RunState) (u : Witness) (t : Stream) (k : ℕ) → u.passed t ≤ k → found_at y u t (suc k) ≡ overwritten (found_at y u t k) (pending_at y t k).writes
 unfolding found_at running
 found-next y u t k above =
     let one : suc k - u.passed t ≡ suc (k - u.passed t) = omega (arith, above) in
@@ -92,7 +92,7 @@ found-next y u t k above =
     ap (λ (i : ℕ). running (left y) (λ j. (pending_at y t (u.passed t + j)).writes) i) one
     ∙ ap (λ (i : ℕ). overwritten (running (left y) (λ j. (pending_at y t (u.passed t + j)).writes) (k - u.passed t)) (pending_at y t i).writes) same
 
-module _ (y : Story) (u : Truth) (f : Faithful y u) where
+module _ (y : RunState) (u : Witness) (f : DataInvariant y u) where
   pub write-version : (t : Stream) (k : ℕ) (w : Write) → Lives y u t k → In w (pending_at y t k).writes → w.ver ≡ (found_at y u t k w.obj).ver + 1
   write-version t k w alive i =
       let is : IsRun y u t k = f.entered.serial t k alive in
@@ -135,17 +135,17 @@ module _ (y : Story) (u : Truth) (f : Faithful y u) where
       rw same (omega (arith, before, step))
 
   -- what a live node keeps of a stream, up to its last entry, can still pass
-  pub down-lives : (t : Stream) (n k j : ℕ) → IsLive y.scene n → Has (line y.scene t) n k → u.passed t ≤ j → j ≤ k → Has (line y.scene t) n j × Lives y u t j
-  down-lives t n k j live h above below = stored-down (line y.scene t) (u.passed t) n k j (f.replicated t) (line-stopped y.scene t n ∙ live) h above below
+  pub down-lives : (t : Stream) (n k j : ℕ) → IsLive y.system n → Has (stream_state y.system t) n k → u.passed t ≤ j → j ≤ k → Has (stream_state y.system t) n j × Lives y u t j
+  down-lives t n k j live h above below = stored-down (stream_state y.system t) (u.passed t) n k j (f.replication t) (stream-stopped y.system t n ∙ live) h above below
 
-  found-below : (t : Stream) (n k i j x : ℕ) → IsLive y.scene n → Has (line y.scene t) n k → u.passed t ≤ i → i ≤ j → j ≤ suc k → (found_at y u t i x).ver ≤ (found_at y u t j x).ver
+  found-below : (t : Stream) (n k i j x : ℕ) → IsLive y.system n → Has (stream_state y.system t) n k → u.passed t ≤ i → i ≤ j → j ≤ suc k → (found_at y u t i x).ver ≤ (found_at y u t j x).ver
   found-below t n k i j x live h above order below =
       let same : i + (j - i) ≡ j = omega (arith, order) in
       subst (λ (m : ℕ). (found_at y u t i x).ver ≤ (found_at y u t m x).ver) same
       (found-rises t i (j - i) x above (λ m low high. (down-lives t n k m live h (omega (arith, above, low)) (omega (arith, high, order, below))).1))
 
   -- along the entries that a live node keeps, each write is above what the history leaves
-  pub versions-above : (t : Stream) (n k : ℕ) (w : Write) → IsLive y.scene n → Has (line y.scene t) n k → u.passed t ≤ k → In w (pending_at y t k).writes → (left y w.obj).ver < w.ver
+  pub versions-above : (t : Stream) (n k : ℕ) (w : Write) → IsLive y.system n → Has (stream_state y.system t) n k → u.passed t ≤ k → In w (pending_at y t k).writes → (left y w.obj).ver < w.ver
   versions-above t n k w live h above i =
       let low : (found_at y u t (u.passed t) w.obj).ver ≤ (found_at y u t k w.obj).ver = found-below t n k (u.passed t) k w.obj live h (le_refl (u.passed t)) above (omega arith) in
       let start : (found_at y u t (u.passed t) w.obj).ver ≡ (left y w.obj).ver = ap (λ (g : ℕ → Content). (g w.obj).ver) (found-start y u t) in
@@ -153,7 +153,7 @@ module _ (y : Story) (u : Truth) (f : Faithful y u) where
       omega (arith, low, start, ver)
 
   -- and a later one above an earlier one
-  pub versions-rise : (t : Stream) (n k j : ℕ) (v w : Write) → IsLive y.scene n → Has (line y.scene t) n k → u.passed t ≤ j → j < k → w.obj ≡ v.obj
+  pub versions-rise : (t : Stream) (n k j : ℕ) (v w : Write) → IsLive y.system n → Has (stream_state y.system t) n k → u.passed t ≤ j → j < k → w.obj ≡ v.obj
       → In v (pending_at y t j).writes → In w (pending_at y t k).writes → v.ver < w.ver
   versions-rise t n k j v w live h above order same one two =
       let early = down-lives t n k j live h above (omega (arith, order)) in
@@ -169,34 +169,34 @@ module _ (y : Story) (u : Truth) (f : Faithful y u) where
   owner-none (Some p) h = absurd cc
 
   -- a live node that owns an object is its owner
-  pub owns-owner : (n x : ℕ) → IsLive y.scene n → owns (y.scene.node n) x ≡ true → IsOwner (object y.scene x) n
+  pub owns-owner : (n x : ℕ) → IsLive y.system n → owns (y.system.node n) x ≡ true → IsOwner (object y.system x) n
   unfolding owns object
   owns-owner n x live h =
       let k = f.steady.nodes n live in
       let parts = and_parts _ _ h in
-      let is : (object y.scene x).entry n ≡ entry (y.scene.node n) x = object-entry y.scene x n k.within in
+      let is : (object y.system x).entry n ≡ entry (y.system.node n) x = object-entry y.system x n k.within in
       record {
         live = live;
-        free = rw is (owner-none (entry (y.scene.node n) x).proposal parts.1);
+        free = rw is (owner-none (entry (y.system.node n) x).proposal parts.1);
         owner = rw is (eq_from _ _ parts.0 ∙ k.me);
       }
 
   -- so its settled placement is the latest, and it is one of its replicas
-  pub owns-latest : (n x : ℕ) → x < length y.scene.config.objects → IsLive y.scene n → owns (y.scene.node n) x ≡ true
-      → ((entry (y.scene.node n) x).place ≡ place_now y u x) × ((place_now y u x).owner ≡ n) × (has n (place_now y u x).replicas ≡ true)
+  pub owns-latest : (n x : ℕ) → x < length y.system.config.objects → IsLive y.system n → owns (y.system.node n) x ≡ true
+      → ((entry (y.system.node n) x).place ≡ place_now y u x) × ((place_now y u x).owner ≡ n) × (has n (place_now y u x).replicas ≡ true)
   owns-latest n x within live h =
       let o = owns-owner n x live h in
-      let is : (object y.scene x).entry n ≡ entry (y.scene.node n) x = object-entry y.scene x n (f.steady.nodes n live).within in
-      let last : ((object y.scene x).entry n).place ≡ place_now y u x = owner-latest (object y.scene x) (u.chain x) (f.ordered x within) n o in
+      let is : (object y.system x).entry n ≡ entry (y.system.node n) x = object-entry y.system x n (f.steady.nodes n live).within in
+      let last : ((object y.system x).entry n).place ≡ place_now y u x = owner-latest (object y.system x) (u.chain x) (f.ownership x within) n o in
       let owner : (place_now y u x).owner ≡ n = ap (λ (p : Place). p.owner) (sym last) ∙ o.owner in
-      let placed = latest-placed (object y.scene x) (u.chain x) (f.ordered x within) in
+      let placed = latest-placed (object y.system x) (u.chain x) (f.ownership x within) in
       (ap (λ (e : Entry). e.place) (sym is) ∙ last, owner, rw owner at placed.owner)
 
   -- what a stream's own node keeps
-  pub home-has : (t : Stream) (k : ℕ) → u.passed t ≤ k → k < end (line y.scene t) → Has (line y.scene t) t.node k
+  pub home-has : (t : Stream) (k : ℕ) → u.passed t ≤ k → k < end (stream_state y.system t) → Has (stream_state y.system t) t.node k
   home-has t k above below =
-      let here_now : Has (line y.scene t) (line y.scene t).home k = (omega (arith, above, (f.replicated t).most (line y.scene t).home), below) in
-      rw (line-home y.scene t) at here_now
+      let here_now : Has (stream_state y.system t) (stream_state y.system t).home k = (omega (arith, above, (f.replication t).most (stream_state y.system t).home), below) in
+      rw (stream-home y.system t) at here_now
 
   -- what entries that do not write an object find of it
   found-still : (t : Stream) (i d x : ℕ) → u.passed t ≤ i → ((j : ℕ) → i ≤ j → j < i + d → (w : Write) → In w (pending_at y t j).writes → w.obj ≢ x) → found_at y u t (i + d) x ≡ found_at y u t i x
@@ -213,54 +213,54 @@ module _ (y : Story) (u : Truth) (f : Faithful y u) where
       subst (λ (m : ℕ). found_at y u t m x ≡ found_at y u t i x) same (found-still t i (k - i) x above (λ j low high. none j low (omega (arith, high, order))))
 
   -- a copy is not below what its node keeps
-  not-below : (n x k : ℕ) (t : Stream) (c : Copy) (w : Write) → x < length y.scene.config.objects → IsLive y.scene n → copy (y.scene.node n) x ≡ Some c → Has (line y.scene t) n k → u.passed t ≤ k
+  not-below : (n x k : ℕ) (t : Stream) (c : Copy) (w : Write) → x < length y.system.config.objects → IsLive y.system n → copy (y.system.node n) x ≡ Some c → Has (stream_state y.system t) n k → u.passed t ≤ k
       → In w (pending_at y t k).writes → w.obj ≡ x → w.ver ≤ c.ver
   not-below n x k t c w within live is h above i named_x =
       f.copied.taken n t k w c (rw named_x within) live h above (rw (kept-writes y u f t n k h above) i) (rw named_x is)
 
-  lives-end : (t : Stream) (k : ℕ) → Lives y u t k → k < end (line y.scene t)
+  lives-end : (t : Stream) (k : ℕ) → Lives y u t k → k < end (stream_state y.system t)
   unfolding IsAlive
   lives-end t k alive = alive.1
 
-  copy-left : (n x : ℕ) (t : Stream) (c : Copy) → t.node ≡ n → x < length y.scene.config.objects → IsLive y.scene n → copy (y.scene.node n) x ≡ Some c → content_of c ≡ left y x
-      → content_of c ≡ found_at y u t (end (line y.scene t)) x
+  copy-left : (n x : ℕ) (t : Stream) (c : Copy) → t.node ≡ n → x < length y.system.config.objects → IsLive y.system n → copy (y.system.node n) x ≡ Some c → content_of c ≡ left y x
+      → content_of c ≡ found_at y u t (end (stream_state y.system t)) x
   copy-left n x t c home within live is same =
-      let none : (j : ℕ) → u.passed t ≤ j → j < end (line y.scene t) → (w : Write) → In w (pending_at y t j).writes → w.obj ≢ x =
+      let none : (j : ℕ) → u.passed t ≤ j → j < end (stream_state y.system t) → (w : Write) → In w (pending_at y t j).writes → w.obj ≢ x =
       λ j low high w i named_x.
-      let h : Has (line y.scene t) n j = subst (λ (m : ℕ). Has (line y.scene t) m j) home (home-has t j low high) in
+      let h : Has (stream_state y.system t) n j = subst (λ (m : ℕ). Has (stream_state y.system t) m j) home (home-has t j low high) in
       let not_above = not-below n x j t c w within live is h low i named_x in
       let above : (left y x).ver < w.ver = rw named_x at (versions-above t n j w live h low i) in
       omega (arith, not_above, above, ap (λ (k : Content). k.ver) same)
       in
       same ∙ ap (λ (g : ℕ → Content). g x) (sym (found-start y u t))
-      ∙ sym (found-same t (u.passed t) (end (line y.scene t)) x (le_refl (u.passed t)) (f.replicated t).committed none)
+      ∙ sym (found-same t (u.passed t) (end (stream_state y.system t)) x (le_refl (u.passed t)) (f.replication t).committed none)
 
-  copy-newer : (n x k : ℕ) (t : Stream) (c : Copy) → t.node ≡ n → x < length y.scene.config.objects → IsLive y.scene n → copy (y.scene.node n) x ≡ Some c
-      → u.passed t ≤ k → Has (line y.scene t) n k → In record { obj = x; ver = c.ver; value = c.value } (pending_at y t k).writes
-      → content_of c ≡ found_at y u t (end (line y.scene t)) x
+  copy-newer : (n x k : ℕ) (t : Stream) (c : Copy) → t.node ≡ n → x < length y.system.config.objects → IsLive y.system n → copy (y.system.node n) x ≡ Some c
+      → u.passed t ≤ k → Has (stream_state y.system t) n k → In record { obj = x; ver = c.ver; value = c.value } (pending_at y t k).writes
+      → content_of c ≡ found_at y u t (end (stream_state y.system t)) x
   copy-newer n x k t c home within live is above h i =
       let v : Write = record { obj = x; ver = c.ver; value = c.value } in
-      let none : (j : ℕ) → suc k ≤ j → j < end (line y.scene t) → (w : Write) → In w (pending_at y t j).writes → w.obj ≢ x =
+      let none : (j : ℕ) → suc k ≤ j → j < end (stream_state y.system t) → (w : Write) → In w (pending_at y t j).writes → w.obj ≢ x =
       λ j low high w there_is named_x.
-      let at : Has (line y.scene t) n j = subst (λ (m : ℕ). Has (line y.scene t) m j) home (home-has t j (omega (arith, low, above)) high) in
+      let at : Has (stream_state y.system t) n j = subst (λ (m : ℕ). Has (stream_state y.system t) m j) home (home-has t j (omega (arith, low, above)) high) in
       let not_above = not-below n x j t c w within live is at (omega (arith, low, above)) there_is named_x in
       let rise = versions-rise t n j k v w live at above low named_x i there_is in
       omega (arith, not_above, rise)
       in
       let alive = kept-lives y u f t n k live h above in
       let after : found_at y u t (suc k) x ≡ content_of c = found-written t k v above alive i in
-      let last : k < end (line y.scene t) = lives-end t k alive in
-      sym (found-same t (suc k) (end (line y.scene t)) x (omega (arith, above)) last none ∙ after)
+      let last : k < end (stream_state y.system t) = lives-end t k alive in
+      sym (found-same t (suc k) (end (stream_state y.system t)) x (omega (arith, above)) last none ∙ after)
 
   -- the copy of an owner, where no other slot's pending entry names the object, is what the slot's next entry finds
-  pub owner-copy : (n x : ℕ) (t : Stream) → t.node ≡ n → x < length y.scene.config.objects → IsLive y.scene n → owns (y.scene.node n) x ≡ true
-      → ((r i : ℕ) → r ≢ t.slot → i < length (slot (y.scene.node n) r).pending → mentions x (nth no_pending (slot (y.scene.node n) r).pending i).named ≡ true → ⊥)
-      → (c : Copy) × (copy (y.scene.node n) x ≡ Some c) × (content_of c ≡ found_at y u t (end (line y.scene t)) x)
+  pub owner-copy : (n x : ℕ) (t : Stream) → t.node ≡ n → x < length y.system.config.objects → IsLive y.system n → owns (y.system.node n) x ≡ true
+      → ((r i : ℕ) → r ≢ t.slot → i < length (slot (y.system.node n) r).pending → mentions x (nth no_pending (slot (y.system.node n) r).pending i).named ≡ true → ⊥)
+      → (c : Copy) × (copy (y.system.node n) x ≡ Some c) × (content_of c ≡ found_at y u t (end (stream_state y.system t)) x)
   owner-copy n x t home within live h alone =
       let latest_is = owns-latest n x within live h in
-      let there_is = some_from (copy (y.scene.node n) x) ((f.copied.placed n x within live).1 latest_is.2) in
+      let there_is = some_from (copy (y.system.node n) x) ((f.copied.placed n x within live).1 latest_is.2) in
       let c : Copy = there_is.0 in
-      let is : copy (y.scene.node n) x ≡ Some c = there_is.1 in
+      let is : copy (y.system.node n) x ≡ Some c = there_is.1 in
       elim (f.copied.content n x c within live is) [
         | inl same ↦ (c, is, copy-left n x t c home within live is same)
         | inr newer ↦
@@ -272,7 +272,7 @@ module _ (y : Story) (u : Truth) (f : Faithful y u) where
             elim (same_or_not w.0.slot t.slot) [
               | inr other ↦
                   let pending = (lives-pending y u f w.0 w.1 alive).1 in
-                  absurd (alone w.0.slot (w.1 - (slot (y.scene.node n) w.0.slot).done) other (rw own at pending) (rw own at names))
+                  absurd (alone w.0.slot (w.1 - (slot (y.system.node n) w.0.slot).done) other (rw own at pending) (rw own at names))
               | inl slots ↦
                   let same : w.0 ≡ t = stream_eq w.0 t (own ∙ sym home) slots in
                   (c, is, copy-newer n x w.1 t c home within live is (rw same at w.2) (rw same at w.3) (rw same at i))

@@ -15,8 +15,8 @@ use Rattle.zeus_txn.specs.declared.map.Versioned.{Versioned}
 use Rattle.zeus_txn.specs.declared.ops.Op.{Op}
 use Rattle.zeus_txn.specs.declared.reply.Reply.{Reply}
 use Rattle.zeus_model.specs.Serial.{serial_map, serial_replies}
-use Rattle.data_safety.specs.Story.{overwritten, running}
-use Rattle.data_safety.specs.Faithful.{raised}
+use Rattle.data_safety.specs.RunState.{overwritten, running}
+use Rattle.data_safety.specs.DataInvariant.{raised}
 
 -- ---- one transaction more
 

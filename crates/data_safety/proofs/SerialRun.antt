@@ -20,21 +20,21 @@ use Rattle.zeus_model.specs.Sound.{replies_of, times}
 use Rattle.zeus_model.specs.Tables.{nth}
 use Rattle.zeus_model.specs.World.{no_tx}
 use Rattle.zeus_model.specs.declared.state.Pending.{Pending}
-use Rattle.data_safety.specs.Story.{Story, Truth, tx_ops, txs_of, pending_at, overwritten, running}
-use Rattle.data_safety.specs.Faithful.{left, found_at, raised, IsRun}
+use Rattle.data_safety.specs.RunState.{RunState, Witness, tx_ops, txs_of, pending_at, overwritten, running}
+use Rattle.data_safety.specs.DataInvariant.{left, found_at, raised, IsRun}
 use Rattle.data_safety.proofs.SerialContents.{serial_map-append, serial_replies-append, content_in, written_map-contents, raised-agree}
 
 -- ---- one point more
 
-pub txs_of-append : (y : Story) (ps : List Point) (p : Point) → txs_of y (ps ++ p ∷ []) ≡ txs_of y ps ++ tx_ops y p.id ∷ []
+pub txs_of-append : (y : RunState) (ps : List Point) (p : Point) → txs_of y (ps ++ p ∷ []) ≡ txs_of y ps ++ tx_ops y p.id ∷ []
 unfolding txs_of
 txs_of-append y [] p = refl
 txs_of-append y (q ∷ ps) p = ap (λ (l : List (List Op)). tx_ops y q.id ∷ l) (txs_of-append y ps p)
 
-pub tx_ops-same : (y z : Story) (id : ℕ) → z.txs ≡ y.txs → tx_ops z id ≡ tx_ops y id
+pub tx_ops-same : (y z : RunState) (id : ℕ) → z.txs ≡ y.txs → tx_ops z id ≡ tx_ops y id
 tx_ops-same y z id e = ap (λ (l : List TxDecl). (nth no_tx l id).tx) e
 
-pub txs_of-same : (y z : Story) (ps : List Point) → z.txs ≡ y.txs → txs_of z ps ≡ txs_of y ps
+pub txs_of-same : (y z : RunState) (ps : List Point) → z.txs ≡ y.txs → txs_of z ps ≡ txs_of y ps
 unfolding txs_of
 txs_of-same y z [] e = refl
 txs_of-same y z (q ∷ ps) e = rw (tx_ops-same y z q.id e, txs_of-same y z ps e) refl
@@ -52,40 +52,40 @@ times-append id (q ∷ ps) p = let rest = times-append id ps p in grind arith
 -- ---- what the history leaves
 
 -- the map that the history leaves
-abbrev pub map_of : Story → List Versioned
-map_of y = serial_map (start_map y.scene.config) (txs_of y y.book.points)
+abbrev pub map_of : RunState → List Versioned
+map_of y = serial_map (start_map y.system.config) (txs_of y y.book.points)
 
-pub left-is : (y : Story) (x : ℕ) → left y x ≡ content_in (map_of y) x
+pub left-is : (y : RunState) (x : ℕ) → left y x ≡ content_in (map_of y) x
 unfolding left
 left-is y x = refl
 
--- a story with the same transactions and the same history leaves the same
-pub left-same : (y z : Story) (x : ℕ) → z.scene.config ≡ y.scene.config → z.txs ≡ y.txs → z.book.points ≡ y.book.points → left z x ≡ left y x
+-- a run with the same transactions and the same history leaves the same
+pub left-same : (y z : RunState) (x : ℕ) → z.system.config ≡ y.system.config → z.txs ≡ y.txs → z.book.points ≡ y.book.points → left z x ≡ left y x
 unfolding left
 left-same y z x config txs points = ap (λ (m : List Versioned). content_in m x) (map-same y z config txs points)
   where
-    map-same : (y z : Story) → z.scene.config ≡ y.scene.config → z.txs ≡ y.txs → z.book.points ≡ y.book.points → map_of z ≡ map_of y
+    map-same : (y z : RunState) → z.system.config ≡ y.system.config → z.txs ≡ y.txs → z.book.points ≡ y.book.points → map_of z ≡ map_of y
     map-same y z config txs points =
         ap (λ (c : Config). serial_map (start_map c) (txs_of z z.book.points)) config
-        ∙ ap (λ (l : List (List Op)). serial_map (start_map y.scene.config) l) (txs_of-same y z z.book.points txs ∙ ap (λ (ps : List Point). txs_of y ps) points)
+        ∙ ap (λ (l : List (List Op)). serial_map (start_map y.system.config) l) (txs_of-same y z z.book.points txs ∙ ap (λ (ps : List Point). txs_of y ps) points)
 
--- a story in which a transaction has had its point behind the history
-pub record HasPointed (y z : Story) (p : Point) : Type 0 where
-  pub config : z.scene.config ≡ y.scene.config
+-- a run in which a transaction has had its point behind the history
+pub record HasPointed (y z : RunState) (p : Point) : Type 0 where
+  pub config : z.system.config ≡ y.system.config
   pub txs : z.txs ≡ y.txs
   pub points : z.book.points ≡ y.book.points ++ p ∷ []
 
-pointed-txs : (y z : Story) (p : Point) → HasPointed y z p → txs_of z z.book.points ≡ txs_of y y.book.points ++ tx_ops y p.id ∷ []
+pointed-txs : (y z : RunState) (p : Point) → HasPointed y z p → txs_of z z.book.points ≡ txs_of y y.book.points ++ tx_ops y p.id ∷ []
 pointed-txs y z p h = txs_of-same y z z.book.points h.txs ∙ ap (λ (ps : List Point). txs_of y ps) h.points ∙ txs_of-append y y.book.points p
 
-pointed-map : (y z : Story) (p : Point) → HasPointed y z p → map_of z ≡ applied_map (map_of y) (tx_ops y p.id)
+pointed-map : (y z : RunState) (p : Point) → HasPointed y z p → map_of z ≡ applied_map (map_of y) (tx_ops y p.id)
 pointed-map y z p h =
     ap (λ (c : Config). serial_map (start_map c) (txs_of z z.book.points)) h.config
-    ∙ ap (λ (l : List (List Op)). serial_map (start_map y.scene.config) l) (pointed-txs y z p h)
-    ∙ serial_map-append (start_map y.scene.config) (txs_of y y.book.points) (tx_ops y p.id)
+    ∙ ap (λ (l : List (List Op)). serial_map (start_map y.system.config) l) (pointed-txs y z p h)
+    ∙ serial_map-append (start_map y.system.config) (txs_of y y.book.points) (tx_ops y p.id)
 
 -- its writes are those of a run on what the history has left
-pub pointed-left : (y z : Story) (p : Point) (x : ℕ) → HasPointed y z p
+pub pointed-left : (y z : RunState) (p : Point) (x : ℕ) → HasPointed y z p
     → left z x ≡ overwritten (left y) (raised (left y) (run (λ k. (left y k).value) (tx_ops y p.id)).writes) x
 unfolding left
 pointed-left y z p x h =
@@ -93,29 +93,29 @@ pointed-left y z p x h =
     ∙ written_map-contents (map_of y) (run_at (map_of y) (tx_ops y p.id)).writes x (run-are_of (λ k. (content (map_of y) k).value) (tx_ops y p.id)).distinct
 
 -- the replies stay those of a serial run where the reply is that of a run on what the history has left
-pub pointed-replies : (y z : Story) (p : Point) → HasPointed y z p → (run (λ k. (left y k).value) (tx_ops y p.id)).reply ≡ p.reply
-    → replies_of y.book.points ≡ serial_replies (start_map y.scene.config) (txs_of y y.book.points)
-    → replies_of z.book.points ≡ serial_replies (start_map z.scene.config) (txs_of z z.book.points)
+pub pointed-replies : (y z : RunState) (p : Point) → HasPointed y z p → (run (λ k. (left y k).value) (tx_ops y p.id)).reply ≡ p.reply
+    → replies_of y.book.points ≡ serial_replies (start_map y.system.config) (txs_of y y.book.points)
+    → replies_of z.book.points ≡ serial_replies (start_map z.system.config) (txs_of z z.book.points)
 unfolding left
 pointed-replies y z p h reply before =
     ap (λ (ps : List Point). replies_of ps) h.points ∙ replies_of-append y.book.points p
     ∙ ap (λ (l : List Reply). l ++ p.reply ∷ []) before
-    ∙ ap (λ (r : Reply). serial_replies (start_map y.scene.config) (txs_of y y.book.points) ++ r ∷ []) (sym reply)
-    ∙ sym (serial_replies-append (start_map y.scene.config) (txs_of y y.book.points) (tx_ops y p.id))
-    ∙ ap (λ (l : List (List Op)). serial_replies (start_map y.scene.config) l) (sym (pointed-txs y z p h))
+    ∙ ap (λ (r : Reply). serial_replies (start_map y.system.config) (txs_of y y.book.points) ++ r ∷ []) (sym reply)
+    ∙ sym (serial_replies-append (start_map y.system.config) (txs_of y y.book.points) (tx_ops y p.id))
+    ∙ ap (λ (l : List (List Op)). serial_replies (start_map y.system.config) l) (sym (pointed-txs y z p h))
     ∙ ap (λ (c : Config). serial_replies (start_map c) (txs_of z z.book.points)) (sym h.config)
 
 -- ---- entries
 
 -- the first unpassed entry finds what the history leaves
-pub found_at-first : (y : Story) (u : Truth) (t : Stream) (k : ℕ) → k ≡ u.passed t → found_at y u t k ≡ left y
+pub found_at-first : (y : RunState) (u : Witness) (t : Stream) (k : ℕ) → k ≡ u.passed t → found_at y u t k ≡ left y
 unfolding found_at running
 found_at-first y u t k e =
     let none : k - u.passed t ≡ 0 = omega arith in
     ap (λ (m : ℕ). running (left y) (λ j. (pending_at y t (u.passed t + j)).writes) m) none
 
 -- where the first unpassed entry has its point, the history leaves its writes
-pub first-left : (y z : Story) (u : Truth) (t : Stream) (k x : ℕ) (p : Point) → HasPointed y z p → k ≡ u.passed t → p.id ≡ (pending_at y t k).id → IsRun y u t k
+pub first-left : (y z : RunState) (u : Witness) (t : Stream) (k x : ℕ) (p : Point) → HasPointed y z p → k ≡ u.passed t → p.id ≡ (pending_at y t k).id → IsRun y u t k
     → left z x ≡ overwritten (left y) (pending_at y t k).writes x
 first-left y z u t k x p h first id is =
     let found : found_at y u t k ≡ left y = found_at-first y u t k first in
@@ -124,17 +124,17 @@ first-left y z u t k x p h first id is =
     ∙ ap (λ (j : ℕ). overwritten (left y) (raised (left y) (run (λ i. (left y i).value) (tx_ops y j)).writes) x) id
     ∙ ap (λ (ws : List Write). overwritten (left y) ws x) writes
 
-pub first-replies : (y z : Story) (u : Truth) (t : Stream) (k : ℕ) (p : Point) → HasPointed y z p → k ≡ u.passed t → p.id ≡ (pending_at y t k).id
+pub first-replies : (y z : RunState) (u : Witness) (t : Stream) (k : ℕ) (p : Point) → HasPointed y z p → k ≡ u.passed t → p.id ≡ (pending_at y t k).id
     → p.reply ≡ (pending_at y t k).reply → IsRun y u t k
-    → replies_of y.book.points ≡ serial_replies (start_map y.scene.config) (txs_of y y.book.points)
-    → replies_of z.book.points ≡ serial_replies (start_map z.scene.config) (txs_of z z.book.points)
+    → replies_of y.book.points ≡ serial_replies (start_map y.system.config) (txs_of y y.book.points)
+    → replies_of z.book.points ≡ serial_replies (start_map z.system.config) (txs_of z z.book.points)
 first-replies y z u t k p h first id reply is before =
     let found : found_at y u t k ≡ left y = found_at-first y u t k first in
     let same : (run (λ j. (left y j).value) (tx_ops y (pending_at y t k).id)).reply ≡ (pending_at y t k).reply = rw found at is.reply in
     pointed-replies y z p h (ap (λ (j : ℕ). (run (λ i. (left y i).value) (tx_ops y j)).reply) id ∙ same ∙ sym reply) before
 
 -- an entry stays what its transaction makes of what it finds, where it finds the same of the objects that it names
-pub IsRun-agree : (y z : Story) (u v : Truth) (t : Stream) (k : ℕ) → pending_at z t k ≡ pending_at y t k → z.txs ≡ y.txs
+pub IsRun-agree : (y z : RunState) (u v : Witness) (t : Stream) (k : ℕ) → pending_at z t k ≡ pending_at y t k → z.txs ≡ y.txs
     → ((x : ℕ) → mentions x (named (tx_ops y (pending_at y t k).id)) ≡ true → found_at z v t k x ≡ found_at y u t k x)
     → IsRun y u t k → IsRun z v t k
 IsRun-agree y z u v t k entry txs same is =

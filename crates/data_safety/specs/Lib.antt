@@ -1,3 +1,3 @@
-pub mod Story
-pub mod StoryMoves
-pub mod Faithful
+pub mod RunState
+pub mod RunMoves
+pub mod DataInvariant

@@ -7,3 +7,5 @@ mod tests;
 
 pub use drive::{Drive, Drives};
 pub use owner_entry::Dir;
+pub use zeus_base::{NodeId, NodeSet, ObjId};
+pub use zeus_packet::{Cause, Proposal, Want};

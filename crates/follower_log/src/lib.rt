@@ -7,5 +7,6 @@ mod stored;
 mod tests;
 
 pub use stored::{Store, Stored, StoredOver};
+pub use zeus_base::{Config, NoMemory, NodeId, NodeSet, Stream};
 pub use zeus_model::Kept;
-pub use zeus_packet::RInv;
+pub use zeus_packet::{RInv, Window};

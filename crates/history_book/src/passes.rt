@@ -65,7 +65,8 @@ impl Book {
     )
         requires { HasLists self.old.book points.old acked.old }
         ensures shape { self.new ≡ with_book self.old self.new.book }
-        ensures change { so_far self.new points.new acked.new ≡ change_then (so_far self.old points.old acked.old) (λ b. pass_tx b own (tx_of b stream.now number)) }
+        ensures change { so_far self.new points.new acked.new
+            ≡ change_then (so_far self.old points.old acked.old) (λ b. pass_tx b own (tx_of b stream.now number)) }
         ensures lists { HasLists self.new.book points.new acked.new }
     {
         if let Some(id) = self.at(*stream, number) {
@@ -82,7 +83,8 @@ impl Book {
     pub fn pass(&mut self, passed: &Passed, own: bool, points: &mut IdList, acked: &mut IdList)
         requires { HasLists self.old.book points.old acked.old }
         ensures shape { self.new ≡ with_book self.old self.new.book }
-        ensures change { so_far self.new points.new acked.new ≡ change_then (so_far self.old points.old acked.old) (λ b. pass_numbers b own passed.now.stream (numbers_from passed.now.first (passed.now.after - passed.now.first))) }
+        ensures change { so_far self.new points.new acked.new
+            ≡ change_then (so_far self.old points.old acked.old) (λ b. pass_numbers b own passed.now.stream (numbers_from passed.now.first (passed.now.after - passed.now.first))) }
         ensures lists { HasLists self.new.book points.new acked.new }
     {
         for number in passed.first..passed.after {

@@ -1,4 +1,4 @@
--- What letters say of an object, and how a change of a scene looks to it.
+-- What letters say of an object, and how a change of a system looks to it.
 use Rattle.std.specs.Prelude.{ℕ, ◌≡◌, ◌==◌, ◌<◌, List, [], ◌∷◌, Option}
 use Rattle.std.proofs.Common.{arith, refl, inl, inr, subst}
 use Rattle.std.proofs.lemmas.Bool.{lt-ltb, eq-eqb, cases_Bool}
@@ -12,7 +12,7 @@ use Rattle.zeus_packet.specs.declared.place.Proposal.{Proposal}
 use Rattle.zeus_packet.specs.declared.write.Content.{Content}
 use Rattle.zeus_model.specs.In.{In, here, there}
 use Rattle.zeus_model.specs.State.{entry, gather}
-use Rattle.machine_moves.specs.Scene.{Scene, Sends}
+use Rattle.machine_moves.specs.SystemState.{SystemState, Sends}
 use Rattle.ownership_safety.specs.Object.{Invalidates, Acknowledges, Validates, Letter as Said}
 use Rattle.ownership_safety.specs.Moves as moves
 use Rattle.ownership_safety.proofs.Basics.{In-append_left, In-append_right, In-append}
@@ -120,18 +120,18 @@ about-oack x from to e p c ls i =
     let found : (l : Letter) × In l ls × In (Acknowledges from to e p c) (says x l) = about-from x (Acknowledges from to e p c) ls i in
     is-oack x from to e p c found.0 ls (says-from x found.0 (Acknowledges from to e p c) found.2) found.1
 
--- ---- how a change of a scene looks to an object
+-- ---- how a change of a system looks to an object
 
-pub object-entry : (s : Scene) (x n : ℕ) → n < s.config.nodes → (object s x).entry n ≡ entry (s.node n) x
+pub object-entry : (s : SystemState) (x n : ℕ) → n < s.config.nodes → (object s x).entry n ≡ entry (s.node n) x
 unfolding object
 object-entry s x n h = rw (lt-ltb n s.config.nodes h) refl
 
-pub object-gather : (s : Scene) (x n : ℕ) → n < s.config.nodes → (object s x).gather n ≡ gather (s.node n) x
+pub object-gather : (s : SystemState) (x n : ℕ) → n < s.config.nodes → (object s x).gather n ≡ gather (s.node n) x
 unfolding object
 object-gather s x n h = rw (lt-ltb n s.config.nodes h) refl
 
--- the letters of a scene as the object sees them
-pub sends_object : (old new : Scene) (x : ℕ) (allowed : Letter → Type 0) (heard : Said → Type 0)
+-- the letters of a system as the object sees them
+pub sends_object : (old new : SystemState) (x : ℕ) (allowed : Letter → Type 0) (heard : Said → Type 0)
     → Sends old new allowed → ((l : Letter) (m : Said) → allowed l → In m (says x l) → heard m)
     → moves.Sends (object old x) (object new x) heard
 unfolding object

@@ -4,10 +4,10 @@ pub mod ObjectMoves
 pub mod ObjectSteps
 pub mod ObjectSeen
 pub mod ObjectKeeps
-pub mod AboutLines
-pub mod LineMoves
-pub mod LineSeen
-pub mod LineEntries
-pub mod LineKeeps
+pub mod AboutStreams
+pub mod StreamFrames
+pub mod StreamSeen
+pub mod StreamEntries
+pub mod StreamKeeps
 pub mod Start
 pub mod Runs

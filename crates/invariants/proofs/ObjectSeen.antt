@@ -23,11 +23,11 @@ use Rattle.zeus_model.specs.State.{Node, entry, gather, with_gather}
 use Rattle.zeus_model.specs.Membership.{dropped}
 use Rattle.zeus_model.specs.Ownership.{settle, holding, is_source, driven, greater_cause, greater_gather, gather_for, noted, is_decidable, bring}
 use Rattle.zeus_model.specs.declared.state.Gather.{Gather}
-use Rattle.machine_moves.specs.Scene.{Scene, IsLive, IsNumbered, IsReceivable, Changes, NewView, nothing, view}
+use Rattle.machine_moves.specs.SystemState.{SystemState, IsLive, IsNumbered, IsReceivable, Changes, NewView, nothing, view}
 use Rattle.machine_moves.specs.Move.{IsAboutProposal, HasAcked, IsSettling, MayDrive, MayAccept}
 use Rattle.ownership_safety.specs.Object.{Object, Invalidates, Acknowledges, IsSaid, Letter as Said, chain_stamp, place_at, first_stamp}
 use Rattle.ownership_safety.specs.Moves as moves
-use Rattle.ownership_safety.specs.Ordered.{Ordered, IsDecided}
+use Rattle.ownership_safety.specs.OwnershipInvariant.{OwnershipInvariant, IsDecided}
 use Rattle.ownership_safety.proofs.Arbiters.{arbiters-directory, arbiters-source}
 use Rattle.invariants.specs.Objects.{object, about, declared_entry}
 use Rattle.invariants.proofs.AboutObjects.{sends_object, says, says-oinv, says-oack, about-in}
@@ -55,32 +55,32 @@ same_or_not a b = elim (cases_Bool (a == b)) [
 ]
 
 -- a move of a node that the object sees nothing of
-pub sees_nothing : (old new : Scene) (x n : ℕ) (after : Node) (chain : List Proposal) → IsNumbered old → Changes old new n after nothing
+pub sees_nothing : (old new : SystemState) (x n : ℕ) (after : Node) (chain : List Proposal) → IsNumbered old → Changes old new n after nothing
     → IsQuiet (old.node n) after x → Seen (object old x) (object new x) chain
 sees_nothing old new x n after chain numbered c q = told n (quiet_object old new x n after numbered c q.stopped q.epoch q.entry q.gather)
 
 -- a node that says a proposal for another object
-pub sees_other : (old new : Scene) (x y n : ℕ) (p : Proposal) (after : Node) (chain : List Proposal) → IsNumbered old → y ≢ x
+pub sees_other : (old new : SystemState) (x y n : ℕ) (p : Proposal) (after : Node) (chain : List Proposal) → IsNumbered old → y ≢ x
     → Changes old new n after (IsAboutProposal (old.node n) y p) → IsQuiet (old.node n) after x → Seen (object old x) (object new x) chain
 sees_other old new x y n p after chain numbered ne c q =
     told n (tells_object old new x n after (IsAboutProposal (old.node n) y p) numbered c q.stopped q.epoch q.entry q.gather
     (λ l m about i. absurd (about_proposal-other (old.node n) y x p l m ne about i)))
 
-view_sends : (old new : Scene) (x : ℕ) (set : List ℕ) → NewView old new set → moves.Sends (object old x) (object new x) moves.nothing
+view_sends : (old new : SystemState) (x : ℕ) (set : List ℕ) → NewView old new set → moves.Sends (object old x) (object new x) moves.nothing
 view_sends old new x set v = sends_object old new x nothing moves.nothing v.sends (λ l m none i. none)
 
-view_setting : (old new : Scene) (x : ℕ) (set : List ℕ) → NewView old new set
+view_setting : (old new : SystemState) (x : ℕ) (set : List ℕ) → NewView old new set
     → ((object new x).directory ≡ (object old x).directory) × ((object new x).declared ≡ (object old x).declared)
 unfolding object
 view_setting old new x set v = (ap (λ (k : Config). k.directory) v.config, ap (λ (k : Config). (declared_entry k x).place) v.config)
 
-view_views : (old new : Scene) (x : ℕ) (set : List ℕ) → NewView old new set → ((object new x).views ≡ (object old x).views ++ set ∷ [])
+view_views : (old new : SystemState) (x : ℕ) (set : List ℕ) → NewView old new set → ((object new x).views ≡ (object old x).views ++ set ∷ [])
     × (is_subset set (Rattle.ownership_safety.specs.Object.view (object old x) (length (object old x).views)) ≡ true)
     × ((n : ℕ) → (object old x).stopped n ≡ false → has n set ≡ true)
 unfolding object
 view_views old new x set v = (v.views, v.subset, v.live)
 
-view_move : (old new : Scene) (x : ℕ) (set : List ℕ) → NewView old new set → moves.NewView (object old x) (object new x) set
+view_move : (old new : SystemState) (x : ℕ) (set : List ℕ) → NewView old new set → moves.NewView (object old x) (object new x) set
 view_move old new x set v = record {
   directory = (view_setting old new x set v).0;
   declared = (view_setting old new x set v).1;
@@ -95,14 +95,14 @@ view_move old new x set v = record {
   sends = view_sends old new x set v;
 }
 
-pub sees_view : (old new : Scene) (x : ℕ) (chain : List Proposal) (set : List ℕ) → NewView old new set → Seen (object old x) (object new x) chain
+pub sees_view : (old new : SystemState) (x : ℕ) (chain : List Proposal) (set : List ℕ) → NewView old new set → Seen (object old x) (object new x) chain
 sees_view old new x chain set v = viewed set (view_move old new x set v)
 
-stopped_object : (old new : Scene) (x n : ℕ) → (new.node n).stopped ≡ true → (object new x).stopped n ≡ true
+stopped_object : (old new : SystemState) (x n : ℕ) → (new.node n).stopped ≡ true → (object new x).stopped n ≡ true
 unfolding object
 stopped_object old new x n h = h
 
-pub sees_stop : (old new : Scene) (x n : ℕ) (chain : List Proposal) → IsNumbered old → Changes old new n (record (old.node n) { stopped = true }) nothing
+pub sees_stop : (old new : SystemState) (x n : ℕ) (chain : List Proposal) → IsNumbered old → Changes old new n (record (old.node n) { stopped = true }) nothing
     → Seen (object old x) (object new x) chain
 sees_stop old new x n chain numbered c = stopped n record {
   setting = same_setting old new x c.config c.views;
@@ -114,15 +114,15 @@ sees_stop old new x n chain numbered c = stopped n record {
   sends = quiet_sends old new x n (record (old.node n) { stopped = true }) c;
 }
 
-abbrev pub installed_node : Scene → ℕ → ℕ → Node
+abbrev pub installed_node : SystemState → ℕ → ℕ → Node
 installed_node s n e = record (s.node n) { epoch = e; members = view s e; reported = []; gathers = dropped (s.node n).gathers }
 
-install_epochs : (old new : Scene) (x n e : ℕ) → (old.node n).epoch < e → e ≤ length old.views → new.node n ≡ installed_node old n e
+install_epochs : (old new : SystemState) (x n e : ℕ) → (old.node n).epoch < e → e ≤ length old.views → new.node n ≡ installed_node old n e
     → ((object old x).epoch n < e) × (e ≤ length (object old x).views) × ((object new x).epoch n ≡ e)
 unfolding object
 install_epochs old new x n e later within is = (later, within, ap (λ (k : Node). k.epoch) is)
 
-pub sees_install : (old new : Scene) (x n e : ℕ) (chain : List Proposal) → IsNumbered old → (old.node n).epoch < e → e ≤ length old.views
+pub sees_install : (old new : SystemState) (x n e : ℕ) (chain : List Proposal) → IsNumbered old → (old.node n).epoch < e → e ≤ length old.views
     → Changes old new n (installed_node old n e) nothing → Seen (object old x) (object new x) chain
 sees_install old new x n e chain numbered later within c =
     let epochs : ((object old x).epoch n < e) × (e ≤ length (object old x).views) × ((object new x).epoch n ≡ e) =
@@ -149,7 +149,7 @@ unfolding chain_stamp
 chain_stamp-zero chain = refl
 
 -- a decided stamp above the node's own is settled
-pub settled_seen : (old new : Scene) (x n : ℕ) (chain : List Proposal) (stamp : Stamp) (place : Place) → IsNumbered old
+pub settled_seen : (old new : SystemState) (x n : ℕ) (chain : List Proposal) (stamp : Stamp) (place : Place) → IsNumbered old
     → IsDecided (object old x) chain stamp place → is_below (entry (old.node n) x).stamp stamp ≡ true
     → Changes old new n (settle (old.node n) x stamp place) nothing → moves.Settles (object old x) (object new x) chain n stamp.ver
 settled_seen old new x n chain stamp place numbered is above c = record {
@@ -173,31 +173,31 @@ settled_seen old new x n chain stamp place numbered is above c = record {
     later : (t s : Stamp) (chain : List Proposal) → s ≡ chain_stamp chain s.ver → is_below t s ≡ true → 1 ≤ s.ver
     later t s chain e h = nonzero s.ver (λ z. above-first t s h (e ∙ ap (λ (v : ℕ). chain_stamp chain v) z ∙ chain_stamp-zero chain))
 
-settles_here : (old new : Scene) (x n y : ℕ) (chain : List Proposal) (stamp : Stamp) (place : Place) (l : Letter) → IsNumbered old
-    → Ordered (object old x) chain → In l old.letters → IsSettling y stamp place l → is_below (entry (old.node n) y).stamp stamp ≡ true
+settles_here : (old new : SystemState) (x n y : ℕ) (chain : List Proposal) (stamp : Stamp) (place : Place) (l : Letter) → IsNumbered old
+    → OwnershipInvariant (object old x) chain → In l old.letters → IsSettling y stamp place l → is_below (entry (old.node n) y).stamp stamp ≡ true
     → Changes old new n (settle (old.node n) y stamp place) nothing → y ≡ x → Seen (object old x) (object new x) chain
-settles_here old new x n y chain stamp place l numbered ordered i s above c same =
+settles_here old new x n y chain stamp place l numbered ownership i s above c same =
     let s' : IsSettling x stamp place l = subst (λ (k : ℕ). IsSettling k stamp place l) same s in
     let above' : is_below (entry (old.node n) x).stamp stamp ≡ true = subst (λ (k : ℕ). is_below (entry (old.node n) k).stamp stamp ≡ true) same above in
     let c' : Changes old new n (settle (old.node n) x stamp place) nothing = subst (λ (k : ℕ). Changes old new n (settle (old.node n) k stamp place) nothing) same c in
-    let is : IsDecided (object old x) chain stamp place = settling-decided old x chain stamp place l ordered i s' in
+    let is : IsDecided (object old x) chain stamp place = settling-decided old x chain stamp place l ownership i s' in
     settled n stamp.ver (settled_seen old new x n chain stamp place numbered is above' c')
 
-pub sees_settle : (old new : Scene) (x n y : ℕ) (chain : List Proposal) (stamp : Stamp) (place : Place) (l : Letter) → IsNumbered old
-    → Ordered (object old x) chain → IsReceivable old n l → IsSettling y stamp place l → is_below (entry (old.node n) y).stamp stamp ≡ true
+pub sees_settle : (old new : SystemState) (x n y : ℕ) (chain : List Proposal) (stamp : Stamp) (place : Place) (l : Letter) → IsNumbered old
+    → OwnershipInvariant (object old x) chain → IsReceivable old n l → IsSettling y stamp place l → is_below (entry (old.node n) y).stamp stamp ≡ true
     → Changes old new n (settle (old.node n) y stamp place) nothing → Seen (object old x) (object new x) chain
-sees_settle old new x n y chain stamp place l numbered ordered r s above c =
+sees_settle old new x n y chain stamp place l numbered ownership r s above c =
     elim (same_or_not y x) [
       | inr other ↦ sees_nothing old new x n (settle (old.node n) y stamp place) chain numbered c (settle-other (old.node n) y x stamp place above other)
-      | inl same ↦ settles_here old new x n y chain stamp place l numbered ordered r.2 s above c same
+      | inl same ↦ settles_here old new x n y chain stamp place l numbered ownership r.2 s above c same
     ]
 
 -- what a letter to a node says to the object is of the node's epoch
-received : (old : Scene) (x n : ℕ) → (old.node n).epoch ≡ (object old x).epoch n
+received : (old : SystemState) (x n : ℕ) → (old.node n).epoch ≡ (object old x).epoch n
 unfolding object
 received old x n = refl
 
-pub drive_here : (old new : Scene) (n x requester : ℕ) (want : Want) → IsNumbered old → MayDrive old n x requester want
+pub drive_here : (old new : SystemState) (n x requester : ℕ) (want : Want) → IsNumbered old → MayDrive old n x requester want
     → Changes old new n (holding (old.node n) x (driven (old.node n) x requester want)) (IsAboutProposal (old.node n) x (driven (old.node n) x requester want))
     → HasAcked new (old.node n) x (driven (old.node n) x requester want) → moves.Drives (object old x) (object new x) n (driven (old.node n) x requester want)
 drive_here old new n x requester want numbered may c acked = record {
@@ -228,7 +228,7 @@ drive_here old new n x requester want numbered may c acked = record {
     stamp_of : ℕ → ℕ → Stamp
     stamp_of v d = record { ver = v; driver = d }
 
-pub sees_drive : (old new : Scene) (x n y requester : ℕ) (want : Want) (chain : List Proposal) → IsNumbered old → MayDrive old n y requester want
+pub sees_drive : (old new : SystemState) (x n y requester : ℕ) (want : Want) (chain : List Proposal) → IsNumbered old → MayDrive old n y requester want
     → Changes old new n (holding (old.node n) y (driven (old.node n) y requester want)) (IsAboutProposal (old.node n) y (driven (old.node n) y requester want))
     → HasAcked new (old.node n) y (driven (old.node n) y requester want) → Seen (object old x) (object new x) chain
 sees_drive old new x n y requester want chain numbered may c acked =
@@ -249,21 +249,21 @@ greater_cause-none t q (Some r) is h =
       | inr not_above ↦ subst (λ (k : Proposal). is_below t k.stamp ≡ false) same not_above
     ]
 
-accept_arbiter : (old : Scene) (x n : ℕ) (chain : List Proposal) (p : Proposal) → IsNumbered old → IsLive old n → Ordered (object old x) chain
+accept_arbiter : (old : SystemState) (x n : ℕ) (chain : List Proposal) (p : Proposal) → IsNumbered old → IsLive old n → OwnershipInvariant (object old x) chain
     → (has n (old.node n).directory ≡ true) ⊎ (is_source (old.node n) p.base_place ≡ true)
     → has n (arbiters p.base_place (object_view old x n) (object old x).directory) ≡ true
-accept_arbiter old x n chain p numbered live ordered (inl listed) =
+accept_arbiter old x n chain p numbered live ownership (inl listed) =
     let lives : (object old x).stopped n ≡ false = object-live old x n live in
-    let member : has n (object_view old x n) ≡ true = ordered.viewed.live n ((object old x).epoch n) lives (ordered.viewed.epochs n lives) in
+    let member : has n (object_view old x n) ≡ true = ownership.viewed.live n ((object old x).epoch n) lives (ownership.viewed.epochs n lives) in
     let directory : has n (object old x).directory ≡ true = rw (← (actor old x n numbered live).directory) listed in
     arbiters-directory p.base_place (object_view old x n) (object old x).directory n directory member
-accept_arbiter old x n chain p numbered live ordered (inr is) =
+accept_arbiter old x n chain p numbered live ownership (inr is) =
     let found : source p.base_place (old.node n).members ≡ Some (old.node n).me = is_node-some (source p.base_place (old.node n).members) (old.node n).me is in
     let here : source p.base_place (object_view old x n) ≡ Some n =
     rw (← (actor old x n numbered live).members) (found ∙ ap (λ (k : ℕ). Some k) (actor old x n numbered live).me) in
     arbiters-source p.base_place (object_view old x n) (object old x).directory n here
 
-accept_said : (old : Scene) (x n : ℕ) (p : Proposal) (l : Letter) → l.body ≡ OInv x p → IsReceivable old n l → IsSaid (object old x) p ((object old x).epoch n)
+accept_said : (old : SystemState) (x n : ℕ) (p : Proposal) (l : Letter) → l.body ≡ OInv x p → IsReceivable old n l → IsSaid (object old x) p ((object old x).epoch n)
 unfolding object
 accept_said old x n p l body r =
     let says_it : In (Invalidates l.from l.to l.epoch p) (says x l) = rw body (says-oinv x l.from l.to l.epoch p) in
@@ -272,13 +272,13 @@ accept_said old x n p l body r =
     subst (λ (e : ℕ). In (Invalidates l.from l.to e p) (about x old.letters)) r.1 said in
     inl (l.from, l.to, now)
 
-pub accept_here : (old new : Scene) (n x : ℕ) (p : Proposal) (chain : List Proposal) → IsNumbered old → Ordered (object old x) chain → MayAccept old n x p
+pub accept_here : (old new : SystemState) (n x : ℕ) (p : Proposal) (chain : List Proposal) → IsNumbered old → OwnershipInvariant (object old x) chain → MayAccept old n x p
     → Changes old new n (holding (old.node n) x p) (IsAboutProposal (old.node n) x p) → HasAcked new (old.node n) x p
     → moves.Accepts (object old x) (object new x) n p
-accept_here old new n x p chain numbered ordered may c acked = record {
+accept_here old new n x p chain numbered ownership may c acked = record {
   acts = acts_object old new x n (holding (old.node n) x p) (IsAboutProposal (old.node n) x p) c refl refl;
   said = accept_said old x n p may.sent.0 may.sent.1 may.sent.2;
-  arbiter = accept_arbiter old x n chain p numbered c.live ordered may.arbiter;
+  arbiter = accept_arbiter old x n chain p numbered c.live ownership may.arbiter;
   not_below_base = rw before may.not_below_base;
   below = rw before may.below;
   greatest = λ q h. greater_cause-none p.stamp q (entry (old.node n) x).proposal (rw before at h) may.greatest;
@@ -293,17 +293,17 @@ accept_here old new n x p chain numbered ordered may c acked = record {
     before : (object old x).entry n ≡ entry (old.node n) x
     before = entry_before old new x n (holding (old.node n) x p) (IsAboutProposal (old.node n) x p) c numbered
 
-pub sees_accept : (old new : Scene) (x n y : ℕ) (p : Proposal) (chain : List Proposal) → IsNumbered old → Ordered (object old x) chain → MayAccept old n y p
+pub sees_accept : (old new : SystemState) (x n y : ℕ) (p : Proposal) (chain : List Proposal) → IsNumbered old → OwnershipInvariant (object old x) chain → MayAccept old n y p
     → Changes old new n (holding (old.node n) y p) (IsAboutProposal (old.node n) y p)
     → HasAcked new (old.node n) y p → Seen (object old x) (object new x) chain
-sees_accept old new x n y p chain numbered ordered may c acked =
+sees_accept old new x n y p chain numbered ownership may c acked =
     elim (same_or_not y x) [
       | inr other ↦ sees_other old new x y n p (holding (old.node n) y p) chain numbered other c (holding-other (old.node n) y x p other)
       | inl same ↦ subst (λ (k : ℕ). Seen (object old k) (object new k) chain) same
-          (accepted n p (accept_here old new n y p chain numbered (subst (λ (k : ℕ). Ordered (object old k) chain) (sym same) ordered) may c acked))
+          (accepted n p (accept_here old new n y p chain numbered (subst (λ (k : ℕ). OwnershipInvariant (object old k) chain) (sym same) ownership) may c acked))
     ]
 
-pub redrive_here : (old new : Scene) (n x : ℕ) (p : Proposal) → IsNumbered old → (entry (old.node n) x).proposal ≡ Some p
+pub redrive_here : (old new : SystemState) (n x : ℕ) (p : Proposal) → IsNumbered old → (entry (old.node n) x).proposal ≡ Some p
     → Changes old new n (old.node n) (IsAboutProposal (old.node n) x p) → moves.Redrives (object old x) (object new x) n p
 redrive_here old new n x p numbered held c = record {
   acts = acts_object old new x n (old.node n) (IsAboutProposal (old.node n) x p) c refl refl;
@@ -314,7 +314,7 @@ redrive_here old new n x p numbered held c = record {
       (λ l m about i. about_proposal-heard old x n p l m numbered c.live about i);
 }
 
-pub sees_redrive : (old new : Scene) (x n y : ℕ) (p : Proposal) (chain : List Proposal) → IsNumbered old → (entry (old.node n) y).proposal ≡ Some p
+pub sees_redrive : (old new : SystemState) (x n y : ℕ) (p : Proposal) (chain : List Proposal) → IsNumbered old → (entry (old.node n) y).proposal ≡ Some p
     → Changes old new n (old.node n) (IsAboutProposal (old.node n) y p) → Seen (object old x) (object new x) chain
 sees_redrive old new x n y p chain numbered held c =
     elim (same_or_not y x) [
@@ -322,7 +322,7 @@ sees_redrive old new x n y p chain numbered held c =
       | inl same ↦ subst (λ (k : ℕ). Seen (object old k) (object new k) chain) same (redriven n p (redrive_here old new n y p numbered held c))
     ]
 
-gather_said : (old : Scene) (x n from : ℕ) (p : Proposal) (co : Option Content) (l : Letter) → l.body ≡ OAck x p co → l.from ≡ from → IsReceivable old n l
+gather_said : (old : SystemState) (x n from : ℕ) (p : Proposal) (co : Option Content) (l : Letter) → l.body ≡ OAck x p co → l.from ≡ from → IsReceivable old n l
     → In (Acknowledges from n ((object old x).epoch n) p co) (object old x).letters
 unfolding object
 gather_said old x n from p co l body sender r =
@@ -334,10 +334,10 @@ gather_said old x n from p co l body sender r =
     subst (λ (k : ℕ). In (Acknowledges l.from k (old.node n).epoch p co) (about x old.letters)) r.0 now in
     subst (λ (k : ℕ). In (Acknowledges k n (old.node n).epoch p co) (about x old.letters)) sender to_node
 
-abbrev pub noting : Scene → ℕ → ℕ → ℕ → Proposal → Option Content → Node
+abbrev pub noting : SystemState → ℕ → ℕ → ℕ → Proposal → Option Content → Node
 noting s n x from p co = with_gather (s.node n) x (Some (noted (gather_for p (gather (s.node n) x)) from co))
 
-gather_here : (old new : Scene) (n x from : ℕ) (p : Proposal) (co : Option Content) (l : Letter) → IsNumbered old
+gather_here : (old new : SystemState) (n x from : ℕ) (p : Proposal) (co : Option Content) (l : Letter) → IsNumbered old
     → l.body ≡ OAck x p co → l.from ≡ from → IsReceivable old n l
     → is_below (entry (old.node n) x).stamp p.stamp ≡ true → greater_gather p.stamp (gather (old.node n) x) ≡ None
     → Changes old new n (noting old n x from p co) nothing → moves.Notes (object old x) (object new x) n p from co
@@ -353,7 +353,7 @@ gather_here old new n x from p co l numbered body sender r below greatest c = re
   sends = quiet_sends old new x n (noting old n x from p co) c;
 }
 
-pub sees_gather : (old new : Scene) (x n y from : ℕ) (p : Proposal) (co : Option Content) (l : Letter) (chain : List Proposal) → IsNumbered old
+pub sees_gather : (old new : SystemState) (x n y from : ℕ) (p : Proposal) (co : Option Content) (l : Letter) (chain : List Proposal) → IsNumbered old
     → l.body ≡ OAck y p co → l.from ≡ from → IsReceivable old n l
     → is_below (entry (old.node n) y).stamp p.stamp ≡ true → greater_gather p.stamp (gather (old.node n) y) ≡ None
     → Changes old new n (noting old n y from p co) nothing → Seen (object old x) (object new x) chain
@@ -403,13 +403,13 @@ decidable-complete n g h =
       acks = last.1;
     }
 
-abbrev pub deciding : Scene → ℕ → ℕ → Gather → Content → Node
+abbrev pub deciding : SystemState → ℕ → ℕ → Gather → Content → Node
 deciding s n x g co = bring (settle (s.node n) x g.proposal.stamp (new_place g.proposal)) x g.proposal co
 
-pub decide_here : (old new : Scene) (n x : ℕ) (g : Gather) (co : Content) (chain : List Proposal) → IsNumbered old → Ordered (object old x) chain
+pub decide_here : (old new : SystemState) (n x : ℕ) (g : Gather) (co : Content) (chain : List Proposal) → IsNumbered old → OwnershipInvariant (object old x) chain
     → gather (old.node n) x ≡ Some g → is_decidable (old.node n) g ≡ true → g.content ≡ Some co
     → Changes old new n (deciding old n x g co) nothing → moves.Decides (object old x) (object new x) n g
-decide_here old new n x g co chain numbered ordered gathered decidable content c = record {
+decide_here old new n x g co chain numbered ownership gathered decidable content c = record {
   acts = acts_object old new x n (deciding old n x g co) nothing c (quiet.stopped ∙ settle-stopped (old.node n) x g.proposal.stamp (new_place g.proposal))
       (quiet.epoch ∙ settle-epoch (old.node n) x g.proposal.stamp (new_place g.proposal));
   gathered = rw gather_is gathered;
@@ -437,17 +437,17 @@ decide_here old new n x g co chain numbered ordered gathered decidable content c
     gather_is = gather_before old new x n (deciding old n x g co) nothing c numbered
 
     above : is_below (entry (old.node n) x).stamp g.proposal.stamp ≡ true
-    above = rw (← entry_is) (ordered.gathers n g (gather_is ∙ gathered)).above
+    above = rw (← entry_is) (ownership.gathers n g (gather_is ∙ gathered)).above
 
-pub sees_decide : (old new : Scene) (x n y : ℕ) (g : Gather) (co : Content) (chain : List Proposal) → IsNumbered old → Ordered (object old x) chain
+pub sees_decide : (old new : SystemState) (x n y : ℕ) (g : Gather) (co : Content) (chain : List Proposal) → IsNumbered old → OwnershipInvariant (object old x) chain
     → gather (old.node n) y ≡ Some g → is_decidable (old.node n) g ≡ true → g.content ≡ Some co
     → Changes old new n (deciding old n y g co) nothing → Seen (object old x) (object new x) chain
-sees_decide old new x n y g co chain numbered ordered gathered decidable content c =
+sees_decide old new x n y g co chain numbered ownership gathered decidable content c =
     elim (same_or_not y x) [
       | inr other ↦ sees_nothing old new x n (deciding old n y g co) chain numbered c
           (quiet-then (old.node n) (settle (old.node n) y g.proposal.stamp (new_place g.proposal)) (deciding old n y g co) x
           (settle-away (old.node n) y x g.proposal.stamp (new_place g.proposal) other)
           (bring-quiet (settle (old.node n) y g.proposal.stamp (new_place g.proposal)) y x g.proposal co))
       | inl same ↦ subst (λ (k : ℕ). Seen (object old k) (object new k) chain) same
-          (decided n g (decide_here old new n y g co chain numbered (subst (λ (k : ℕ). Ordered (object old k) chain) (sym same) ordered) gathered decidable content c))
+          (decided n g (decide_here old new n y g co chain numbered (subst (λ (k : ℕ). OwnershipInvariant (object old k) chain) (sym same) ownership) gathered decidable content c))
     ]

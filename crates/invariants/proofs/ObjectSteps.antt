@@ -19,11 +19,11 @@ use Rattle.zeus_model.specs.Act.{letter}
 use Rattle.zeus_model.specs.State.{Node, entry, copy, holder}
 use Rattle.zeus_model.specs.Ownership.{is_node, is_source, own_content, content_of, unready_cause, missing_cause, held_cause, state_cause}
 use Rattle.zeus_model.specs.declared.state.Copy.{Copy}
-use Rattle.machine_moves.specs.Scene.{Scene, IsLive, IsNumbered}
+use Rattle.machine_moves.specs.SystemState.{SystemState, IsLive, IsNumbered}
 use Rattle.machine_moves.specs.Move.{IsTellable, IsAboutProposal, HasAcked, request, advice, placement, reported, own_entry, kept_entry, stored, own_passed, kept_passed, to_arbiter, to_collector, IsSettling, by_invalidation, by_acknowledgement, by_decision}
 use Rattle.ownership_safety.specs.Object.{Object, Invalidates, Acknowledges, Validates, Letter as Said, chain_stamp, place_at, first_stamp}
 use Rattle.ownership_safety.specs.Moves as moves
-use Rattle.ownership_safety.specs.Ordered.{Ordered, IsDecided, IsProposal}
+use Rattle.ownership_safety.specs.OwnershipInvariant.{OwnershipInvariant, IsDecided, IsProposal}
 use Rattle.invariants.specs.Objects.{object, about, said_of}
 use Rattle.invariants.proofs.AboutObjects.{says, says-oinv, says-oack, says-oval, about-in, only_about-from}
 use Rattle.invariants.proofs.ObjectMoves.{TellsPlace}
@@ -91,13 +91,13 @@ content-as_source n x place ready =
     ]
 
 -- what is known of the node that acts
-pub record IsActor (old : Scene) (x n : ℕ) : Type 0 where
+pub record IsActor (old : SystemState) (x n : ℕ) : Type 0 where
   pub me : (old.node n).me ≡ n
   pub directory : (old.node n).directory ≡ (object old x).directory
   pub members : (old.node n).members ≡ Rattle.ownership_safety.specs.Object.view (object old x) ((object old x).epoch n)
   pub epoch : (object old x).epoch n ≡ (old.node n).epoch
 
-pub actor : (old : Scene) (x n : ℕ) → IsNumbered old → IsLive old n → IsActor old x n
+pub actor : (old : SystemState) (x n : ℕ) → IsNumbered old → IsLive old n → IsActor old x n
 unfolding object
 actor old x n numbered live = record {
   me = numbered.me n live;
@@ -107,11 +107,11 @@ actor old x n numbered live = record {
 }
 
 -- the members that the object knows of the node's epoch
-abbrev pub object_view : Scene → ℕ → ℕ → List ℕ
+abbrev pub object_view : SystemState → ℕ → ℕ → List ℕ
 object_view s x n = Rattle.ownership_safety.specs.Object.view (object s x) ((object s x).epoch n)
 
 -- a node's letters about a proposal are invalidations to arbiters and acknowledgements to the collector
-pub about_proposal-heard : (old : Scene) (x n : ℕ) (p : Proposal) (l : Letter) (m : Said) → IsNumbered old → IsLive old n
+pub about_proposal-heard : (old : SystemState) (x n : ℕ) (p : Proposal) (l : Letter) (m : Said) → IsNumbered old → IsLive old n
     → IsAboutProposal (old.node n) x p l → In m (says x l) → moves.IsAboutProposal (object old x) n p m
 unfolding said_of
 about_proposal-heard old x n p l m numbered live (to_arbiter to h) i =
@@ -133,7 +133,7 @@ about_proposal-heard old x n p l m numbered live (to_collector to h ready) i =
     rw (found.1, same) (inr (moves.to_collector to c requester content))
 
 -- the acknowledgement is among the letters about the object
-pub acked-heard : (old new : Scene) (x n : ℕ) (p : Proposal) → IsNumbered old → IsLive old n → HasAcked new (old.node n) x p
+pub acked-heard : (old new : SystemState) (x n : ℕ) (p : Proposal) → IsNumbered old → IsLive old n → HasAcked new (old.node n) x p
     → (to : ℕ) × (c : Option Content) × In (Acknowledges n to ((object old x).epoch n) p c) (object new x).letters
 unfolding object
 acked-heard old new x n p numbered live acked =
@@ -151,16 +151,16 @@ unfolding is_below
 above-first t s h first = let low : is_below t first_stamp ≡ true = rw first at h in grind (arith, nat_tests, low)
 
 -- the letter that a node settles by tells a decided placement
-pub settling-decided : (old : Scene) (x : ℕ) (chain : List Proposal) (stamp : Stamp) (place : Place) (l : Letter)
-    → Ordered (object old x) chain → In l old.letters → IsSettling x stamp place l → IsDecided (object old x) chain stamp place
+pub settling-decided : (old : SystemState) (x : ℕ) (chain : List Proposal) (stamp : Stamp) (place : Place) (l : Letter)
+    → OwnershipInvariant (object old x) chain → In l old.letters → IsSettling x stamp place l → IsDecided (object old x) chain stamp place
 unfolding object
-settling-decided old x chain stamp place l ordered i (by_invalidation from to e p base at_place) =
+settling-decided old x chain stamp place l ownership i (by_invalidation from to e p base at_place) =
     let said : In (Invalidates from to e p) (about x old.letters) = about-in x (Invalidates from to e p) l old.letters i (says-oinv x from to e p) in
-    let is : IsProposal (object old x) chain p = ordered.proposals p e (inl (from, to, said)) in
+    let is : IsProposal (object old x) chain p = ownership.proposals p e (inl (from, to, said)) in
     rw (← base, ← at_place) record { ver = is.decided; stamp = is.base; place = is.base_place }
-settling-decided old x chain stamp place l ordered i (by_acknowledgement from to e p c base at_place) =
+settling-decided old x chain stamp place l ownership i (by_acknowledgement from to e p c base at_place) =
     let said : In (Acknowledges from to e p c) (about x old.letters) = about-in x (Acknowledges from to e p c) l old.letters i (says-oack x from to e p c) in
-    let is : IsProposal (object old x) chain p = ordered.proposals p e (inr (from, (to, c, said))) in
+    let is : IsProposal (object old x) chain p = ownership.proposals p e (inr (from, (to, c, said))) in
     rw (← base, ← at_place) record { ver = is.decided; stamp = is.base; place = is.base_place }
-settling-decided old x chain stamp place l ordered i (by_decision from to e) =
-    ordered.told stamp place (about-in x (Validates stamp place) l old.letters i (says-oval x from to e stamp place))
+settling-decided old x chain stamp place l ownership i (by_decision from to e) =
+    ownership.told stamp place (about-in x (Validates stamp place) l old.letters i (says-oval x from to e stamp place))

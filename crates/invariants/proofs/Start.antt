@@ -17,19 +17,19 @@ use Rattle.zeus_model.specs.Tables.{nth, below, numbers_from}
 use Rattle.zeus_model.specs.State.{Node, Slot, StreamLog, no_entry, no_slot, no_log, entry, gather, slot, log}
 use Rattle.zeus_model.specs.World.{no_node, start, start_node, start_entry, start_gather}
 use Rattle.zeus_model.specs.declared.state.Kept.{Kept}
-use Rattle.machine_moves.specs.Scene.{scene, all_of}
+use Rattle.machine_moves.specs.SystemState.{system, all_of}
 use Rattle.machine_moves.specs.Move.{own_kept}
 use Rattle.machine_moves.proofs.Lists.{In-nothing, nth-past, nth-map_numbers, length-map_numbers, nth-replicate, has-numbers_from}
 use Rattle.ownership_safety.specs.Kept.{IsStart}
 use Rattle.ownership_safety.specs.Object.{first_stamp}
-use Rattle.ownership_safety.specs.Ordered.{IsPlaced}
-use Rattle.ownership_safety.proofs.Start.{start-ordered}
-use Rattle.replication_safety.specs.Start.{IsStart as IsLineStart}
-use Rattle.replication_safety.proofs.Start.{start-Replicated}
+use Rattle.ownership_safety.specs.OwnershipInvariant.{IsPlaced}
+use Rattle.ownership_safety.proofs.Start.{start-ownership}
+use Rattle.replication_safety.specs.Start.{IsStart as IsStreamStart}
+use Rattle.replication_safety.proofs.Start.{start-Replication}
 use Rattle.invariants.specs.Objects.{object, about, declared_entry, no_object}
-use Rattle.invariants.specs.Lines.{line, done_of, kept_of, about as about_stream}
+use Rattle.invariants.specs.Streams.{stream_state, done_of, kept_of, about as about_stream}
 use Rattle.invariants.proofs.ObjectKeeps.{IsInOrder}
-use Rattle.invariants.proofs.LineKeeps.{IsKept}
+use Rattle.invariants.proofs.StreamKeeps.{IsKept}
 
 -- ---- nothing was sent
 
@@ -54,26 +54,26 @@ unfolding all_of
 no_letters zero n = refl
 no_letters (suc m) n = all_of-append (replicate n (nothing_of Letter)) (all_of (replicate m (replicate n (nothing_of Letter)))) ∙ rw (all_of-empty {A = Letter} n, no_letters m n) refl
 
-pub start_letters : (c : Config) (txs : List TxDecl) → (scene (start c txs)).letters ≡ []
-unfolding scene start nothing_of
+pub start_letters : (c : Config) (txs : List TxDecl) → (system (start c txs)).letters ≡ []
+unfolding system start nothing_of
 start_letters c txs = no_letters c.nodes c.nodes
 
 -- ---- the nodes at the start
 
-pub start_inside : (c : Config) (txs : List TxDecl) (n : ℕ) → n < c.nodes → (scene (start c txs)).node n ≡ start_node c n
-unfolding scene start
+pub start_inside : (c : Config) (txs : List TxDecl) (n : ℕ) → n < c.nodes → (system (start c txs)).node n ≡ start_node c n
+unfolding system start
 start_inside c txs n h = nth-map_numbers no_node (start_node c) 0 c.nodes n h ∙ ap (λ (k : ℕ). start_node c k) (zero_plus n)
 
-pub start_outside : (c : Config) (txs : List TxDecl) (n : ℕ) → c.nodes ≤ n → (scene (start c txs)).node n ≡ no_node
-unfolding scene start
+pub start_outside : (c : Config) (txs : List TxDecl) (n : ℕ) → c.nodes ≤ n → (system (start c txs)).node n ≡ no_node
+unfolding system start
 start_outside c txs n h = nth-past no_node (map (start_node c) (below c.nodes)) n (omega (arith, length-map_numbers (start_node c) 0 c.nodes, h))
 
-pub start_config : (c : Config) (txs : List TxDecl) → ((scene (start c txs)).config ≡ c) × ((scene (start c txs)).views ≡ below c.nodes ∷ [])
-unfolding scene start
+pub start_config : (c : Config) (txs : List TxDecl) → ((system (start c txs)).config ≡ c) × ((system (start c txs)).views ≡ below c.nodes ∷ [])
+unfolding system start
 start_config c txs = (refl, refl)
 
 -- a live node is one of the configuration
-pub start_within : (c : Config) (txs : List TxDecl) (n : ℕ) → ((scene (start c txs)).node n).stopped ≡ false → n < c.nodes
+pub start_within : (c : Config) (txs : List TxDecl) (n : ℕ) → ((system (start c txs)).node n).stopped ≡ false → n < c.nodes
 start_within c txs n live =
     elim (cases_lt n c.nodes) [
       | inl within ↦ within
@@ -123,7 +123,7 @@ declared_placed c x keeps h =
     let is : KeepsDeclaration c.version c.nodes (nth no_object c.objects x) = All-nth (KeepsDeclaration c.version c.nodes) no_object c.objects x keeps.declared h in
     record { owner = is.own_copy; rising = is.rising }
 
-object_entry : (c : Config) (txs : List TxDecl) (x n : ℕ) → x < length c.objects → (object (scene (start c txs)) x).entry n ≡ declared_entry c x
+object_entry : (c : Config) (txs : List TxDecl) (x n : ℕ) → x < length c.objects → (object (system (start c txs)) x).entry n ≡ declared_entry c x
 unfolding object
 object_entry c txs x n h =
     rw (start_config c txs).0 (elim (cases_lt n c.nodes) [
@@ -131,7 +131,7 @@ object_entry c txs x n h =
       | inr past ↦ let not_less : nat_lt n c.nodes ≡ false = grind (arith, nat_tests) in rw not_less refl
     ])
 
-object_gather : (c : Config) (txs : List TxDecl) (x n : ℕ) → (object (scene (start c txs)) x).gather n ≡ None
+object_gather : (c : Config) (txs : List TxDecl) (x n : ℕ) → (object (system (start c txs)) x).gather n ≡ None
 unfolding object
 object_gather c txs x n =
     rw (start_config c txs).0 (elim (cases_lt n c.nodes) [
@@ -139,26 +139,26 @@ object_gather c txs x n =
       | inr past ↦ let not_less : nat_lt n c.nodes ≡ false = grind (arith, nat_tests) in rw not_less refl
     ])
 
-start_epoch : (c : Config) (txs : List TxDecl) (n : ℕ) → n < c.nodes → ((scene (start c txs)).node n).epoch ≡ 1
+start_epoch : (c : Config) (txs : List TxDecl) (n : ℕ) → n < c.nodes → ((system (start c txs)).node n).epoch ≡ 1
 unfolding start_node
 start_epoch c txs n h = ap (λ (k : Node). k.epoch) (start_inside c txs n h)
 
 -- what the object knows of its standing at the start
 pub object_standing : (c : Config) (txs : List TxDecl) (x : ℕ)
-    → ((object (scene (start c txs)) x).views ≡ below c.nodes ∷ []) × ((object (scene (start c txs)) x).declared ≡ (declared_entry c x).place)
-    × ((object (scene (start c txs)) x).letters ≡ [])
+    → ((object (system (start c txs)) x).views ≡ below c.nodes ∷ []) × ((object (system (start c txs)) x).declared ≡ (declared_entry c x).place)
+    × ((object (system (start c txs)) x).letters ≡ [])
 unfolding object about
 object_standing c txs x =
     ((start_config c txs).1, ap (λ (k : Config). (declared_entry k x).place) (start_config c txs).0, rw (start_letters c txs) refl)
 
-object_live : (c : Config) (txs : List TxDecl) (x n : ℕ) → (object (scene (start c txs)) x).stopped n ≡ false
-    → ((object (scene (start c txs)) x).epoch n ≡ 1) × (has n (below c.nodes) ≡ true)
+object_live : (c : Config) (txs : List TxDecl) (x n : ℕ) → (object (system (start c txs)) x).stopped n ≡ false
+    → ((object (system (start c txs)) x).epoch n ≡ 1) × (has n (below c.nodes) ≡ true)
 unfolding object
 object_live c txs x n live =
     let within : n < c.nodes = start_within c txs n live in
     (start_epoch c txs n within, has-numbers_from n 0 c.nodes (omega arith) (omega arith))
 
-pub begins_object : (c : Config) (txs : List TxDecl) (x : ℕ) → KeepsLimits c → x < length c.objects → IsStart (object (scene (start c txs)) x)
+pub begins_object : (c : Config) (txs : List TxDecl) (x : ℕ) → KeepsLimits c → x < length c.objects → IsStart (object (system (start c txs)) x)
 begins_object c txs x keeps h =
     let standing = object_standing c txs x in
     record {
@@ -174,8 +174,8 @@ begins_object c txs x keeps h =
     }
 
 -- an object at the start
-pub start_object : (c : Config) (txs : List TxDecl) (x : ℕ) → KeepsLimits c → x < length c.objects → IsInOrder (object (scene (start c txs)) x)
-start_object c txs x keeps h = ([], start-ordered (object (scene (start c txs)) x) (begins_object c txs x keeps h))
+pub start_object : (c : Config) (txs : List TxDecl) (x : ℕ) → KeepsLimits c → x < length c.objects → IsInOrder (object (system (start c txs)) x)
+start_object c txs x keeps h = ([], start-ownership (object (system (start c txs)) x) (begins_object c txs x keeps h))
 
 -- ---- streams
 
@@ -219,24 +219,24 @@ nothing_kept n t k s l = (
     either_list true z = refl
     either_list false z = refl
 
-pub kept_at_start : (c : Config) (txs : List TxDecl) (t : Stream) (n : ℕ) → ((line (scene (start c txs)) t).done n ≡ 0) × ((line (scene (start c txs)) t).kept n ≡ [])
-unfolding line
+pub kept_at_start : (c : Config) (txs : List TxDecl) (t : Stream) (n : ℕ) → ((stream_state (system (start c txs)) t).done n ≡ 0) × ((stream_state (system (start c txs)) t).kept n ≡ [])
+unfolding stream_state
 kept_at_start c txs t n =
     elim (cases_lt n c.nodes) [
       | inl within ↦ rw (start_inside c txs n within) (nothing_kept (start_node c n) t n (start_slots c n t.slot) (start_logs c n t))
       | inr past ↦ rw (start_outside c txs n past) (nothing_kept no_node t n (nowhere_slots t.slot) (nowhere_logs t))
     ]
 
-epoch_bounded : (c : Config) (txs : List TxDecl) (n : ℕ) → ((scene (start c txs)).node n).epoch ≤ 1
+epoch_bounded : (c : Config) (txs : List TxDecl) (n : ℕ) → ((system (start c txs)).node n).epoch ≤ 1
 epoch_bounded c txs n =
     elim (cases_lt n c.nodes) [
       | inl within ↦ let first = start_epoch c txs n within in omega arith
       | inr past ↦ rw (start_outside c txs n past) (omega arith)
     ]
 
-pub begins_line : (c : Config) (txs : List TxDecl) (t : Stream) → IsLineStart (line (scene (start c txs)) t)
-unfolding line about_stream nth
-begins_line c txs t =
+pub begins_stream : (c : Config) (txs : List TxDecl) (t : Stream) → IsStreamStart (stream_state (system (start c txs)) t)
+unfolding stream_state about_stream nth
+begins_stream c txs t =
     record {
       unsaid = λ x i. In-nothing x (rw (start_letters c txs) at i);
       one_view = ap (λ (vs : List (List ℕ)). length vs) (start_config c txs).1;
@@ -249,5 +249,5 @@ begins_line c txs t =
     }
 
 -- a stream at the start
-pub start_line : (c : Config) (txs : List TxDecl) (t : Stream) → IsKept (line (scene (start c txs)) t)
-start_line c txs t = (0, start-Replicated (line (scene (start c txs)) t) (begins_line c txs t))
+pub start_stream : (c : Config) (txs : List TxDecl) (t : Stream) → IsKept (stream_state (system (start c txs)) t)
+start_stream c txs t = (0, start-Replication (stream_state (system (start c txs)) t) (begins_stream c txs t))

@@ -1,3 +1,3 @@
 pub mod Objects
-pub mod Lines
+pub mod Streams
 pub mod Protocol

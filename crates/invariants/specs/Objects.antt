@@ -1,4 +1,4 @@
--- One object of a scene, as the ownership protocol sees it.
+-- One object of a system, as the ownership protocol sees it.
 use Rattle.std.specs.Prelude.{ℕ, ◌==◌, nat_lt, List, [], ◌∷◌, ◌++◌, None, if◌then◌else◌}
 use Rattle.zeus_base.specs.declared.config.Config.{Config}
 use Rattle.zeus_base.specs.declared.config.ObjectDecl.{ObjectDecl}
@@ -10,7 +10,7 @@ use Rattle.zeus_model.specs.Tables.{nth}
 use Rattle.zeus_model.specs.State.{entry, gather}
 use Rattle.zeus_model.specs.World.{start_entry}
 use Rattle.zeus_model.specs.declared.state.Entry.{Entry}
-use Rattle.machine_moves.specs.Scene.{Scene}
+use Rattle.machine_moves.specs.SystemState.{SystemState}
 use Rattle.ownership_safety.specs.Object.{Object, Invalidates, Acknowledges, Validates, Letter as Said}
 
 abbrev pub no_object : ObjectDecl
@@ -35,8 +35,8 @@ unfoldable pub about : ℕ → List Letter → List Said
 about x [] = []
 about x (l ∷ ls) = said_of x l.from l.to l.epoch l.body ++ about x ls
 
--- the object of a scene; the nodes that it has not stand at the declared placement for good
-unfoldable pub object : Scene → ℕ → Object
+-- the object of a system; the nodes that it has not stand at the declared placement for good
+unfoldable pub object : SystemState → ℕ → Object
 object s x =
     record {
       directory = s.config.directory;

@@ -15,7 +15,7 @@ use Rattle.zeus_model.specs.Local.{begin, try_slot}
 use Rattle.zeus_model.specs.Membership.{install, tick, stop}
 use Rattle.zeus_model.specs.Receive.{receive}
 use Rattle.zeus_model.specs.Book.{Book, BookChange, no_record, record_of, counted, unchanged, change_then, book_tried, book_passes, in_stream_order}
-use Rattle.zeus_model.specs.World.{start_node, no_tx, cut, book_begun}
+use Rattle.zeus_model.specs.World.{start_node, no_tx, first_64, book_begun}
 use Rattle.live_model.specs.Items.{Stamped, Job, Sight, travels}
 
 -- what a cell does in one event, with the item that it took from a ring for it
@@ -69,7 +69,7 @@ pub record Core : Type 0 where
 
 -- a row's answer as that of a step, with the letters that a step sends
 abbrev pub answered : {A : Type 0} → (A → Answer) → Did A → Did Answer
-answered f d = record { node = d.node; answer = f d.answer; sent = cut d.sent; passed = d.passed }
+answered f d = record { node = d.node; answer = f d.answer; sent = first_64 d.sent; passed = d.passed }
 
 -- likewise where a step sends no letters
 abbrev pub answered_quietly : {A : Type 0} → (A → Answer) → Did A → Did Answer

@@ -87,8 +87,8 @@ pass_tx-both (Some id) txs me b q a own =
     let c = (point_once b id p).book in
     let d = (point_once q id r).book in
     let agree : Agrees txs me c d = point_once-cell r txs me id c q (point_once-world p txs me id b q a) in
-    let story = agree.own id (own id refl) in
-    let n = ack_once-both (record_of c id).acked (record_of d id).acked txs me id c d agree (own id refl) story.acked in
+    let run_state = agree.own id (own id refl) in
+    let n = ack_once-both (record_of c id).acked (record_of d id).acked txs me id c d agree (own id refl) run_state.acked in
     record { books = n.books; acked = rw (point_once-acked p id b, point_once-acked r id q) n.acked }
 
 -- an entry of another node's stream, in the world: at most a point
@@ -134,15 +134,15 @@ entry_other s number n e h ne = no_entry_of (is_entry s number e) refl
 tx_of-same : (txs : List TxDecl) (me : ℕ) (b q : Book) (s : Stream) (number : ℕ) → Agrees txs me b q → s.node ≡ me → tx_of b s number ≡ tx_of q s number
 tx_of-same txs me b q s number a own =
     tx_from-same s number 0 b.records q.records (λ i. elim (cases_eq (declared txs i).node me) [
-      | inl mine ↦ let story = a.own i mine in ap (λ (e : Option EntryId). is_entry s number e) story.entry
+      | inl mine ↦ let run_state = a.own i mine in ap (λ (e : Option EntryId). is_entry s number e) run_state.entry
       | inr other ↦ entry_other s number (declared txs i).node _ (a.entries i) (λ is. other (is ∙ own)) ∙ sym (entry_none s number _ (a.others i other))
     ])
 
 tx_of-foreign : (txs : List TxDecl) (me : ℕ) (b q : Book) (s : Stream) (number : ℕ) → Agrees txs me b q → s.node ≢ me → tx_of q s number ≡ None
 tx_of-foreign txs me b q s number a foreign =
     tx_from-none s number 0 q.records (λ i. elim (cases_eq (declared txs i).node me) [
-      | inl mine ↦ let story = a.own i mine in
-          entry_other s number me _ (λ x is. a.entries i x (story.entry ∙ is) ∙ mine) (λ is. foreign (sym is))
+      | inl mine ↦ let run_state = a.own i mine in
+          entry_other s number me _ (λ x is. a.entries i x (run_state.entry ∙ is) ∙ mine) (λ is. foreign (sym is))
       | inr other ↦ entry_none s number _ (a.others i other)
     ])
 

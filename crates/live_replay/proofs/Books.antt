@@ -9,19 +9,19 @@ use Rattle.zeus_model.specs.Tables.{nth, put}
 use Rattle.zeus_model.specs.Book.{EntryId, TxRecord, no_record, is_entry, tx_from}
 use Rattle.machine_moves.proofs.Lists.{nth-put_same, nth-put_other}
 use Rattle.live_model.specs.Cell.{declared}
-use Rattle.live_replay.specs.Replayed.{SameStory}
+use Rattle.live_replay.specs.Replayed.{SameRun}
 
-pub same-refl : (r : TxRecord) → SameStory r r
+pub same-refl : (r : TxRecord) → SameRun r r
 same-refl r = record { begun = refl; entry = refl; reply = refl; acked = refl; refused = refl }
 
 -- the entry, if there is one, is of a stream of this node
 abbrev pub EntryOf : ℕ → TxRecord → Type 0
 EntryOf n r = (e : EntryId) → r.entry ≡ Some e → e.stream.node ≡ n
 
--- the world's records and those of the cell: the same stories of the node's transactions; in the cell no entry of any other; in the
+-- the world's records and those of the cell: the same runs of the node's transactions; in the cell no entry of any other; in the
 -- world the entries of each transaction's own node
 pub record Agree (txs : List TxDecl) (me : ℕ) (bs qs : List TxRecord) : Type 0 where
-  pub own : (k : ℕ) → (declared txs k).node ≡ me → SameStory (nth no_record bs k) (nth no_record qs k)
+  pub own : (k : ℕ) → (declared txs k).node ≡ me → SameRun (nth no_record bs k) (nth no_record qs k)
   pub others : (k : ℕ) → (declared txs k).node ≢ me → (nth no_record qs k).entry ≡ None
   pub entries : (k : ℕ) → EntryOf (declared txs k).node (nth no_record bs k)
 
@@ -37,7 +37,7 @@ at_put P rs i r k new old =
 
 -- in both, that of a transaction of the node
 pub both-change : (txs : List TxDecl) (me : ℕ) (bs qs : List TxRecord) (i : ℕ) (f g : TxRecord → TxRecord) → Agree txs me bs qs → (declared txs i).node ≡ me
-    → ((r q : TxRecord) → SameStory r q → SameStory (f r) (g q)) → ((r : TxRecord) → EntryOf me r → EntryOf me (f r))
+    → ((r q : TxRecord) → SameRun r q → SameRun (f r) (g q)) → ((r : TxRecord) → EntryOf me r → EntryOf me (f r))
     → Agree txs me (put no_record bs i (f (nth no_record bs i))) (put no_record qs i (g (nth no_record qs i)))
 both-change txs me bs qs i f g a own same entry =
     record {
@@ -50,9 +50,9 @@ both-change txs me bs qs i f g a own same entry =
           (subst (λ (n : ℕ). EntryOf n (f (nth no_record bs i))) (sym own) (entry _ (subst (λ (n : ℕ). EntryOf n (nth no_record bs i)) own (a.entries i)))) (a.entries k);
     }
 
--- in the world alone, where the node's transactions keep their stories
+-- in the world alone, where the node's transactions keep their runs
 pub world-change : (txs : List TxDecl) (me : ℕ) (bs qs : List TxRecord) (i : ℕ) (r : TxRecord) → Agree txs me bs qs
-    → ((declared txs i).node ≡ me → SameStory r (nth no_record bs i)) → EntryOf (declared txs i).node r → Agree txs me (put no_record bs i r) qs
+    → ((declared txs i).node ≡ me → SameRun r (nth no_record bs i)) → EntryOf (declared txs i).node r → Agree txs me (put no_record bs i r) qs
 world-change txs me bs qs i r a same entry =
     record {
       own = λ k mine. elim (cases_eq k i) [
@@ -63,18 +63,18 @@ world-change txs me bs qs i r a same entry =
       entries = λ k. at_put (λ j s. EntryOf (declared txs j).node s) bs i r k entry (a.entries k);
     }
   where
-    same_then : {p q s : TxRecord} → SameStory p q → SameStory q s → SameStory p s
+    same_then : {p q s : TxRecord} → SameRun p q → SameRun q s → SameRun p s
     same_then h g = record { begun = h.begun ∙ g.begun; entry = h.entry ∙ g.entry; reply = h.reply ∙ g.reply; acked = h.acked ∙ g.acked; refused = h.refused ∙ g.refused }
 
 -- in the cell alone, where nothing changes but the point
 pub cell-change : (txs : List TxDecl) (me : ℕ) (bs qs : List TxRecord) (i : ℕ) (r : TxRecord) → Agree txs me bs qs
-    → SameStory (nth no_record qs i) r → Agree txs me bs (put no_record qs i r)
+    → SameRun (nth no_record qs i) r → Agree txs me bs (put no_record qs i r)
 cell-change txs me bs qs i r a same =
     record {
       own = λ k mine. elim (cases_eq k i) [
         | inl is ↦ let h = a.own k mine in
             rw (is, nth-put_same no_record qs i r)
-            (let g : SameStory (nth no_record bs i) (nth no_record qs i) = rw is at h in
+            (let g : SameRun (nth no_record bs i) (nth no_record qs i) = rw is at h in
             record { begun = g.begun ∙ same.begun; entry = g.entry ∙ same.entry; reply = g.reply ∙ same.reply; acked = g.acked ∙ same.acked; refused = g.refused ∙ same.refused })
         | inr other ↦ rw (nth-put_other no_record qs i k r other) (a.own k mine)
       ];

@@ -29,7 +29,7 @@ use Rattle.live_replay.specs.Replayed.{IsMissed}
 use Rattle.live_replay.proofs.Causes.{tx-fits}
 use Rattle.live_replay.proofs.LiveRuns.{run-more, live-more, count_of-more, IsKnownWorld, live-known}
 use Rattle.live_replay.proofs.Replay.{three_none, where_false}
-use Rattle.machine_moves.specs.Scene.{scene}
+use Rattle.machine_moves.specs.SystemState.{system}
 
 -- what a drive keeps: its steps go on a live run, and lead to its world; it has ended only where all transactions are closed
 pub record IsGoing (p : Plan) (before : List Step) (g : Going) : Type 0 where
@@ -296,7 +296,7 @@ not_below : (n : ℕ) → nat_lt n n ≡ false
 not_below n = false_from_ne_true (nat_lt n n) (λ less. let h : n < n = ltb-true n n less in absurd (omega arith))
 
 install-may : (p : Plan) (w : World) (stopped : Bool) (n : ℕ) → IsKnownWorld p w stopped → n < p.config.nodes → is_live w n ≡ true → (node w n).epoch < length w.views → MayOffer p w stopped (Install n (length w.views))
-unfolding StepFits is_stop needs_stop happens scene
+unfolding StepFits is_stop needs_stop happens system
 install-may p w stopped n k there live older =
     let r = k.reached in
     let u = r.usual in

@@ -6,7 +6,7 @@ use Rattle.std.proofs.lemmas.List.{length-map}
 use Rattle.zeus_base.specs.declared.config.Config.{Config}
 use Rattle.zeus_base.specs.declared.step.Step.{Step}
 use Rattle.zeus_model.specs.Tables.{numbers_from}
-use Rattle.machine_moves.specs.Scene.{all_of}
+use Rattle.machine_moves.specs.SystemState.{all_of}
 use Rattle.live_model.specs.Items.{travels}
 use Rattle.live_model.specs.Cell.{CellEvent, Kill, is_halt, IsEmpty, HaltsOnly, halt_of, halts}
 use Rattle.live_model.specs.Service.{ServiceEvent, HaltsFit, halts_taken}

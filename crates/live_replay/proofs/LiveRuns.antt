@@ -20,7 +20,7 @@ use Rattle.zeus_model.specs.Local.{try_slot}
 use Rattle.zeus_model.specs.Membership.{tick}
 use Rattle.zeus_model.specs.World.{World, Event, no_node, node, tx_decl, link, last_view, begin_refused, begin_or_not, step_begin, tried_at, nth_letter, deliver_or_not, received_at, ticked_at, stopped_at, view_refused, view_or_not, step_install, installed_at, refuse_step, happens, stepped, run, start, start_node}
 use Rattle.machine_moves.specs.Fits.{StepFits}
-use Rattle.machine_moves.specs.Scene.{scene}
+use Rattle.machine_moves.specs.SystemState.{system}
 use Rattle.machine_moves.proofs.Lists.{nth-put_same, nth-put_other}
 use Rattle.machine_moves.proofs.Links.{In-from_link, nth_letter-In, HasEnds}
 use Rattle.machine_moves.proofs.Receiving.{receive-answered}
@@ -121,35 +121,35 @@ stopped-put w n k m h =
     ]
 
 quiet-begin : (o : Option Answer) (w : World) (k : ℕ) → IsUsual w → Quiet w (begin_or_not w k o).world
-unfolding begin_or_not scene
+unfolding begin_or_not system
 quiet-begin (Some a) w k u = quiet-refused w a
 quiet-begin None w k u =
     let t = tx_decl w k in
-    let r = begin-answered (scene w) t.node t.slot k 0 t.tx u.steady in
+    let r = begin-answered (system w) t.node t.slot k 0 t.tx u.steady in
     let keeps = r.keeps in
     record { config = refl; declared = refl; views = refl; stopped = λ n. stopped-put w t.node n _ keeps.stopped }
 
 quiet-try : (w : World) (n s : ℕ) → IsUsual w → s < w.config.slots → Quiet w (tried_at w n s (try_slot (node w n) s)).world
-unfolding tried_at scene
+unfolding tried_at system
 quiet-try w n s u less =
-    let r = try_slot-answered (scene w) n s 64 u.steady less in
+    let r = try_slot-answered (system w) n s 64 u.steady less in
     let keeps = r.keeps in
     record { config = refl; declared = refl; views = refl; stopped = λ k. stopped-put w n k _ keeps.stopped }
 
 quiet-deliver : (o : Option Letter) (w : World) (sender receiver i : ℕ) → IsUsual w → nth_letter (link w.links sender receiver) i ≡ o → Quiet w (deliver_or_not w sender receiver o).world
-unfolding deliver_or_not received_at scene HasEnds
+unfolding deliver_or_not received_at system HasEnds
 quiet-deliver None w sender receiver i u is = quiet-refused w (NoPacket (length (link w.links sender receiver)))
 quiet-deliver (Some l) w sender receiver i u is =
     let at = nth_letter-In (link w.links sender receiver) i l is in
     let ends = u.ends in
-    let r = receive-answered (scene w) receiver 64 l u.steady (In-from_link w.links l record { from = sender; to = receiver; is = at }) (ends sender receiver l at).1 u.few (omega arith) in
+    let r = receive-answered (system w) receiver 64 l u.steady (In-from_link w.links l record { from = sender; to = receiver; is = at }) (ends sender receiver l at).1 u.few (omega arith) in
     let keeps = r.keeps in
     record { config = refl; declared = refl; views = refl; stopped = λ k. stopped-put w receiver k _ keeps.stopped }
 
 quiet-tick : (w : World) (n : ℕ) → IsUsual w → Quiet w (ticked_at w n (tick (node w n))).world
-unfolding ticked_at scene
+unfolding ticked_at system
 quiet-tick w n u =
-    let r = tick-answered (scene w) n 64 u.steady in
+    let r = tick-answered (system w) n 64 u.steady in
     let keeps = r.keeps in
     record { config = refl; declared = refl; views = refl; stopped = λ k. stopped-put w n k _ keeps.stopped }
 

@@ -4,7 +4,7 @@ use Rattle.std.proofs.Common.{arith, refl, sym, ap, ◌∙◌, inl, inr, append_
 use Rattle.std.proofs.lemmas.List.{length-map}
 use Rattle.std.proofs.lemmas.Bool.{cond_both, ltb-true, ltb-false}
 use Rattle.zeus_model.specs.In.{In, here, there}
-use Rattle.machine_moves.specs.Scene.{all_of}
+use Rattle.machine_moves.specs.SystemState.{all_of}
 use Rattle.machine_moves.proofs.Lists.{In-nothing, In-append, In-append_left, In-append_right}
 use Rattle.live_replay.specs.Parts.{part}
 use Rattle.live_replay.specs.Replayed.{Rises}

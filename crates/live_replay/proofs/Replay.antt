@@ -141,8 +141,8 @@ noted-acked p es past t future w j i m at less noted =
     let here_acked = noted-early n p.config p.txs noted.client (turn_clock t) (start_core n p.config p.txs) (cell_part n past) (cell_part n (t ∷ future)) noted.note
     (at.late n) (omega arith) noted.acked split in
     let agree = m.books n noted.there in
-    let story = agree.own i refl in
-    story.acked ∙ subst (λ (x : ℕ). is_some (record_of (core_of p.config p.txs n past).book x).acked ≡ true) noted.tx here_acked
+    let run_state = agree.own i refl in
+    run_state.acked ∙ subst (λ (x : ℕ). is_some (record_of (core_of p.config p.txs n past).book x).acked ≡ true) noted.tx here_acked
 
 -- what holds at the events of a cell
 pub record AtCell (p : Plan) (k : Cluster) (es : Events) (past : List Turn) (me : ℕ) (e : CellEvent) (future : List Turn) (w : World) : Type 0 where
@@ -186,9 +186,9 @@ unfolding begin_refused entry_of
 finds-begin p k es past me e future w j a began fresh less seen =
     let m = a.mirrors in
     let agree = m.books me a.there in
-    let story = agree.own j.tx fresh.own in
+    let run_state = agree.own j.tx fresh.own in
     let core = core_of p.config p.txs me past in
-    let unbegun : is_some (record_of w.book j.tx).begun ≡ false = story.begun ∙ none_some (record_of core.book j.tx).begun fresh.new in
+    let unbegun : is_some (record_of w.book j.tx).begun ≡ false = run_state.begun ∙ none_some (record_of core.book j.tx).begun fresh.new in
     let live : core.node.stopped ≡ false = begun-live core.node _ _ _ fresh.begun in
     let running : (node w (declared w.txs j.tx).node).stopped ≡ false =
     rw (m.declared, fresh.own) (ap (λ (n : Node). n.stopped) (m.nodes me a.there) ∙ live) in

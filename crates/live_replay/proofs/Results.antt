@@ -21,7 +21,7 @@ use Rattle.live_model.specs.Service.{views_made, ServiceEvent}
 use Rattle.live_model.specs.Cluster.{Plan, Cluster, Events, IsThere, IsFront}
 use Rattle.live_model.specs.Merge.{Turn, cell_turn, service_turn, entry_of, turn_step, turn_clock, turns, merged}
 use Rattle.live_replay.specs.Parts.{cell_part, service_part}
-use Rattle.live_replay.specs.Replayed.{IsLive, world_after, core_of, given, acknowledged, IsMissed, SameStory, Rises}
+use Rattle.live_replay.specs.Replayed.{IsLive, world_after, core_of, given, acknowledged, IsMissed, SameRun, Rises}
 use Rattle.live_replay.proofs.Causes.{after-noted}
 use Rattle.live_replay.proofs.Mirrors.{Mirrors}
 use Rattle.live_replay.proofs.Orders.{turns-order, merged-turns}
@@ -180,13 +180,13 @@ replay-views p k es h =
     m.views ∙ (ap (λ (zs : List ServiceEvent). views_made p.config zs) (replay-service p k es h) ∙ sym service.views)
 
 pub replay-book : (p : Plan) (k : Cluster) (es : Events) (n id : ℕ) → IsLive p k es → n < p.config.nodes → (declared p.txs id).node ≡ n
-    → SameStory (record_of (run (start p.config p.txs) (merged p.config k)).book id) (record_of ((k.cells n).core).book id)
+    → SameRun (record_of (run (start p.config p.txs) (merged p.config k)).book id) (record_of ((k.cells n).core).book id)
 replay-book p k es n id h less own =
     let m = whole-mirrors p k es h in
     let cluster = h.cluster in
     let cell = cluster.cells n less in
     let agree = m.books n less in
-    subst (λ (b : Book). SameStory (record_of (run (start p.config p.txs) (merged p.config k)).book id) (record_of b id))
+    subst (λ (b : Book). SameRun (record_of (run (start p.config p.txs) (merged p.config k)).book id) (record_of b id))
     (ap (λ (zs : List CellEvent). (core n p.config p.txs zs).book) (replay-cells p k es n h less) ∙ ap (λ (c : Core). c.book) (sym cell.core))
     (agree.own id own)
 

@@ -28,7 +28,7 @@ use Rattle.zeus_model.specs.declared.state.Kept.{Kept}
 use Rattle.zeus_model.specs.State.{Node, next_number, slot, log, entry}
 use Rattle.zeus_model.specs.Act.{Act, Did, still, just, sends, did_then, and_then, in_turn, letter, to_each}
 use Rattle.zeus_model.specs.Tables.{below}
-use Rattle.zeus_model.specs.Commit.{next_kept, pass_own, pass_kept, advance_own_by, advance_own, advance_kept_by, advance_kept, raise, stored_rinv, on_rinv, on_own_rack, on_kept_rack, on_rack, on_rval, outside, report, finish}
+use Rattle.zeus_model.specs.Commit.{next_kept, pass_own, pass_kept, advance_own_by, advance_own, advance_kept_by, advance_kept, raise, stored_rinv, on_rinv, on_own_rack, on_kept_rack, on_rack, on_rval, outside, report_recovered, finish}
 use Rattle.zeus_model.specs.Ownership.{takes_over, hold_cause, collect_cause, settle, answer_request, on_oreq, rebased, advice, hold_or_refuse, oinv_on_base, on_oinv, bring, decide_on, decide_gathered, decide, take_ack, gather_or_older, collect_or_refuse, oack_on_base, on_oack, on_oval}
 use Rattle.zeus_model.specs.Receive.{on_recovered, row, receive_or_not, receive}
 use Rattle.zeus_model.specs.Local.{Hindrance, Missing, Unready, begin_free, begin, ask, read_missing, read_row, invalidation, committed, commit_entry, commit, write_row, try_current, try_slot}
@@ -133,8 +133,8 @@ own-advance_kept : (n : Node) (s : Stream) → IsOwnAct n.me (advance_kept n s)
 unfolding advance_kept
 own-advance_kept n s = own-advance_kept_by n s _
 
-own-report : (n : Node) → IsOwnAct n.me (report n)
-unfolding report
+own-report : (n : Node) → IsOwnAct n.me (report_recovered n)
+unfolding report_recovered
 own-report n =
     if_holds (λ (a : Act). IsOwnAct n.me a) _ _ _ (record { node = refl; sent = from-to_each n (without n.me n.members) Recovered }) (own-still n)
 
@@ -143,9 +143,9 @@ unfolding finish
 own-finish n =
     own-and_then n.me (in_turn advance_own n (below (length n.slots))) _
     (own-in_turn n.me advance_own n (below (length n.slots)) refl (λ m s is. at_number (λ me k. IsOwnAct me (advance_own k s)) n.me (λ k. own-advance_own k s) m is))
-    (λ m is. own-and_then n.me (in_turn advance_kept m (outside m)) report
+    (λ m is. own-and_then n.me (in_turn advance_kept m (outside m)) report_recovered
     (own-in_turn n.me advance_kept m (outside m) is (λ k s same. at_number (λ me j. IsOwnAct me (advance_kept j s)) n.me (λ j. own-advance_kept j s) k same))
-    (λ k same. at_number (λ me j. IsOwnAct me (report j)) n.me own-report k same))
+    (λ k same. at_number (λ me j. IsOwnAct me (report_recovered j)) n.me own-report k same))
 
 own-then_finish : {A : Type 0} (me : ℕ) (d : Did A) → IsOwn me d → IsOwn me (did_then d finish)
 own-then_finish me d h = own-did_then me d finish h (λ m is. at_number (λ k j. IsOwnAct k (finish j)) me own-finish m is)

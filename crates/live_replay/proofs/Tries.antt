@@ -13,65 +13,65 @@ use Rattle.zeus_model.specs.State.{Node, slot}
 use Rattle.zeus_model.specs.Act.{Did, just}
 use Rattle.zeus_model.specs.Local.{Hindrance, Missing, Unready, read_missing, read_row, full_cause, owner_cause, held_elsewhere, holder_cause, worn_cause, write_cause, commit_entry, commit, write_row, try_current, try_slot, begin}
 use Rattle.zeus_model.specs.Membership.{install, stop, tick}
-use Rattle.zeus_model.specs.Receive.{untaken, receive_or_not, receive}
+use Rattle.zeus_model.specs.Receive.{rejection, receive_or_not, receive}
 use Rattle.live_model.specs.Cell.{Deed, Began, Tried as TriedDeed, Took, Ticked, Halted, Saw, declared, does}
 use Rattle.live_replay.proofs.BookSteps.{TriesOwn}
 use Rattle.zeus_model.specs.declared.answer.Stop.TheVariants.{Stopped as StopStopped, Done}
 
 -- ---- causes against a write transaction name no transaction
 
-unfoldable IsBare : Tried → Type 0
-IsBare (Committed id number reply) = ⊥
-IsBare (Read id reply) = ⊥
-IsBare (NoCopy id x) = ⊥
-IsBare _ = Unit {0}
+unfoldable IsUntouched : Tried → Type 0
+IsUntouched (Committed id number reply) = ⊥
+IsUntouched (Read id reply) = ⊥
+IsUntouched (NoCopy id x) = ⊥
+IsUntouched _ = Unit {0}
 
-unfoldable AreBare : Option Tried → Type 0
-AreBare None = Unit {0}
-AreBare (Some t) = IsBare t
+unfoldable AreUntouched : Option Tried → Type 0
+AreUntouched None = Unit {0}
+AreUntouched (Some t) = IsUntouched t
 
-bare-or_else : (a b : Option Tried) → AreBare a → AreBare b → AreBare (or_else a b)
+untouched-or_else : (a b : Option Tried) → AreUntouched a → AreUntouched b → AreUntouched (or_else a b)
 unfolding or_else
-bare-or_else None b h g = g
-bare-or_else (Some t) b h g = h
+untouched-or_else None b h g = g
+untouched-or_else (Some t) b h g = h
 
-bare-where_true : (test : Bool) (t : Tried) → IsBare t → AreBare (where_true test t)
-unfolding where_true AreBare
-bare-where_true true t h = h
-bare-where_true false t h = tt
+untouched-where_true : (test : Bool) (t : Tried) → IsUntouched t → AreUntouched (where_true test t)
+unfolding where_true AreUntouched
+untouched-where_true true t h = h
+untouched-where_true false t h = tt
 
-bare-first_of : (f : ℕ → Option Tried) (xs : List ℕ) → ((x : ℕ) → AreBare (f x)) → AreBare (first_of f xs)
-unfolding first_of AreBare
-bare-first_of f [] h = tt
-bare-first_of f (x ∷ xs) h = bare-or_else (f x) (first_of f xs) (h x) (bare-first_of f xs h)
+untouched-first_of : (f : ℕ → Option Tried) (xs : List ℕ) → ((x : ℕ) → AreUntouched (f x)) → AreUntouched (first_of f xs)
+unfolding first_of AreUntouched
+untouched-first_of f [] h = tt
+untouched-first_of f (x ∷ xs) h = untouched-or_else (f x) (first_of f xs) (h x) (untouched-first_of f xs h)
 
-bare-held : (o : Option ℕ) (s x : ℕ) → AreBare (held_elsewhere s x o)
-unfolding held_elsewhere AreBare IsBare
-bare-held None s x = tt
-bare-held (Some other) s x = bare-where_true (not (other == s)) (Held x other) tt
+untouched-held : (o : Option ℕ) (s x : ℕ) → AreUntouched (held_elsewhere s x o)
+unfolding held_elsewhere AreUntouched IsUntouched
+untouched-held None s x = tt
+untouched-held (Some other) s x = untouched-where_true (not (other == s)) (Held x other) tt
 
-bare-write_cause : (n : Node) (s : ℕ) (tx : List Op) → AreBare (write_cause n s tx)
-unfolding write_cause full_cause owner_cause holder_cause worn_cause AreBare IsBare
-bare-write_cause n s tx =
-    bare-or_else _ _ (bare-where_true _ PipeFull tt)
-    (bare-or_else _ _ (bare-first_of _ (named tx) (λ x. bare-where_true _ (NotOwner x) tt))
-    (bare-or_else _ _ (bare-first_of _ (named tx) (λ x. bare-held _ s x))
-    (bare-or_else _ _ (bare-where_true _ WornOut tt) (bare-first_of _ (written tx) (λ x. bare-where_true _ WornOut tt)))))
+untouched-write_cause : (n : Node) (s : ℕ) (tx : List Op) → AreUntouched (write_cause n s tx)
+unfolding write_cause full_cause owner_cause holder_cause worn_cause AreUntouched IsUntouched
+untouched-write_cause n s tx =
+    untouched-or_else _ _ (untouched-where_true _ PipeFull tt)
+    (untouched-or_else _ _ (untouched-first_of _ (named tx) (λ x. untouched-where_true _ (NotOwner x) tt))
+    (untouched-or_else _ _ (untouched-first_of _ (named tx) (λ x. untouched-held _ s x))
+    (untouched-or_else _ _ (untouched-where_true _ WornOut tt) (untouched-first_of _ (written tx) (λ x. untouched-where_true _ WornOut tt)))))
 
 -- ---- tries
 
-bare-own : (t : Tried) (txs : List TxDecl) (n : ℕ) → IsBare t → TriesOwn txs n t
-unfolding IsBare TriesOwn
-bare-own (Committed id number reply) txs n h = absurd h
-bare-own (Read id reply) txs n h = absurd h
-bare-own (NoCopy id x) txs n h = absurd h
-bare-own _ txs n h = tt
+untouched-own : (t : Tried) (txs : List TxDecl) (n : ℕ) → IsUntouched t → TriesOwn txs n t
+unfolding IsUntouched TriesOwn
+untouched-own (Committed id number reply) txs n h = absurd h
+untouched-own (Read id reply) txs n h = absurd h
+untouched-own (NoCopy id x) txs n h = absurd h
+untouched-own _ txs n h = tt
 
-own-write_row : (cause : Option Tried) (n : Node) (s : ℕ) (c : Current) (txs : List TxDecl) (me : ℕ) → AreBare cause → (declared txs c.id).node ≡ me → TriesOwn txs me (write_row n s c cause).answer
-unfolding write_row commit commit_entry AreBare TriesOwn
-own-write_row None n s c txs me bare own = own
-own-write_row (Some (NotOwner x)) n s c txs me bare own = tt
-own-write_row (Some other) n s c txs me bare own = bare-own other txs me bare
+own-write_row : (cause : Option Tried) (n : Node) (s : ℕ) (c : Current) (txs : List TxDecl) (me : ℕ) → AreUntouched cause → (declared txs c.id).node ≡ me → TriesOwn txs me (write_row n s c cause).answer
+unfolding write_row commit commit_entry AreUntouched TriesOwn
+own-write_row None n s c txs me untouched own = own
+own-write_row (Some (NotOwner x)) n s c txs me untouched own = tt
+own-write_row (Some other) n s c txs me untouched own = untouched-own other txs me untouched
 
 own-read_missing : (degree : Option ℕ) (n : Node) (s : ℕ) (c : Current) (x : ℕ) (txs : List TxDecl) (me : ℕ) → (declared txs c.id).node ≡ me → TriesOwn txs me (read_missing n s c x degree).answer
 unfolding read_missing TriesOwn
@@ -94,7 +94,7 @@ unfolding try_current TriesOwn
 own-try_current None n s txs me own = tt
 own-try_current (Some c) n s txs me own =
     if_holds (λ (d : Did Tried). TriesOwn txs me d.answer) (is_write c.tx) _ _
-    (own-write_row _ n s c txs me (bare-write_cause n s c.tx) (own c refl)) (own-read_row _ n s c txs me (own c refl))
+    (own-write_row _ n s c txs me (untouched-write_cause n s c.tx) (own c refl)) (own-read_row _ n s c txs me (own c refl))
 
 -- the transaction that a try's answer names is the slot's current one, and so one of its node
 pub own-try_slot : (n : Node) (s : ℕ) (txs : List TxDecl) (me : ℕ) → ((c : Current) → (slot n s).current ≡ Some c → (declared txs c.id).node ≡ me)
@@ -106,7 +106,7 @@ own-try_slot n s txs me own =
 -- ---- a stopped node
 
 receive-stopped : (n : Node) (l : Letter) → n.stopped ≡ true → (receive n l).node.stopped ≡ true
-unfolding receive receive_or_not untaken or_else where_true
+unfolding receive receive_or_not rejection or_else where_true
 receive-stopped n l is = rw is refl
 
 pub does-stopped : (txs : List TxDecl) (n : Node) (deed : Deed) → n.stopped ≡ true → (does txs n deed).node.stopped ≡ true

@@ -49,7 +49,7 @@ IsMissed (NoView count) = Unit {0}
 IsMissed _ = ⊥
 
 -- two records of one transaction, which may differ in its point and in the numbers of steps
-pub record SameStory (r q : TxRecord) : Type 0 where
+pub record SameRun (r q : TxRecord) : Type 0 where
   pub begun : is_some r.begun ≡ is_some q.begun
   pub entry : r.entry ≡ q.entry
   pub reply : r.reply ≡ q.reply

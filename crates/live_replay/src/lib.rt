@@ -20,7 +20,7 @@ ghost use Rattle.live_model.specs.Cluster.{Cluster, Events, IsFront, IsThere, Pl
 ghost use Rattle.live_model.specs.Ends.{ClientId, answers};
 ghost use Rattle.live_model.specs.Merge.{Turn, cell_turn, merged, turn_clock, turn_step, turns};
 ghost use Rattle.live_replay.specs.Parts.{cell_part, service_part};
-ghost use Rattle.live_replay.specs.Replayed.{IsLive, IsMissed, Rises, SameStory, acknowledged, given, world_after};
+ghost use Rattle.live_replay.specs.Replayed.{IsLive, IsMissed, Rises, SameRun, acknowledged, given, world_after};
 
 /// The merge of the journals is a run of the machine, in which each cell, each client and the service see what they saw.
 ///
@@ -72,7 +72,7 @@ pub fn merged_journals_are_a_run()
         → link (run (start p.config p.txs) (merged p.config k)).links sender receiver ≡ map (λ (q : Stamped). q.letter) (sends sender p.config p.txs receiver (es.cells sender)) }
     // A transaction is begun, entered, acknowledged and refused just where the book of its node's cell says so, with its reply.
     ensures books { (p : Plan) (k : Cluster) (es : Events) (n id : ℕ) → IsLive p k es → n < p.config.nodes → (declared p.txs id).node ≡ n
-        → SameStory (record_of (run (start p.config p.txs) (merged p.config k)).book id) (record_of ((k.cells n).core).book id) }
+        → SameRun (record_of (run (start p.config p.txs) (merged p.config k)).book id) (record_of ((k.cells n).core).book id) }
     // So a transaction is closed there just where the cells have it closed, and all are just where all are.
     ensures closed { (p : Plan) (k : Cluster) (es : Events) (id : ℕ) → IsLive p k es
         → is_closed (run (start p.config p.txs) (merged p.config k)) id ≡ closed_at_home p k id }

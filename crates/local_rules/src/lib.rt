@@ -11,4 +11,6 @@ mod writes;
 pub use begins::begin;
 pub use node_state::{Effect, NodeState};
 pub use tries::try_slot;
+pub use zeus_base::{SlotId, TxId};
 pub use zeus_model::{Begin, Tried};
+pub use zeus_txn::Tx;

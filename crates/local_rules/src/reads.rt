@@ -20,7 +20,8 @@ pub(crate) fn read(
 ) -> Tried
     requires slot { slot < length node.old.slots }
     requires sent { length out.old.sent ≤ 64 }
-    ensures { (n : Node) (h : IsReadTried n slot id tried node.old) → IsDone (read_row n slot (record { id = id; tx = h.tx }) (hindrance n h.tx)) result node.new out.old out.new }
+    ensures { (n : Node) (h : IsReadTried n slot id tried node.old)
+        → IsDone (read_row n slot (record { id = id; tx = h.tx }) (hindrance n h.tx)) result node.new out.old out.new }
 {
     match tried {
         ReadTry::NoCopy(object) => read_missing(node, slot, id, object, out),
@@ -42,7 +43,8 @@ fn read_missing(
 ) -> Tried
     requires slot { slot < length node.old.slots }
     requires sent { length out.old.sent ≤ 64 }
-    ensures { (tx : List Op) → (slot_of node.old slot).current ≡ Some (record { id = id; tx = tx }) → IsDone (read_missing node.old slot (record { id = id; tx = tx }) object node.old.degree) result node.new out.old out.new }
+    ensures { (tx : List Op) → (slot_of node.old slot).current ≡ Some (record { id = id; tx = tx })
+        → IsDone (read_missing node.old slot (record { id = id; tx = tx }) object node.old.degree) result node.new out.old out.new }
 {
     match node.degree() {
         None => node.set_current(slot, None),

@@ -23,7 +23,8 @@ pub(crate) fn write(
     requires slot { slot < length node.old.slots }
     requires sent { length out.old.sent ≤ 64 }
     requires passed { length out.old.passed < 72 }
-    ensures { (n : Node) (h : IsWriteTried n slot id tried node.old) → IsDone (write_row n slot (record { id = id; tx = h.tx }) (write_cause n slot h.tx)) result node.new out.old out.new }
+    ensures { (n : Node) (h : IsWriteTried n slot id tried node.old)
+        → IsDone (write_row n slot (record { id = id; tx = h.tx }) (write_cause n slot h.tx)) result node.new out.old out.new }
 {
     match tried {
         WriteTry::PipeFull => Tried::PipeFull,

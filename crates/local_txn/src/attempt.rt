@@ -52,11 +52,15 @@ pub fn try_write(
     requires objects { All (λ x. x < length copies.old.copies) (named tx.now) }
     requires places { length dir.now.entries ≡ length copies.old.copies }
     requires holds { AreNamed slot copies.old.holds pipe.old.pending }
-    ensures answer { (n : Node) → IsNodeOf me dir.now.entries copies.old slot pipe.old n → tried_as id result ≡ (write_row n slot (record { id = id; tx = tx.now }) (write_cause n slot tx.now)).answer }
-    ensures copies { (n : Node) → IsNodeOf me dir.now.entries copies.old slot pipe.old n → copies.new.copies ≡ (after_try n slot (record { id = id; tx = tx.now }) (write_cause n slot tx.now)).copies }
-    ensures pending { (n : Node) → IsNodeOf me dir.now.entries copies.old slot pipe.old n → pipe.new.pending ≡ (slot_of (after_try n slot (record { id = id; tx = tx.now }) (write_cause n slot tx.now)) slot).pending }
+    ensures answer { (n : Node) → IsNodeOf me dir.now.entries copies.old slot pipe.old n
+        → tried_as id result ≡ (write_row n slot (record { id = id; tx = tx.now }) (write_cause n slot tx.now)).answer }
+    ensures copies { (n : Node) → IsNodeOf me dir.now.entries copies.old slot pipe.old n
+        → copies.new.copies ≡ (after_try n slot (record { id = id; tx = tx.now }) (write_cause n slot tx.now)).copies }
+    ensures pending { (n : Node) → IsNodeOf me dir.now.entries copies.old slot pipe.old n
+        → pipe.new.pending ≡ (slot_of (after_try n slot (record { id = id; tx = tx.now }) (write_cause n slot tx.now)) slot).pending }
     ensures done { pipe.new.done ≡ pipe.old.done }
-    ensures holds { (n : Node) → IsNodeOf me dir.now.entries copies.old slot pipe.old n → copies.new.holds ≡ holds_after slot copies.old.holds tx.now (write_cause n slot tx.now) }
+    ensures holds { (n : Node) → IsNodeOf me dir.now.entries copies.old slot pipe.old n
+        → copies.new.holds ≡ holds_after slot copies.old.holds tx.now (write_cause n slot tx.now) }
     ensures named { AreNamed slot copies.new.holds pipe.new.pending }
     ensures others { (t : ℕ) (ps : List Pending) → t ≢ slot → AreNamed t copies.old.holds ps → AreNamed t copies.new.holds ps }
     ensures objects { length copies.new.copies ≡ length copies.old.copies }

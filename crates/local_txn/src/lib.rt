@@ -11,3 +11,5 @@ pub use attempt::{WriteTry, try_write};
 pub use commit_pipeline::Pipe;
 pub use object_table::Copies;
 pub use owner_entry::Dir;
+pub use zeus_base::{NodeId, ObjId, SlotId, TxId};
+pub use zeus_txn::{Reply, Tx};

@@ -24,7 +24,7 @@ use Rattle.zeus_model.specs.State.{Node, entry, gather, with_copy, with_gather}
 use Rattle.zeus_model.specs.Act.{Act, Did, just, still, letter}
 use Rattle.zeus_model.specs.Ownership.{settle, settled_entry, answer_settled, takes_over, rebased, is_decidable, brought, bring, decide_with, decide_on, decide_gathered, decide, gather_for, greater_gather, noted, take_ack, gather_or_older, collect_cause, collect_or_refuse, oack_on_base, on_oack, on_oval}
 use Rattle.zeus_model.specs.Receive.{on_recovered}
-use Rattle.machine_moves.specs.Scene.{Scene}
+use Rattle.machine_moves.specs.SystemState.{SystemState}
 use Rattle.machine_moves.specs.Move.{placement, IsTellable, settles, gathers, decides, hears, IsSettling, by_acknowledgement, by_decision}
 use Rattle.machine_moves.specs.Plain.{IsPlain}
 use Rattle.machine_moves.proofs.Lists.{nth-put_same}
@@ -61,7 +61,7 @@ decision_telling m x p c below =
     let keeps = Keeps-decided m x p c in
     to_each-each (IsTellable after) m (without m.me m.members) (OVal x p.stamp (new_place p)) (λ to _. placement_as after m to x p.stamp (new_place p) keeps.me keeps.epoch (ap (λ (e : Entry). e.stamp) is) (ap (λ (e : Entry). e.place) is))
 
-decides_reached : (s : Scene) (n k x : ℕ) (g : Gather) (c : Content) → IsReady s n → gather (s.node n) x ≡ Some g → is_decidable (s.node n) g ≡ true → g.content ≡ Some c → is_below (entry (s.node n) x).stamp g.proposal.stamp ≡ true → Reached s n k (decide_with (s.node n) x g.proposal c)
+decides_reached : (s : SystemState) (n k x : ℕ) (g : Gather) (c : Content) → IsReady s n → gather (s.node n) x ≡ Some g → is_decidable (s.node n) g ≡ true → g.content ≡ Some c → is_below (entry (s.node n) x).stamp g.proposal.stamp ≡ true → Reached s n k (decide_with (s.node n) x g.proposal c)
 unfolding IsPlain
 decides_reached s n k x g c ready is decidable content below =
     let m = s.node n in
@@ -70,12 +70,12 @@ decides_reached s n k x g c ready is decidable content below =
     (plain_reaches s n after ready.live (Keeps-decided m x g.proposal c) (λ ch. decides n x g c is decidable content ch) (λ _. tt))
     (decision_telling m x g.proposal c below)
 
-decide_on-reached : (content : Option Content) (s : Scene) (n k x : ℕ) (g : Gather) → IsReady s n → gather (s.node n) x ≡ Some g → is_decidable (s.node n) g ≡ true → g.content ≡ content → is_below (entry (s.node n) x).stamp g.proposal.stamp ≡ true → Reached s n k (decide_on (s.node n) x g.proposal content)
+decide_on-reached : (content : Option Content) (s : SystemState) (n k x : ℕ) (g : Gather) → IsReady s n → gather (s.node n) x ≡ Some g → is_decidable (s.node n) g ≡ true → g.content ≡ content → is_below (entry (s.node n) x).stamp g.proposal.stamp ≡ true → Reached s n k (decide_on (s.node n) x g.proposal content)
 unfolding decide_on
 decide_on-reached None s n k x g ready is decidable content below = cut_none s n (s.node n) k (still_reaches s n)
 decide_on-reached (Some c) s n k x g ready is decidable content below = decides_reached s n k x g c ready is decidable content below
 
-decide_gathered-reached : (s : Scene) (n k x : ℕ) (g : Gather) → IsReady s n → gather (s.node n) x ≡ Some g → is_below (entry (s.node n) x).stamp g.proposal.stamp ≡ true → Reached s n k (decide_gathered (s.node n) x (Some g))
+decide_gathered-reached : (s : SystemState) (n k x : ℕ) (g : Gather) → IsReady s n → gather (s.node n) x ≡ Some g → is_below (entry (s.node n) x).stamp g.proposal.stamp ≡ true → Reached s n k (decide_gathered (s.node n) x (Some g))
 unfolding decide_gathered
 decide_gathered-reached s n k x g ready is below =
     let m = s.node n in
@@ -92,11 +92,11 @@ gather_for-stamp p (Some g) =
     cond_both (same_stamp g.proposal.stamp p.stamp) g record { proposal = p; acks = []; content = None } (λ (h : Gather). h.proposal.stamp ≡ p.stamp)
     (λ same. same_stamp-true g.proposal.stamp p.stamp same) (λ _. refl)
 
-decide-reached : (s : Scene) (n k x : ℕ) (g : Gather) → IsReady s n → gather (s.node n) x ≡ Some g → is_below (entry (s.node n) x).stamp g.proposal.stamp ≡ true → Reached s n k (decide x (s.node n))
+decide-reached : (s : SystemState) (n k x : ℕ) (g : Gather) → IsReady s n → gather (s.node n) x ≡ Some g → is_below (entry (s.node n) x).stamp g.proposal.stamp ≡ true → Reached s n k (decide x (s.node n))
 decide-reached s n k x g ready is below =
     subst (λ (o : Option Gather). Reached s n k (decide_gathered (s.node n) x o)) (sym is) (decide_gathered-reached s n k x g ready is below)
 
-takes_ack : (s : Scene) (n from k x : ℕ) (p : Proposal) (c : Option Content) → IsReady s n → Received s n from (OAck x p c) → is_below (entry (s.node n) x).stamp p.stamp ≡ true → greater_gather p.stamp (gather (s.node n) x) ≡ None → Answered s n k (take_ack (s.node n) from x c (gather_for p (gather (s.node n) x)))
+takes_ack : (s : SystemState) (n from k x : ℕ) (p : Proposal) (c : Option Content) → IsReady s n → Received s n from (OAck x p c) → is_below (entry (s.node n) x).stamp p.stamp ≡ true → greater_gather p.stamp (gather (s.node n) x) ≡ None → Answered s n k (take_ack (s.node n) from x c (gather_for p (gather (s.node n) x)))
 unfolding take_ack IsPlain
 takes_ack s n from k x p c ready got below none =
     let m = s.node n in
@@ -110,18 +110,18 @@ takes_ack s n from k x p c ready got below none =
     (λ is higher. decide-reached t n k x g rt is higher)
     (nth-put_same None m.gathers x (Some g)) above)
 
-gather_or_older-answered : (older : Option Stamp) (s : Scene) (n from k x : ℕ) (p : Proposal) (c : Option Content) → IsReady s n → Received s n from (OAck x p c) → is_below (entry (s.node n) x).stamp p.stamp ≡ true → greater_gather p.stamp (gather (s.node n) x) ≡ older → Answered s n k (gather_or_older (s.node n) from x p c older)
+gather_or_older-answered : (older : Option Stamp) (s : SystemState) (n from k x : ℕ) (p : Proposal) (c : Option Content) → IsReady s n → Received s n from (OAck x p c) → is_below (entry (s.node n) x).stamp p.stamp ≡ true → greater_gather p.stamp (gather (s.node n) x) ≡ older → Answered s n k (gather_or_older (s.node n) from x p c older)
 unfolding gather_or_older
 gather_or_older-answered None s n from k x p c ready got below is = takes_ack s n from k x p c ready got below is
 gather_or_older-answered (Some stamp) s n from k x p c ready got below is = cut_none s n (s.node n) k (still_reaches s n)
 
-collect_or_refuse-answered : (cause : Option Cause) (s : Scene) (n from k x : ℕ) (p : Proposal) (c : Option Content) → IsReady s n → Received s n from (OAck x p c) → is_below (entry (s.node n) x).stamp p.stamp ≡ true → Answered s n k (collect_or_refuse (s.node n) from x p c cause)
+collect_or_refuse-answered : (cause : Option Cause) (s : SystemState) (n from k x : ℕ) (p : Proposal) (c : Option Content) → IsReady s n → Received s n from (OAck x p c) → is_below (entry (s.node n) x).stamp p.stamp ≡ true → Answered s n k (collect_or_refuse (s.node n) from x p c cause)
 unfolding collect_or_refuse
 collect_or_refuse-answered None s n from k x p c ready got below =
     gather_or_older-answered (greater_gather p.stamp (gather (s.node n) x)) s n from k x p c ready got below refl
 collect_or_refuse-answered (Some cause) s n from k x p c ready got below = cut_none s n (s.node n) k (still_reaches s n)
 
-oack_on_base-answered : (base : Option Node) (s : Scene) (n from k x : ℕ) (p : Proposal) (c : Option Content) → IsReady s n → Received s n from (OAck x p c) → IsRebased s n x p base → Answered s n k (oack_on_base (s.node n) from x p c base)
+oack_on_base-answered : (base : Option Node) (s : SystemState) (n from k x : ℕ) (p : Proposal) (c : Option Content) → IsReady s n → Received s n from (OAck x p c) → IsRebased s n x p base → Answered s n k (oack_on_base (s.node n) from x p c base)
 unfolding oack_on_base IsRebased
 oack_on_base-answered None s n from k x p c ready got r = cut_none s n (s.node n) k (still_reaches s n)
 oack_on_base-answered (Some m) s n from k x p c ready got r =
@@ -136,7 +136,7 @@ settling_acknowledgement : (l : Letter) (x : ℕ) (p : Proposal) (c : Option Con
 settling_acknowledgement l x p c is =
     subst (λ (b : Body). IsSettling x p.base p.base_place record { from = l.from; to = l.to; epoch = l.epoch; body = b }) (sym is) (by_acknowledgement l.from l.to l.epoch p c refl refl)
 
-pub on_oack-answered : (s : Scene) (n from k x : ℕ) (p : Proposal) (c : Option Content) → IsReady s n → Received s n from (OAck x p c) → Answered s n k (on_oack (s.node n) from x p c)
+pub on_oack-answered : (s : SystemState) (n from k x : ℕ) (p : Proposal) (c : Option Content) → IsReady s n → Received s n from (OAck x p c) → Answered s n k (on_oack (s.node n) from x p c)
 unfolding on_oack
 on_oack-answered s n from k x p c ready got =
     let m = s.node n in
@@ -153,7 +153,7 @@ settling_decision : (l : Letter) (x : ℕ) (stamp : Stamp) (place : Place) → l
 settling_decision l x stamp place is =
     subst (λ (b : Body). IsSettling x stamp place record { from = l.from; to = l.to; epoch = l.epoch; body = b }) (sym is) (by_decision l.from l.to l.epoch)
 
-pub on_oval-answered : (s : Scene) (n from k x : ℕ) (stamp : Stamp) (place : Place) → IsReady s n → Received s n from (OVal x stamp place) → Answered s n k (on_oval (s.node n) x stamp place)
+pub on_oval-answered : (s : SystemState) (n from k x : ℕ) (stamp : Stamp) (place : Place) → IsReady s n → Received s n from (OVal x stamp place) → Answered s n k (on_oval (s.node n) x stamp place)
 unfolding on_oval IsPlain
 on_oval-answered s n from k x stamp place ready got =
     let m = s.node n in
@@ -169,7 +169,7 @@ on_oval-answered s n from k x stamp place ready got =
 
 -- ---- a node has reported
 
-pub on_recovered-answered : (s : Scene) (n from k : ℕ) → IsReady s n → Received s n from Recovered → Answered s n k (on_recovered (s.node n) from)
+pub on_recovered-answered : (s : SystemState) (n from k : ℕ) → IsReady s n → Received s n from Recovered → Answered s n k (on_recovered (s.node n) from)
 unfolding on_recovered IsPlain
 on_recovered-answered s n from k ready got =
     let m = s.node n in

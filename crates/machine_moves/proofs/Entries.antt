@@ -17,21 +17,21 @@ use Rattle.zeus_model.specs.declared.state.Kept.{Kept}
 use Rattle.zeus_model.specs.State.{Node, StreamLog, slot, log, with_slot, with_log, with_copies}
 use Rattle.zeus_model.specs.Act.{Did, just, sends, letter}
 use Rattle.zeus_model.specs.Commit.{after_passing, raise, store, next_kept, stored_rinv, on_rinv, is_within, no_pending, no_kept, acked_pending, acked_kept, on_own_rack, on_kept_rack, on_rack, on_rval}
-use Rattle.machine_moves.specs.Scene.{Scene, IsReceivable}
+use Rattle.machine_moves.specs.SystemState.{SystemState, IsReceivable}
 use Rattle.machine_moves.specs.Move.{stored, raises, stores, notes_own, notes_kept, IsRaising, by_entry, by_word, IsTellable}
 use Rattle.machine_moves.specs.Plain.{IsPlain}
 use Rattle.machine_moves.proofs.Within.{log-with_log_same, Keeps, Keeps-raise, Keeps-store, Keeps-with_slot, Keeps-with_log}
 use Rattle.machine_moves.proofs.Reach.{Became, PlainReaches as Reaches, PlainAnswered as Answered, IsReady, known, still_reaches, plain_reaches, then_reaches, cut_none, cut_tells, quiet_then_tells}
 
 -- a letter with this body from this node came to the node in its epoch
-pub record Received (s : Scene) (n from : ℕ) (body : Body) : Type 0 where
+pub record Received (s : SystemState) (n from : ℕ) (body : Body) : Type 0 where
   pub letter : Letter
   pub is : letter.body ≡ body
   pub by : letter.from ≡ from
   pub at : IsReceivable s n letter
 
 -- so it is still where the node has made moves
-pub received_after : (s t : Scene) (n from : ℕ) (body : Body) (m : Node) (sent : List Letter) → Received s n from body → Became s t n m sent → Keeps (s.node n) (t.node n) → Received t n from body
+pub received_after : (s t : SystemState) (n from : ℕ) (body : Body) (m : Node) (sent : List Letter) → Received s n from body → Became s t n m sent → Keeps (s.node n) (t.node n) → Received t n from body
 received_after s t n from body m sent r b k =
     record { letter = r.letter; is = r.is; by = r.by; at = (r.at.0, r.at.1 ∙ sym (k.epoch), b.stay r.letter r.at.2) }
 
@@ -51,7 +51,7 @@ raise-done m t d =
     (λ _. rw (log-with_log_same x t l) (omega arith))
     (λ h. ltb-false done d h)
 
-raised : (s : Scene) (n : ℕ) (t : Stream) (d : ℕ) (l : Letter) → IsReady s n → t.node ≢ n → IsReceivable s n l → IsRaising t d l → Reaches s n (raise (s.node n) t d) []
+raised : (s : SystemState) (n : ℕ) (t : Stream) (d : ℕ) (l : Letter) → IsReady s n → t.node ≢ n → IsReceivable s n l → IsRaising t d l → Reaches s n (raise (s.node n) t d) []
 unfolding IsPlain
 raised s n t d l ready foreign at says =
     elim (cases_lt (log (s.node n) t).done d) [
@@ -81,7 +81,7 @@ stored_letter : (m : Node) (to number : ℕ) (t : Stream) → t.node ≢ m.me �
 stored_letter m to number t foreign less l (here _ _ e) = rw e (stored to number t foreign less)
 stored_letter m to number t foreign less l (there _ _ i) = elim i [ ]
 
-stores_entry : (s : Scene) (n from k : ℕ) (r : Invalidation) → IsReady s n → Received s n from (RInv r) → r.stream.node ≢ n → r.done ≤ (log (s.node n) r.stream).done → r.number ≡ next_kept (log (s.node n) r.stream) → length (log (s.node n) r.stream).kept ≢ 16 → Reaches s n (store (s.node n) r) (take k (letter (s.node n) from (RAck r.stream r.number) ∷ []))
+stores_entry : (s : SystemState) (n from k : ℕ) (r : Invalidation) → IsReady s n → Received s n from (RInv r) → r.stream.node ≢ n → r.done ≤ (log (s.node n) r.stream).done → r.number ≡ next_kept (log (s.node n) r.stream) → length (log (s.node n) r.stream).kept ≢ 16 → Reaches s n (store (s.node n) r) (take k (letter (s.node n) from (RAck r.stream r.number) ∷ []))
 unfolding IsPlain
 stores_entry s n from k r ready got foreign done number room =
     let m = s.node n in
@@ -91,13 +91,13 @@ stores_entry s n from k r ready got foreign done number room =
     (plain_reaches s n (store m r) ready.live (Keeps-store m r) (λ ch. stores n r got.letter foreign got.at got.is done number room ch) (λ _. tt))
     (stored_letter (store m r) from r.number r.stream other (store-next m r number))
 
-again_stored : (s : Scene) (n from k : ℕ) (r : Invalidation) → IsReady s n → r.stream.node ≢ n → r.number < next_kept (log (s.node n) r.stream) → Reaches s n (s.node n) (take k (letter (s.node n) from (RAck r.stream r.number) ∷ []))
+again_stored : (s : SystemState) (n from k : ℕ) (r : Invalidation) → IsReady s n → r.stream.node ≢ n → r.number < next_kept (log (s.node n) r.stream) → Reaches s n (s.node n) (take k (letter (s.node n) from (RAck r.stream r.number) ∷ []))
 again_stored s n from k r ready foreign less =
     let m = s.node n in
     let me = known s n ready in
     cut_tells s n k (letter m from (RAck r.stream r.number) ∷ []) ready.live (stored_letter m from r.number r.stream (rw (me.me) foreign) less)
 
-stored_rinv-answered : (s : Scene) (n from k : ℕ) (r : Invalidation) → IsReady s n → Received s n from (RInv r) → r.stream.node ≢ n → r.done ≤ (log (s.node n) r.stream).done → Answered s n k (stored_rinv (s.node n) from r)
+stored_rinv-answered : (s : SystemState) (n from k : ℕ) (r : Invalidation) → IsReady s n → Received s n from (RInv r) → r.stream.node ≢ n → r.done ≤ (log (s.node n) r.stream).done → Answered s n k (stored_rinv (s.node n) from r)
 unfolding stored_rinv
 stored_rinv-answered s n from k r ready got foreign done =
     let m = s.node n in
@@ -115,7 +115,7 @@ stored_rinv-answered s n from k r ready got foreign done =
     (λ _. cut_none s n m k (still_reaches s n))
     (λ roomy. stores_entry s n from k r ready got foreign done (omega (arith, ltb-false r.number next not_less, ltb-false next r.number not_more)) (eqb-false (length (log m r.stream).kept) 16 roomy))))
 
-pub on_rinv-answered : (s : Scene) (n from k : ℕ) (r : Invalidation) → IsReady s n → Received s n from (RInv r) → Answered s n k (on_rinv (s.node n) from r)
+pub on_rinv-answered : (s : SystemState) (n from k : ℕ) (r : Invalidation) → IsReady s n → Received s n from (RInv r) → Answered s n k (on_rinv (s.node n) from r)
 unfolding on_rinv
 on_rinv-answered s n from k r ready got =
     let m = s.node n in
@@ -142,7 +142,7 @@ within-parts number done count h =
     let high : number < done + count = ltb-true number (done + count) parts.1 in
     (omega arith, omega arith)
 
-on_own_rack-answered : (s : Scene) (n from k i number : ℕ) → IsReady s n → Received s n from (RAck record { node = n; slot = i } number) → Answered s n k (on_own_rack (s.node n) from i number)
+on_own_rack-answered : (s : SystemState) (n from k i number : ℕ) → IsReady s n → Received s n from (RAck record { node = n; slot = i } number) → Answered s n k (on_own_rack (s.node n) from i number)
 unfolding on_own_rack IsPlain
 on_own_rack-answered s n from k i number ready got =
     let m = s.node n in
@@ -158,7 +158,7 @@ on_own_rack-answered s n from k i number ready got =
     (λ ch. notes_own n i place from got.letter got.at got.by (got.is ∙ ap (λ (j : ℕ). RAck record { node = n; slot = i } j) within.0) within.1 ch) (λ _. tt)))
     (λ _. cut_none s n m k (still_reaches s n))
 
-on_kept_rack-answered : (s : Scene) (n from k : ℕ) (t : Stream) (number : ℕ) → IsReady s n → t.node ≢ n → Received s n from (RAck t number) → Answered s n k (on_kept_rack (s.node n) from t number)
+on_kept_rack-answered : (s : SystemState) (n from k : ℕ) (t : Stream) (number : ℕ) → IsReady s n → t.node ≢ n → Received s n from (RAck t number) → Answered s n k (on_kept_rack (s.node n) from t number)
 unfolding on_kept_rack IsPlain
 on_kept_rack-answered s n from k t number ready foreign got =
     let m = s.node n in
@@ -174,10 +174,10 @@ on_kept_rack-answered s n from k t number ready foreign got =
     (λ ch. notes_kept n place from t got.letter foreign got.at got.by (got.is ∙ ap (λ (j : ℕ). RAck t j) within.0) within.1 ch) (λ _. tt)))
     (λ _. cut_none s n m k (still_reaches s n))
 
-received_as : (s : Scene) (n from : ℕ) (a b : Body) → a ≡ b → Received s n from a → Received s n from b
+received_as : (s : SystemState) (n from : ℕ) (a b : Body) → a ≡ b → Received s n from a → Received s n from b
 received_as s n from a b same got = record { letter = got.letter; is = got.is ∙ same; by = got.by; at = got.at }
 
-pub on_rack-answered : (s : Scene) (n from k : ℕ) (t : Stream) (number : ℕ) → IsReady s n → Received s n from (RAck t number) → Answered s n k (on_rack (s.node n) from t number)
+pub on_rack-answered : (s : SystemState) (n from k : ℕ) (t : Stream) (number : ℕ) → IsReady s n → Received s n from (RAck t number) → Answered s n k (on_rack (s.node n) from t number)
 unfolding on_rack
 on_rack-answered s n from k t number ready got =
     let m = s.node n in
@@ -190,7 +190,7 @@ on_rack-answered s n from k t number ready got =
 
 -- ---- the word that entries have passed
 
-pub on_rval-answered : (s : Scene) (n from k : ℕ) (t : Stream) (d : ℕ) → IsReady s n → Received s n from (RVal t d) → Answered s n k (on_rval (s.node n) t d)
+pub on_rval-answered : (s : SystemState) (n from k : ℕ) (t : Stream) (d : ℕ) → IsReady s n → Received s n from (RVal t d) → Answered s n k (on_rval (s.node n) t d)
 unfolding on_rval
 on_rval-answered s n from k t d ready got =
     let m = s.node n in

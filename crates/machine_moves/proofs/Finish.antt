@@ -11,8 +11,8 @@ use Rattle.zeus_model.specs.In.{In, here, there}
 use Rattle.zeus_model.specs.Tables.{below, numbers_from}
 use Rattle.zeus_model.specs.State.{Node, StreamLog, no_log, log}
 use Rattle.zeus_model.specs.Act.{Act, in_turn, to_each, still, and_then}
-use Rattle.zeus_model.specs.Commit.{advance_own, advance_kept, streams_of, streams_outside, outside, none_stored, report, finish}
-use Rattle.machine_moves.specs.Scene.{Scene}
+use Rattle.zeus_model.specs.Commit.{advance_own, advance_kept, streams_of, streams_outside, outside, none_stored, report_recovered, finish}
+use Rattle.machine_moves.specs.SystemState.{SystemState}
 use Rattle.machine_moves.specs.Move.{reported, reports, IsTellable}
 use Rattle.machine_moves.specs.Plain.{IsPlain}
 use Rattle.machine_moves.proofs.Lists.{In-append, In-append_left, In-append_right, nth-past}
@@ -22,13 +22,13 @@ use Rattle.machine_moves.proofs.Passing.{to_each-each, advance_own-reached, adva
 
 -- ---- streams in turn
 
-own_in_turn : (is : List ℕ) (s : Scene) (n k : ℕ) → IsReady s n → Reached s n k (in_turn advance_own (s.node n) is)
+own_in_turn : (is : List ℕ) (s : SystemState) (n k : ℕ) → IsReady s n → Reached s n k (in_turn advance_own (s.node n) is)
 unfolding in_turn
 own_in_turn [] s n k ready = cut_none s n (s.node n) k (still_reaches s n)
 own_in_turn (i ∷ is) s n k ready =
     act_then s n k (advance_own (s.node n) i) (λ m. in_turn advance_own m is) ready (advance_own-reached s n i k ready) (λ t j rt keeps. own_in_turn is t n j rt)
 
-kept_in_turn : (ts : List Stream) (s : Scene) (n k : ℕ) → IsReady s n → ((t : Stream) → In t ts → has t.node (s.node n).members ≡ false) → Reached s n k (in_turn advance_kept (s.node n) ts)
+kept_in_turn : (ts : List Stream) (s : SystemState) (n k : ℕ) → IsReady s n → ((t : Stream) → In t ts → has t.node (s.node n).members ≡ false) → Reached s n k (in_turn advance_kept (s.node n) ts)
 unfolding in_turn
 kept_in_turn [] s n k ready out = cut_none s n (s.node n) k (still_reaches s n)
 kept_in_turn (t ∷ ts) s n k ready out =
@@ -104,7 +104,7 @@ none_outside bound m w h t out =
       | inr past ↦ w.kept t (omega (arith, w.slots))
     ]
 
-reports_reached : (s : Scene) (n self : ℕ) → self ≡ n → IsReady s n → none_stored (s.node n) (outside (s.node n)) ≡ true → PlainReaches s n (record (s.node n) { reported = with_node self (s.node n).reported }) []
+reports_reached : (s : SystemState) (n self : ℕ) → self ≡ n → IsReady s n → none_stored (s.node n) (outside (s.node n)) ≡ true → PlainReaches s n (record (s.node n) { reported = with_node self (s.node n).reported }) []
 unfolding IsPlain
 reports_reached s n self same ready h =
     let m = s.node n in
@@ -115,8 +115,8 @@ report_telling : (m : Node) (l : Letter) → In l (to_each m (without m.me m.mem
 report_telling m =
     to_each-each (IsTellable (record m { reported = with_node m.me m.reported })) m (without m.me m.members) Recovered (λ to h. reported to (has-with_same m.me m.reported))
 
-pub report-reached : (s : Scene) (n k : ℕ) → IsReady s n → PlainReached s n k (report (s.node n))
-unfolding report
+pub report-reached : (s : SystemState) (n k : ℕ) → IsReady s n → PlainReached s n k (report_recovered (s.node n))
+unfolding report_recovered
 report-reached s n k ready =
     let m = s.node n in
     let me = known s n ready in
@@ -125,12 +125,12 @@ report-reached s n k ready =
     (λ h. quiet_then_tells s n k after.node after.sent ready (reports_reached s n m.me me.me ready (and_parts (not (has m.me m.reported)) (none_stored m (outside m)) h).1) (report_telling m))
     (λ _. cut_none s n m k (still_reaches s n))
 
-pub finish-reached : (s : Scene) (n k : ℕ) → IsReady s n → Reached s n k (finish (s.node n))
+pub finish-reached : (s : SystemState) (n k : ℕ) → IsReady s n → Reached s n k (finish (s.node n))
 unfolding finish
 finish-reached s n k ready =
     let m = s.node n in
-    act_then s n k (in_turn advance_own m (below (length m.slots))) (λ x. and_then (in_turn advance_kept x (outside x)) report) ready (own_in_turn (below (length m.slots)) s n k ready)
+    act_then s n k (in_turn advance_own m (below (length m.slots))) (λ x. and_then (in_turn advance_kept x (outside x)) report_recovered) ready (own_in_turn (below (length m.slots)) s n k ready)
     (λ t j rt _.
-    act_then t n j (in_turn advance_kept (t.node n) (outside (t.node n))) report rt
+    act_then t n j (in_turn advance_kept (t.node n) (outside (t.node n))) report_recovered rt
     (kept_in_turn (outside (t.node n)) t n j rt (λ u i. let x = t.node n in streams_outside-node x.members (below (length x.slots)) (below (length x.logs)) u i))
     (λ u i ru _. any_reaches u n _ _ (report-reached u n i ru)))

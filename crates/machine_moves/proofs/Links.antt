@@ -6,7 +6,7 @@ use Rattle.zeus_packet.specs.declared.letter.Letter.{Letter}
 use Rattle.zeus_model.specs.In.{In, here, there}
 use Rattle.zeus_model.specs.Tables.{nth, put}
 use Rattle.zeus_model.specs.World.{link, posted, all_posted, nth_letter}
-use Rattle.machine_moves.specs.Scene.{all_of}
+use Rattle.machine_moves.specs.SystemState.{all_of}
 use Rattle.machine_moves.proofs.Lists.{In-append_left, In-append_right, In-append, nth-put_same, nth-put_other}
 
 -- the letter stands on one of the links

@@ -16,7 +16,7 @@ use Rattle.zeus_model.specs.declared.state.Kept.{Kept}
 use Rattle.zeus_model.specs.State.{Node, Slot, StreamLog, no_slot, no_log, slot, log, own_stream}
 use Rattle.zeus_model.specs.Act.{letter, to_each}
 use Rattle.zeus_model.specs.Commit.{validated, each_write, writes_of, as_kept, no_kept, passes, passes_at, passing, followers_of, pass_own, advance_own, advance_own_by, pass_kept, advance_kept, advance_kept_by, told}
-use Rattle.machine_moves.specs.Scene.{Scene}
+use Rattle.machine_moves.specs.SystemState.{SystemState}
 use Rattle.machine_moves.specs.Move.{own_kept, own_passed, kept_passed, passes_own, passes_kept, IsTellable}
 use Rattle.machine_moves.proofs.Lists.{put-put, nth-put_same}
 use Rattle.machine_moves.proofs.Within.{slot-with_slot_same, log-with_log_same, Keeps-pass_own, Keeps-pass_kept}
@@ -111,7 +111,7 @@ pub own_kept-length : (m : Node) (i : ℕ) → length (own_kept m i) ≡ length 
 unfolding own_kept
 own_kept-length m i = length-map (slot m i).pending as_kept
 
-own_pass : (s : Scene) (n i : ℕ) → IsReady s n → 1 ≤ front (passes (s.node n)) (own_kept (s.node n) i) → Reaches s n (pass_own (s.node n) i 1) []
+own_pass : (s : SystemState) (n i : ℕ) → IsReady s n → 1 ≤ front (passes (s.node n)) (own_kept (s.node n) i) → Reaches s n (pass_own (s.node n) i 1) []
 own_pass s n i ready h =
     let m = s.node n in
     let first = front-parts (passes m) no_kept (own_kept m i) 0 h in
@@ -123,7 +123,7 @@ unfolding passes_at
 own_front m i c h = rw (pass_own-kept m i 1) (front-parts (passes m) no_kept (own_kept m i) (suc c) h).2
 
 -- the entries of an own stream pass one after another
-pub own_passes : (c : ℕ) (s : Scene) (n i : ℕ) → IsReady s n → suc c ≤ front (passes (s.node n)) (own_kept (s.node n) i) → Reaches s n (pass_own (s.node n) i (suc c)) []
+pub own_passes : (c : ℕ) (s : SystemState) (n i : ℕ) → IsReady s n → suc c ≤ front (passes (s.node n)) (own_kept (s.node n) i) → Reaches s n (pass_own (s.node n) i (suc c)) []
 own_passes zero s n i ready h = own_pass s n i ready h
 own_passes (suc c) s n i ready h =
     let m = s.node n in
@@ -161,14 +161,14 @@ own_telling m i k =
     let le : (slot m i).done + length ks ≤ (slot after i).done = rw (pass_own-slot m i k) (omega arith) in
     to_each-each (IsTellable after) after tos (RVal (own_stream m i) ((slot m i).done + length ks)) (λ to h. own_passed to i ((slot m i).done + length ks) le (without-other to m.me (meet (followers_of ks) m.members) h))
 
-advance_own_by-reached : (s : Scene) (n i k c : ℕ) → IsReady s n → c ≤ front (passes (s.node n)) (own_kept (s.node n) i) → Reached s n k (advance_own_by (s.node n) i c)
+advance_own_by-reached : (s : SystemState) (n i k c : ℕ) → IsReady s n → c ≤ front (passes (s.node n)) (own_kept (s.node n) i) → Reached s n k (advance_own_by (s.node n) i c)
 unfolding advance_own_by
 advance_own_by-reached s n i k zero ready h = cut_none s n (s.node n) k (still_reaches s n)
 advance_own_by-reached s n i k (suc c) ready h =
     quiet_then_tells s n k (pass_own (s.node n) i (suc c)) _ ready (own_passes c s n i ready h) (own_telling (s.node n) i (suc c))
 
 -- an own stream advances
-pub advance_own-reached : (s : Scene) (n i k : ℕ) → IsReady s n → Reached s n k (advance_own (s.node n) i)
+pub advance_own-reached : (s : SystemState) (n i k : ℕ) → IsReady s n → Reached s n k (advance_own (s.node n) i)
 unfolding advance_own own_kept
 advance_own-reached s n i k ready =
     advance_own_by-reached s n i k (passing (s.node n) (map as_kept (slot (s.node n) i).pending)) ready (omega arith)
@@ -205,19 +205,19 @@ pub pass_kept-more : (m : Node) (t : Stream) (k : ℕ) → pass_kept (pass_kept 
 pass_kept-more m t k = ap (λ (l : StreamLog). pass_kept_of (pass_kept m t 1) t l k) (pass_kept-log m t 1) ∙ pass_kept_of-more m t (log m t) k
 
 -- a live node is a member of its view, so a node that is no member is another
-pub self_member : (s : Scene) (n : ℕ) → IsReady s n → has n (s.node n).members ≡ true
+pub self_member : (s : SystemState) (n : ℕ) → IsReady s n → has n (s.node n).members ≡ true
 self_member s n ready =
     let k = known s n ready in
     let m = s.node n in
     rw (k.members) (k.everywhere m.epoch k.first k.made)
 
-pub outsider_other : (s : Scene) (n k : ℕ) → IsReady s n → has k (s.node n).members ≡ false → k ≢ n
+pub outsider_other : (s : SystemState) (n k : ℕ) → IsReady s n → has k (s.node n).members ≡ false → k ≢ n
 outsider_other s n k ready out same =
     let some : has n (s.node n).members ≡ true = self_member s n ready in
     let none : has n (s.node n).members ≡ false = rw same at out in
     absurd cc
 
-kept_pass : (s : Scene) (n : ℕ) (t : Stream) → IsReady s n → has t.node (s.node n).members ≡ false → 1 ≤ front (passes (s.node n)) (log (s.node n) t).kept → Reaches s n (pass_kept (s.node n) t 1) []
+kept_pass : (s : SystemState) (n : ℕ) (t : Stream) → IsReady s n → has t.node (s.node n).members ≡ false → 1 ≤ front (passes (s.node n)) (log (s.node n) t).kept → Reaches s n (pass_kept (s.node n) t 1) []
 kept_pass s n t ready out h =
     let m = s.node n in
     let first = front-parts (passes m) no_kept (log m t).kept 0 h in
@@ -228,7 +228,7 @@ unfolding passes_at
 kept_front m t c h = rw (pass_kept-log m t 1) (front-parts (passes m) no_kept (log m t).kept (suc c) h).2
 
 -- its entries pass one after another
-pub kept_passes : (c : ℕ) (s : Scene) (n : ℕ) (t : Stream) → IsReady s n → has t.node (s.node n).members ≡ false → suc c ≤ front (passes (s.node n)) (log (s.node n) t).kept → Reaches s n (pass_kept (s.node n) t (suc c)) []
+pub kept_passes : (c : ℕ) (s : SystemState) (n : ℕ) (t : Stream) → IsReady s n → has t.node (s.node n).members ≡ false → suc c ≤ front (passes (s.node n)) (log (s.node n) t).kept → Reaches s n (pass_kept (s.node n) t (suc c)) []
 kept_passes zero s n t ready out h = kept_pass s n t ready out h
 kept_passes (suc c) s n t ready out h =
     let m = s.node n in
@@ -250,7 +250,7 @@ kept_telling m t k out foreign =
     other_member : (a b : ℕ) (ms : List ℕ) → has a ms ≡ true → has b ms ≡ false → a ≢ b
     other_member a b ms some none same = let other : has b ms ≡ true = rw same at some in absurd cc
 
-advance_kept_by-reached : (s : Scene) (n : ℕ) (t : Stream) (k c : ℕ) → IsReady s n → has t.node (s.node n).members ≡ false → c ≤ front (passes (s.node n)) (log (s.node n) t).kept → Reached s n k (advance_kept_by (s.node n) t c)
+advance_kept_by-reached : (s : SystemState) (n : ℕ) (t : Stream) (k c : ℕ) → IsReady s n → has t.node (s.node n).members ≡ false → c ≤ front (passes (s.node n)) (log (s.node n) t).kept → Reached s n k (advance_kept_by (s.node n) t c)
 unfolding advance_kept_by
 advance_kept_by-reached s n t k zero ready out h = cut_none s n (s.node n) k (still_reaches s n)
 advance_kept_by-reached s n t k (suc c) ready out h =
@@ -259,7 +259,7 @@ advance_kept_by-reached s n t k (suc c) ready out h =
     quiet_then_tells s n k (pass_kept (s.node n) t (suc c)) _ ready (kept_passes c s n t ready out h) (kept_telling (s.node n) t (suc c) out foreign)
 
 -- a stream whose node is no member advances
-pub advance_kept-reached : (s : Scene) (n : ℕ) (t : Stream) (k : ℕ) → IsReady s n → has t.node (s.node n).members ≡ false → Reached s n k (advance_kept (s.node n) t)
+pub advance_kept-reached : (s : SystemState) (n : ℕ) (t : Stream) (k : ℕ) → IsReady s n → has t.node (s.node n).members ≡ false → Reached s n k (advance_kept (s.node n) t)
 unfolding advance_kept
 advance_kept-reached s n t k ready out =
     advance_kept_by-reached s n t k (passing (s.node n) (log (s.node n) t).kept) ready out (omega arith)

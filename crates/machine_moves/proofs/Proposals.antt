@@ -21,7 +21,7 @@ use Rattle.zeus_model.specs.declared.answer.Outcome.{Outcome}
 use Rattle.zeus_model.specs.State.{Node, entry, is_open, with_entry, with_gather}
 use Rattle.zeus_model.specs.Act.{Did, letter, to_each}
 use Rattle.zeus_model.specs.Ownership.{settle, settled_entry, gather_above, holding, is_source, unready_cause, driven, invalidations, acknowledgement, drive, answer_request, request_cause, on_oreq, answer_settled, takes_over, rebased, hold_cause, advice as advice_letters, refuse_proposal, collector, hold_or_refuse, oinv_on_base, on_oinv}
-use Rattle.machine_moves.specs.Scene.{Scene, IsReceivable}
+use Rattle.machine_moves.specs.SystemState.{SystemState, IsReceivable}
 use Rattle.machine_moves.specs.Move.{advice, placement, to_arbiter, to_collector, IsTellable, IsAboutProposal, drives, accepts, settles, IsSettling, by_invalidation}
 use Rattle.machine_moves.specs.Plain.{IsPlain}
 use Rattle.machine_moves.proofs.Lists.{In-append, In-take, In-take_last}
@@ -33,7 +33,7 @@ use Rattle.machine_moves.proofs.Entries.{Received, received_after}
 use Rattle.machine_moves.proofs.Causes.{arbiters-length, request_cause-none, hold_cause-none}
 
 -- the sender of a letter of the node's epoch is a member of its view
-pub sender_member : (s : Scene) (n from : ℕ) (body : Body) → IsReady s n → Received s n from body → has from (s.node n).members ≡ true
+pub sender_member : (s : SystemState) (n from : ℕ) (body : Body) → IsReady s n → Received s n from body → has from (s.node n).members ≡ true
 sender_member s n from body ready got =
     let me = known s n ready in
     let l = got.letter in
@@ -72,7 +72,7 @@ advice_letter m to x stamp cause l (there _ _ i) = elim i [ ]
 
 -- ---- a request
 
-drives_request : (s : Scene) (n from k x : ℕ) (want : Want) → IsReady s n → Received s n from (OReq x want) → is_open (s.node n) ≡ true → length (s.node n).directory ≤ 8 → 10 ≤ k → request_cause (s.node n) x from want ≡ None → Answered s n k (drive (s.node n) from x (driven (s.node n) x from want))
+drives_request : (s : SystemState) (n from k x : ℕ) (want : Want) → IsReady s n → Received s n from (OReq x want) → is_open (s.node n) ≡ true → length (s.node n).directory ≤ 8 → 10 ≤ k → request_cause (s.node n) x from want ≡ None → Answered s n k (drive (s.node n) from x (driven (s.node n) x from want))
 unfolding IsPlain
 drives_request s n from k x want ready got opened few room none =
     let m = s.node n in
@@ -97,14 +97,14 @@ drives_request s n from k x want ready got opened few room none =
     (Changes-became s (changed s n (holding m x p) sent) n (holding m x p) sent (IsAboutProposal m x p) ready.live b (λ l i. about l (In-take l k _ i)))
     (from, b.new _ (In-take_last (acknowledgement m from x p) k (invalidations m x p) [] small))) (λ _. tt)
 
-answer_request-answered : (cause : Option Cause) (s : Scene) (n from k x : ℕ) (want : Want) → IsReady s n → Received s n from (OReq x want) → is_open (s.node n) ≡ true → length (s.node n).directory ≤ 8 → 10 ≤ k → request_cause (s.node n) x from want ≡ cause → Answered s n k (answer_request (s.node n) from x want cause)
+answer_request-answered : (cause : Option Cause) (s : SystemState) (n from k x : ℕ) (want : Want) → IsReady s n → Received s n from (OReq x want) → is_open (s.node n) ≡ true → length (s.node n).directory ≤ 8 → 10 ≤ k → request_cause (s.node n) x from want ≡ cause → Answered s n k (answer_request (s.node n) from x want cause)
 unfolding answer_request
 answer_request-answered None s n from k x want ready got opened few room is = drives_request s n from k x want ready got opened few room is
 answer_request-answered (Some cause) s n from k x want ready got opened few room is =
     let m = s.node n in
     cut_tells s n k (letter m from (ONack x (entry m x).stamp cause) ∷ []) ready.live (advice_letter m from x (entry m x).stamp cause)
 
-pub on_oreq-answered : (s : Scene) (n from k x : ℕ) (want : Want) → IsReady s n → Received s n from (OReq x want) → is_open (s.node n) ≡ true → length (s.node n).directory ≤ 8 → 10 ≤ k → Answered s n k (on_oreq (s.node n) from x want)
+pub on_oreq-answered : (s : SystemState) (n from k x : ℕ) (want : Want) → IsReady s n → Received s n from (OReq x want) → is_open (s.node n) ≡ true → length (s.node n).directory ≤ 8 → 10 ≤ k → Answered s n k (on_oreq (s.node n) from x want)
 unfolding on_oreq
 on_oreq-answered s n from k x want ready got opened few room =
     answer_request-answered (request_cause (s.node n) x from want) s n from k x want ready got opened few room refl
@@ -122,17 +122,17 @@ unfolding settle
 settle-entry m x stamp place below = rw below (entry-with_entry_same m x (settled_entry (entry m x) stamp place))
 
 -- what a node is where the base of a proposal is no longer above its settled stamp
-pub record Rebased (s : Scene) (n x : ℕ) (p : Proposal) (m : Node) : Type 0 where
+pub record Rebased (s : SystemState) (n x : ℕ) (p : Proposal) (m : Node) : Type 0 where
   pub reaches : Reaches s n m []
   pub opened : is_open m ≡ is_open (s.node n)
   pub not_below : is_below (entry m x).stamp p.base ≡ false
   pub below : is_below (entry m x).stamp p.stamp ≡ true
 
-unfoldable pub IsRebased : Scene → ℕ → ℕ → Proposal → Option Node → Type 0
+unfoldable pub IsRebased : SystemState → ℕ → ℕ → Proposal → Option Node → Type 0
 IsRebased s n x p None = Unit {0}
 IsRebased s n x p (Some m) = Rebased s n x p m
 
-rebased_settled : (s : Scene) (n x : ℕ) (p : Proposal) (l : Letter) → IsReady s n → IsReceivable s n l → IsSettling x p.base p.base_place l → is_below p.base p.stamp ≡ true → is_below (entry (s.node n) x).stamp p.base ≡ true → Rebased s n x p (settle (s.node n) x p.base p.base_place)
+rebased_settled : (s : SystemState) (n x : ℕ) (p : Proposal) (l : Letter) → IsReady s n → IsReceivable s n l → IsSettling x p.base p.base_place l → is_below p.base p.stamp ≡ true → is_below (entry (s.node n) x).stamp p.base ≡ true → Rebased s n x p (settle (s.node n) x p.base p.base_place)
 unfolding IsPlain
 rebased_settled s n x p l ready at says above below =
     let m = s.node n in
@@ -145,7 +145,7 @@ rebased_settled s n x p l ready at says above below =
       below = rw is above;
     }
 
-pub rebased-is : (s : Scene) (n x : ℕ) (p : Proposal) (l : Letter) → IsReady s n → IsReceivable s n l → IsSettling x p.base p.base_place l → is_below p.base p.stamp ≡ true → is_below (entry (s.node n) x).stamp p.stamp ≡ true → IsRebased s n x p (rebased (s.node n) x p)
+pub rebased-is : (s : SystemState) (n x : ℕ) (p : Proposal) (l : Letter) → IsReady s n → IsReceivable s n l → IsSettling x p.base p.base_place l → is_below p.base p.stamp ≡ true → is_below (entry (s.node n) x).stamp p.stamp ≡ true → IsRebased s n x p (rebased (s.node n) x p)
 unfolding rebased IsRebased IsPlain
 rebased-is s n x p l ready at says above below =
     let m = s.node n in
@@ -162,7 +162,7 @@ settling_invalidation l x p is =
     subst (λ (b : Body). IsSettling x p.base p.base_place record { from = l.from; to = l.to; epoch = l.epoch; body = b }) (sym is) (by_invalidation l.from l.to l.epoch p refl refl)
 
 -- the settled placement is told
-pub answers_settled : (s : Scene) (n from k x : ℕ) → IsReady s n → Answered s n k (answer_settled (s.node n) from x)
+pub answers_settled : (s : SystemState) (n from k x : ℕ) → IsReady s n → Answered s n k (answer_settled (s.node n) from x)
 answers_settled s n from k x ready =
     let m = s.node n in
     cut_tells s n k (letter m from (OVal x (entry m x).stamp (entry m x).place) ∷ []) ready.live (tells_placement m)
@@ -171,7 +171,7 @@ answers_settled s n from k x ready =
     tells_placement m l (here _ _ e) = rw e (placement from x)
     tells_placement m l (there _ _ i) = elim i [ ]
 
-refuses_proposal : (s : Scene) (n k x : ℕ) (p : Proposal) (cause : Cause) → IsReady s n → Answered s n k (refuse_proposal (s.node n) x p cause)
+refuses_proposal : (s : SystemState) (n k x : ℕ) (p : Proposal) (cause : Cause) → IsReady s n → Answered s n k (refuse_proposal (s.node n) x p cause)
 unfolding advice_letters
 refuses_proposal s n k x p cause ready =
     let m = s.node n in
@@ -183,7 +183,7 @@ pub collector-requester : (m : Node) (p : Proposal) (other : ℕ) → has p.requ
 unfolding collector
 collector-requester m p other h = cond-true (has p.requester m.members) p.requester other h
 
-holds_proposal : (s : Scene) (n from k x : ℕ) (p : Proposal) → IsReady s n → Received s n from (OInv x p) → is_open (s.node n) ≡ true → 10 ≤ k → is_below (entry (s.node n) x).stamp p.base ≡ false → is_below (entry (s.node n) x).stamp p.stamp ≡ true → hold_cause (s.node n) x p ≡ None → Reaches s n (holding (s.node n) x p) (take k (acknowledgement (s.node n) (collector (s.node n) p from) x p ∷ []))
+holds_proposal : (s : SystemState) (n from k x : ℕ) (p : Proposal) → IsReady s n → Received s n from (OInv x p) → is_open (s.node n) ≡ true → 10 ≤ k → is_below (entry (s.node n) x).stamp p.base ≡ false → is_below (entry (s.node n) x).stamp p.stamp ≡ true → hold_cause (s.node n) x p ≡ None → Reaches s n (holding (s.node n) x p) (take k (acknowledgement (s.node n) (collector (s.node n) p from) x p ∷ []))
 unfolding IsPlain
 holds_proposal s n from k x p ready got opened room not_below below none =
     let m = s.node n in
@@ -206,12 +206,12 @@ holds_proposal s n from k x p ready got opened room not_below below none =
     (Changes-became s (changed s n (holding m x p) sent) n (holding m x p) sent (IsAboutProposal m x p) ready.live b (λ l i. about l (In-take l k _ i)))
     (to, b.new _ (In-take_last (acknowledgement m to x p) k [] [] (omega arith)))) (λ _. tt)
 
-hold_or_refuse-answered : (cause : Option Cause) (s : Scene) (n from k x : ℕ) (p : Proposal) → IsReady s n → Received s n from (OInv x p) → is_open (s.node n) ≡ true → 10 ≤ k → is_below (entry (s.node n) x).stamp p.base ≡ false → is_below (entry (s.node n) x).stamp p.stamp ≡ true → hold_cause (s.node n) x p ≡ cause → Answered s n k (hold_or_refuse (s.node n) from x p cause)
+hold_or_refuse-answered : (cause : Option Cause) (s : SystemState) (n from k x : ℕ) (p : Proposal) → IsReady s n → Received s n from (OInv x p) → is_open (s.node n) ≡ true → 10 ≤ k → is_below (entry (s.node n) x).stamp p.base ≡ false → is_below (entry (s.node n) x).stamp p.stamp ≡ true → hold_cause (s.node n) x p ≡ cause → Answered s n k (hold_or_refuse (s.node n) from x p cause)
 unfolding hold_or_refuse
 hold_or_refuse-answered None s n from k x p ready got opened room not_below below is = holds_proposal s n from k x p ready got opened room not_below below is
 hold_or_refuse-answered (Some cause) s n from k x p ready got opened room not_below below is = refuses_proposal s n k x p cause ready
 
-oinv_on_base-answered : (base : Option Node) (s : Scene) (n from k x : ℕ) (p : Proposal) → IsReady s n → Received s n from (OInv x p) → is_open (s.node n) ≡ true → 10 ≤ k → IsRebased s n x p base → Answered s n k (oinv_on_base (s.node n) from x p base)
+oinv_on_base-answered : (base : Option Node) (s : SystemState) (n from k x : ℕ) (p : Proposal) → IsReady s n → Received s n from (OInv x p) → is_open (s.node n) ≡ true → 10 ≤ k → IsRebased s n x p base → Answered s n k (oinv_on_base (s.node n) from x p base)
 unfolding oinv_on_base IsRebased
 oinv_on_base-answered None s n from k x p ready got opened room r = refuses_proposal s n k x p OwnPlace ready
 oinv_on_base-answered (Some m) s n from k x p ready got opened room r =
@@ -222,7 +222,7 @@ oinv_on_base-answered (Some m) s n from k x p ready got opened room r =
     (λ o nb be. hold_or_refuse-answered (hold_cause (t.node n) x p) t n from k x p rt (received_after s t n from (OInv x p) m [] got b (let keeps = first.keeps in rw (b.node) keeps)) o room nb be refl)
     (r.opened ∙ opened) r.not_below r.below)
 
-pub on_oinv-answered : (s : Scene) (n from k x : ℕ) (p : Proposal) → IsReady s n → Received s n from (OInv x p) → is_open (s.node n) ≡ true → 10 ≤ k → Answered s n k (on_oinv (s.node n) from x p)
+pub on_oinv-answered : (s : SystemState) (n from k x : ℕ) (p : Proposal) → IsReady s n → Received s n from (OInv x p) → is_open (s.node n) ≡ true → 10 ≤ k → Answered s n k (on_oinv (s.node n) from x p)
 unfolding on_oinv
 on_oinv-answered s n from k x p ready got opened room =
     let m = s.node n in

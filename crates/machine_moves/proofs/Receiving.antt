@@ -9,8 +9,8 @@ use Rattle.zeus_model.specs.In.{In}
 use Rattle.zeus_model.specs.declared.answer.Outcome.{Outcome}
 use Rattle.zeus_model.specs.State.{Node, is_open}
 use Rattle.zeus_model.specs.Commit.{finish}
-use Rattle.zeus_model.specs.Receive.{needs_open, row, untaken, receive_or_not, receive}
-use Rattle.machine_moves.specs.Scene.{Scene}
+use Rattle.zeus_model.specs.Receive.{needs_open, row, rejection, receive_or_not, receive}
+use Rattle.machine_moves.specs.SystemState.{SystemState}
 use Rattle.machine_moves.proofs.Steady.{IsSteady}
 use Rattle.machine_moves.proofs.Reach.{Answered, PlainAnswered, IsReady, known, any_reaches, still_reaches, cut_none, did_then_reaches}
 use Rattle.machine_moves.proofs.Finish.{finish-reached}
@@ -20,7 +20,7 @@ use Rattle.machine_moves.proofs.Proposals.{on_oreq-answered, on_oinv-answered}
 use Rattle.machine_moves.proofs.Decisions.{on_oack-answered, on_oval-answered, on_recovered-answered}
 
 -- the rule of each body is a sequence of moves
-pub row-answered : (body : Body) (s : Scene) (n from k : ℕ) → IsReady s n → Received s n from body → (needs_open body ≡ true → is_open (s.node n) ≡ true) → length (s.node n).directory ≤ 8 → 10 ≤ k → PlainAnswered s n k (row (s.node n) from body)
+pub row-answered : (body : Body) (s : SystemState) (n from k : ℕ) → IsReady s n → Received s n from body → (needs_open body ≡ true → is_open (s.node n) ≡ true) → length (s.node n).directory ≤ 8 → 10 ≤ k → PlainAnswered s n k (row (s.node n) from body)
 unfolding row needs_open
 row-answered (RInv r) s n from k ready got opened few room = on_rinv-answered s n from k r ready got
 row-answered (RAck t number) s n from k ready got opened few room = on_rack-answered s n from k t number ready got
@@ -39,9 +39,9 @@ pub record IsTaken (m : Node) (l : Letter) : Type 0 where
   pub epoch : l.epoch ≡ m.epoch
   pub opened : needs_open l.body ≡ true → is_open m ≡ true
 
-pub untaken-none : (m : Node) (l : Letter) → untaken m l ≡ None → IsTaken m l
-unfolding untaken
-untaken-none m l h =
+pub rejection-none : (m : Node) (l : Letter) → rejection m l ≡ None → IsTaken m l
+unfolding rejection
+rejection-none m l h =
     let first = or_else-none _ _ h in
     let second = or_else-none _ _ first.1 in
     let third = or_else-none _ _ second.1 in
@@ -55,12 +55,12 @@ untaken-none m l h =
       ];
     }
 
-receive_or_not-answered : (outcome : Option Outcome) (s : Scene) (n k : ℕ) (l : Letter) → IsSteady s → In l s.letters → l.to ≡ n → length s.config.directory ≤ 8 → 10 ≤ k → untaken (s.node n) l ≡ outcome → Answered s n k (receive_or_not (s.node n) l outcome)
+receive_or_not-answered : (outcome : Option Outcome) (s : SystemState) (n k : ℕ) (l : Letter) → IsSteady s → In l s.letters → l.to ≡ n → length s.config.directory ≤ 8 → 10 ≤ k → rejection (s.node n) l ≡ outcome → Answered s n k (receive_or_not (s.node n) l outcome)
 unfolding receive_or_not
 receive_or_not-answered (Some outcome) s n k l steady at to few room is = cut_none s n (s.node n) k (still_reaches s n)
 receive_or_not-answered None s n k l steady at to few room is =
     let m = s.node n in
-    let taken = untaken-none m l is in
+    let taken = rejection-none m l is in
     let ready : IsReady s n = record { steady = steady; live = taken.live } in
     let me = known s n ready in
     let got : Received s n l.from l.body = record { letter = l; is = refl; by = refl; at = (to, taken.epoch, at) } in
@@ -69,6 +69,6 @@ receive_or_not-answered None s n k l steady at to few room is =
     (λ t j rt. finish-reached t n j rt)
 
 -- a delivered letter
-pub receive-answered : (s : Scene) (n k : ℕ) (l : Letter) → IsSteady s → In l s.letters → l.to ≡ n → length s.config.directory ≤ 8 → 10 ≤ k → Answered s n k (receive (s.node n) l)
+pub receive-answered : (s : SystemState) (n k : ℕ) (l : Letter) → IsSteady s → In l s.letters → l.to ≡ n → length s.config.directory ≤ 8 → 10 ≤ k → Answered s n k (receive (s.node n) l)
 unfolding receive
-receive-answered s n k l steady at to few room = receive_or_not-answered (untaken (s.node n) l) s n k l steady at to few room refl
+receive-answered s n k l steady at to few room = receive_or_not-answered (rejection (s.node n) l) s n k l steady at to few room refl

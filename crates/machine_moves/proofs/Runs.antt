@@ -7,7 +7,7 @@ use Rattle.zeus_base.specs.declared.config.Config.{Config}
 use Rattle.zeus_base.specs.declared.step.Step.{Step}
 use Rattle.zeus_txn.specs.declared.tx.TxDecl.{TxDecl}
 use Rattle.zeus_model.specs.World.{World, start, stepped, run}
-use Rattle.machine_moves.specs.Scene.{scene, IsNumbered}
+use Rattle.machine_moves.specs.SystemState.{system, IsNumbered}
 use Rattle.machine_moves.specs.Move.{Moves}
 use Rattle.machine_moves.specs.Fits.{StepFits}
 use Rattle.machine_moves.proofs.Steady.{IsNumbered-steady, moves_keep}
@@ -20,7 +20,7 @@ fitting_step c txs w s is u fits = step_is_moves w s txs u (rw is fits)
 
 pub usual_after : (w after : World) → IsUsual w → IsStep w after → IsUsual after
 usual_after w after u step =
-    record { steady = moves_keep (scene w) (scene after) step.moves u.steady; ends = step.ends; few = rw (step.config) u.few }
+    record { steady = moves_keep (system w) (system after) step.moves u.steady; ends = step.ends; few = rw (step.config) u.few }
 
 pub run_usual : (c : Config) (txs : List TxDecl) (steps : List Step) (w : World) → w.config ≡ c → IsUsual w → All (StepFits c txs) steps → IsUsual (run w steps) × ((run w steps).config ≡ c)
 unfolding run
@@ -33,14 +33,14 @@ pub reached_usual : (c : Config) (txs : List TxDecl) (steps : List Step) → Kee
 reached_usual c txs steps keeps fits = run_usual c txs steps (start c txs) (start-config c txs) (start_usual c txs keeps) fits
 
 -- each step that fits, after steps that fit, is a sequence of moves
-pub run_moves : (c : Config) (txs : List TxDecl) (steps : List Step) (s : Step) → KeepsLimits c → All (StepFits c txs) steps → StepFits c txs s → Moves (scene (run (start c txs) steps)) (scene (stepped (run (start c txs) steps) s))
+pub run_moves : (c : Config) (txs : List TxDecl) (steps : List Step) (s : Step) → KeepsLimits c → All (StepFits c txs) steps → StepFits c txs s → Moves (system (run (start c txs) steps)) (system (stepped (run (start c txs) steps) s))
 run_moves c txs steps s keeps before fits =
     let reached = reached_usual c txs steps keeps before in
     let step = fitting_step c txs (run (start c txs) steps) s reached.1 reached.0 fits in
     step.moves
 
 -- the live nodes of each run know their numbers and views
-pub run_numbered : (c : Config) (txs : List TxDecl) (steps : List Step) → KeepsLimits c → All (StepFits c txs) steps → IsNumbered (scene (run (start c txs) steps))
+pub run_numbered : (c : Config) (txs : List TxDecl) (steps : List Step) → KeepsLimits c → All (StepFits c txs) steps → IsNumbered (system (run (start c txs) steps))
 run_numbered c txs steps keeps before =
     let reached = (reached_usual c txs steps keeps before).0 in
-    IsNumbered-steady (scene (run (start c txs) steps)) reached.steady
+    IsNumbered-steady (system (run (start c txs) steps)) reached.steady

@@ -14,7 +14,7 @@ use Rattle.zeus_model.specs.In.{In}
 use Rattle.zeus_model.specs.Tables.{nth, below}
 use Rattle.zeus_model.specs.State.{Slot, StreamLog, no_entry, no_slot, no_log}
 use Rattle.zeus_model.specs.World.{no_node, node, link, start, start_node, start_entry}
-use Rattle.machine_moves.specs.Scene.{scene}
+use Rattle.machine_moves.specs.SystemState.{system}
 use Rattle.machine_moves.proofs.Lists.{In-nothing, nth-past, nth-map_numbers, length-map_numbers, nth-replicate, has-numbers_from}
 use Rattle.machine_moves.proofs.Links.{HasEnds, In-to_link}
 use Rattle.machine_moves.proofs.Within.{IsWithin}
@@ -89,8 +89,8 @@ no_letter : {P : Type 0} (c : Config) (txs : List TxDecl) (from to : ℕ) (l : L
 unfolding start
 no_letter c txs from to l i = In-nothing l (rw (nth-none_row {A = List Letter} [] c.nodes c.nodes from to) at i)
 
-start_steady : (c : Config) (txs : List TxDecl) → IsSteady (scene (start c txs))
-unfolding scene start
+start_steady : (c : Config) (txs : List TxDecl) → IsSteady (system (start c txs))
+unfolding system start
 start_steady c txs =
     record {
       nodes = λ n live. start_live c txs n live;

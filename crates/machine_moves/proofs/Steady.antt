@@ -25,7 +25,7 @@ use Rattle.zeus_model.specs.State.{Node, slot, log, entry, with_copies}
 use Rattle.zeus_model.specs.Act.{letter}
 use Rattle.zeus_model.specs.Local.{committed, with_current, run_here}
 use Rattle.zeus_model.specs.Ownership.{settle, holding, driven}
-use Rattle.machine_moves.specs.Scene.{Scene, IsLive, IsNumbered, Changes, NewView, Same, nothing}
+use Rattle.machine_moves.specs.SystemState.{SystemState, IsLive, IsNumbered, Changes, NewView, Same, nothing}
 use Rattle.machine_moves.specs.Move.{IsTellable, request, advice, placement, reported, own_entry, kept_entry, stored, own_passed, kept_passed, IsAboutProposal, to_arbiter, to_collector, Move, makes_view, stops, installs, tells, turns, settles, drives, accepts, redrives, gathers, decides, raises, stores, notes_own, notes_kept, passes_own, passes_kept, reports, hears, commits, Moves, none, next}
 use Rattle.machine_moves.proofs.Lists.{nth-append, nth-last}
 use Rattle.machine_moves.proofs.Within.{IsWithin, Keeps, not_empty, IsWithin-with_slot, IsWithin-with_log, IsWithin-with_copies, IsWithin-with_gather, IsWithin-settle, IsWithin-holding, IsWithin-bring, IsWithin-raise, IsWithin-store, IsWithin-pass_own, IsWithin-pass_kept, Keeps-trans, Keeps-with_slot, Keeps-with_log, Keeps-with_gather, Keeps-settle, Keeps-holding, Keeps-bring, Keeps-raise, Keeps-store, Keeps-pass_own, Keeps-pass_kept, Keeps-reported, Keeps-committed}
@@ -61,11 +61,11 @@ pub record IsFair (config : Config) (views : List (List ℕ)) (l : Letter) : Typ
   pub member : has l.from (nth [] views (l.epoch - 1)) ≡ true
   pub says : SaysFair config.slots l.body
 
-pub record IsSteady (s : Scene) : Type 0 where
+pub record IsSteady (s : SystemState) : Type 0 where
   pub nodes : (n : ℕ) → IsLive s n → IsKnown s.config s.views n (s.node n)
   pub letters : (l : Letter) → In l s.letters → IsFair s.config s.views l
 
-pub IsNumbered-steady : (s : Scene) → IsSteady s → IsNumbered s
+pub IsNumbered-steady : (s : SystemState) → IsSteady s → IsNumbered s
 IsNumbered-steady s h =
     record {
       within = λ n live. let k = h.nodes n live in k.within;
@@ -132,7 +132,7 @@ moved c d v w k x y a b e h = rw (a, b, e) h
 fair_moved : (c d : Config) (v w : List (List ℕ)) (l : Letter) → d ≡ c → w ≡ v → IsFair c v l → IsFair d w l
 fair_moved c d v w l a b h = rw (a, b) h
 
-changes_keep : (old new : Scene) (n : ℕ) (after : Node) (allowed : Letter → Type 0) → Changes old new n after allowed → IsSteady old → IsKnown old.config old.views n after → ((l : Letter) → allowed l → IsFair old.config old.views l) → IsSteady new
+changes_keep : (old new : SystemState) (n : ℕ) (after : Node) (allowed : Letter → Type 0) → Changes old new n after allowed → IsSteady old → IsKnown old.config old.views n after → ((l : Letter) → allowed l → IsFair old.config old.views l) → IsSteady new
 changes_keep old new n after allowed ch h known fair =
     record {
       nodes = λ k live. elim (cases_eq k n) [
@@ -146,13 +146,13 @@ changes_keep old new n after allowed ch h known fair =
     }
 
 -- a move of a node that keeps what it is, and sends nothing
-quiet_keep : (old new : Scene) (n : ℕ) (after : Node) → Changes old new n after nothing → IsSteady old → Keeps (old.node n) after → (IsWithin old.config.slots (old.node n) → IsWithin old.config.slots after) → IsSteady new
+quiet_keep : (old new : SystemState) (n : ℕ) (after : Node) → Changes old new n after nothing → IsSteady old → Keeps (old.node n) after → (IsWithin old.config.slots (old.node n) → IsWithin old.config.slots after) → IsSteady new
 quiet_keep old new n after ch h keeps rows =
     let k = h.nodes n ch.live in
     changes_keep old new n after nothing ch h (IsKnown-keeps old.config old.views n (old.node n) after k keeps (rows k.rows)) (λ l none. absurd none)
 
 -- the same where it sends
-loud_keep : (old new : Scene) (n : ℕ) (after : Node) (allowed : Letter → Type 0) → Changes old new n after allowed → IsSteady old → Keeps (old.node n) after → (IsWithin old.config.slots (old.node n) → IsWithin old.config.slots after) → ((l : Letter) → allowed l → IsFair old.config old.views l) → IsSteady new
+loud_keep : (old new : SystemState) (n : ℕ) (after : Node) (allowed : Letter → Type 0) → Changes old new n after allowed → IsSteady old → Keeps (old.node n) after → (IsWithin old.config.slots (old.node n) → IsWithin old.config.slots after) → ((l : Letter) → allowed l → IsFair old.config old.views l) → IsSteady new
 loud_keep old new n after allowed ch h keeps rows fair =
     let k = h.nodes n ch.live in
     changes_keep old new n after allowed ch h (IsKnown-keeps old.config old.views n (old.node n) after k keeps (rows k.rows)) fair
@@ -185,7 +185,7 @@ installed_known config views n m e left k less le =
       rows = record { slots = k.rows.slots; pending = k.rows.pending; kept = k.rows.kept; held = k.rows.held };
     }
 
-pub same_keep : (old new : Scene) → Same old new → IsSteady old → IsSteady new
+pub same_keep : (old new : SystemState) → Same old new → IsSteady old → IsSteady new
 same_keep old new same h =
     record {
       nodes = λ k live. moved old.config new.config old.views new.views k (old.node k) (new.node k) same.config same.views (same.nodes k) (h.nodes k (rw (same.nodes k) at live));
@@ -236,7 +236,7 @@ fair_viewed config views set l f =
       says = f.says;
     }
 
-view_keep : (old new : Scene) (set : List ℕ) → NewView old new set → IsSteady old → IsSteady new
+view_keep : (old new : SystemState) (set : List ℕ) → NewView old new set → IsSteady old → IsSteady new
 view_keep old new set v h =
     record {
       nodes = λ k live.
@@ -271,12 +271,12 @@ within_committed bound m s c ran followers writes less w =
     let copies = (committed m s c ran followers writes).copies in
     IsWithin-with_slot bound (with_copies m copies) s _ (λ le. absurd (omega arith)) (IsWithin-with_copies bound m copies w)
 
-proposal_keep : (old new : Scene) (n x : ℕ) (p : Proposal) → is_below p.base p.stamp ≡ true → Changes old new n (holding (old.node n) x p) (IsAboutProposal (old.node n) x p) → IsSteady old → IsSteady new
+proposal_keep : (old new : SystemState) (n x : ℕ) (p : Proposal) → is_below p.base p.stamp ≡ true → Changes old new n (holding (old.node n) x p) (IsAboutProposal (old.node n) x p) → IsSteady old → IsSteady new
 proposal_keep old new n x p below ch h =
     loud_keep old new n (holding (old.node n) x p) (IsAboutProposal (old.node n) x p) ch h (Keeps-holding (old.node n) x p) (IsWithin-holding old.config.slots (old.node n) x p below)
     (about_fair old.config old.views n (old.node n) x p (h.nodes n ch.live) below)
 
-pub move_keep : (old new : Scene) → Move old new → IsSteady old → IsSteady new
+pub move_keep : (old new : SystemState) → Move old new → IsSteady old → IsSteady new
 move_keep old new (makes_view set v) h = view_keep old new set v h
 move_keep old new (stops n ch) h =
     changes_keep old new n (record (old.node n) { stopped = true }) nothing ch h (stopped_known old.config old.views n (old.node n) (h.nodes n ch.live)) (λ l no. absurd no)
@@ -326,6 +326,6 @@ move_keep old new (commits n s c less is cause ch) h =
     let ran = run_here (old.node n) c.tx in
     quiet_keep old new n _ ch h (Keeps-committed (old.node n) s c ran _ _) (within_committed old.config.slots (old.node n) s c ran _ _ less)
 
-pub moves_keep : (old new : Scene) → Moves old new → IsSteady old → IsSteady new
+pub moves_keep : (old new : SystemState) → Moves old new → IsSteady old → IsSteady new
 moves_keep old new (none _ _ same) h = same_keep old new same h
 moves_keep old new (next _ mid _ m ms) h = moves_keep mid new ms (move_keep old mid m h)

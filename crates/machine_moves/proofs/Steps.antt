@@ -1,4 +1,4 @@
--- Each step of the world is a sequence of moves of its scene.
+-- Each step of the world is a sequence of moves of its system.
 use Rattle.std.specs.Prelude.{ℕ, suc, ◌≡◌, ◌-◌, ◌<◌, ◌≤◌, Bool, true, false, ◌&&◌, not, ◌==◌, nat_lt, List, [], ◌∷◌, ◌++◌, length, take, Option, Some, None, ◌⊎◌, if◌then◌else◌}
 use Rattle.std.proofs.Common.{arith, refl, ap, ◌∙◌, inl, inr, subst}
 use Rattle.std.proofs.lemmas.Bool.{cond_both, or_cases, eqb-true, not-false, ltb-true, ltb-false}
@@ -22,8 +22,8 @@ use Rattle.zeus_model.specs.Book.{Book, counted, book_passes, in_stream_order}
 use Rattle.zeus_model.specs.Commit.{finish}
 use Rattle.zeus_model.specs.Local.{try_slot}
 use Rattle.zeus_model.specs.Membership.{dropped, install, stop, tick}
-use Rattle.zeus_model.specs.World.{World, Event, no_node, node, tx_decl, link, all_posted, cut, refuse_step, begin_refused, begin_or_not, step_begin, tried_at, nth_letter, received_at, deliver_or_not, ticked_at, stopped_at, installed_at, last_view, view_refused, view_or_not, step_install, happens, stepped}
-use Rattle.machine_moves.specs.Scene.{Scene, scene, view, IsLive, NewView, nothing}
+use Rattle.zeus_model.specs.World.{World, Event, no_node, node, tx_decl, link, all_posted, first_64, refuse_step, begin_refused, begin_or_not, step_begin, tried_at, nth_letter, received_at, deliver_or_not, ticked_at, stopped_at, installed_at, last_view, view_refused, view_or_not, step_install, happens, stepped}
+use Rattle.machine_moves.specs.SystemState.{SystemState, system, view, IsLive, NewView, nothing}
 use Rattle.machine_moves.specs.Move.{Move, Moves, none, next, makes_view, stops, installs}
 use Rattle.machine_moves.specs.Fits.{StepFits}
 use Rattle.machine_moves.proofs.Lists.{nth-put_same, nth-put_other, In-nothing}
@@ -36,25 +36,25 @@ use Rattle.machine_moves.proofs.Receiving.{receive-answered}
 use Rattle.machine_moves.proofs.Trying.{begin-answered, try_slot-answered}
 use Rattle.machine_moves.proofs.Ticking.{tick-answered}
 
--- a step leads by moves to the scene after it, and keeps the ends of links and the configuration
+-- a step leads by moves to the system after it, and keeps the ends of links and the configuration
 pub record IsStep (w after : World) : Type 0 where
-  pub moves : Moves (scene w) (scene after)
+  pub moves : Moves (system w) (system after)
   pub ends : HasEnds after.links
   pub config : after.config ≡ w.config
 
 -- what is known of the world before
 pub record IsUsual (w : World) : Type 0 where
-  pub steady : IsSteady (scene w)
+  pub steady : IsSteady (system w)
   pub ends : HasEnds w.links
   pub few : length w.config.directory ≤ 8
 
 -- ---- a step that changes nothing
 
 refused_step : (w : World) → IsUsual w → IsStep w (record w { book = counted w.book })
-unfolding scene
+unfolding system
 refused_step w u =
     record {
-      moves = none (scene w) (scene (record w { book = counted w.book })) record { config = refl; views = refl; nodes = λ m. refl; sends = record { stay = λ l i. i; only = λ l i. inl i } };
+      moves = none (system w) (system (record w { book = counted w.book })) record { config = refl; views = refl; nodes = λ m. refl; sends = record { stay = λ l i. i; only = λ l i. inl i } };
       ends = u.ends;
       config = refl;
     }
@@ -65,8 +65,8 @@ abbrev pub world_after : World → ℕ → Node → List Letter → Book → Wor
 world_after w n after letters book =
     record { config = w.config; txs = w.txs; nodes = put no_node w.nodes n after; links = all_posted w.links letters; views = w.views; book = book }
 
-pub Became-after : (w : World) (n : ℕ) (after : Node) (letters : List Letter) (book : Book) → Became (scene w) (scene (world_after w n after letters book)) n after letters
-unfolding scene
+pub Became-after : (w : World) (n : ℕ) (after : Node) (letters : List Letter) (book : Book) → Became (system w) (system (world_after w n after letters book)) n after letters
+unfolding system
 Became-after w n after letters book =
     record {
       config = refl;
@@ -78,55 +78,55 @@ Became-after w n after letters book =
       only = λ l i. sent-only w.links letters l i;
     }
 
-moved_step : (w : World) (n : ℕ) (after : Node) (letters : List Letter) (book : Book) → IsUsual w → Moves (scene w) (scene (world_after w n after letters book)) → IsStep w (world_after w n after letters book)
+moved_step : (w : World) (n : ℕ) (after : Node) (letters : List Letter) (book : Book) → IsUsual w → Moves (system w) (system (world_after w n after letters book)) → IsStep w (world_after w n after letters book)
 moved_step w n after letters book u ms = record { moves = ms; ends = HasEnds-all_posted w.links letters u.ends; config = refl }
 
-reached_moves : (w : World) (n : ℕ) (after : Node) (letters : List Letter) (book : Book) → Reaches (scene w) n after letters → Moves (scene w) (scene (world_after w n after letters book))
+reached_moves : (w : World) (n : ℕ) (after : Node) (letters : List Letter) (book : Book) → Reaches (system w) n after letters → Moves (system w) (system (world_after w n after letters book))
 reached_moves w n after letters book r =
-    Moves-reaches (scene w) (scene (world_after w n after letters book)) n after letters r (Became-after w n after letters book)
+    Moves-reaches (system w) (system (world_after w n after letters book)) n after letters r (Became-after w n after letters book)
 
-reached_step : (w : World) (n : ℕ) (after : Node) (letters : List Letter) (book : Book) → IsUsual w → Reaches (scene w) n after letters → IsStep w (world_after w n after letters book)
+reached_step : (w : World) (n : ℕ) (after : Node) (letters : List Letter) (book : Book) → IsUsual w → Reaches (system w) n after letters → IsStep w (world_after w n after letters book)
 reached_step w n after letters book u r = moved_step w n after letters book u (reached_moves w n after letters book r)
 
 -- ---- begin
 
 begin_or_not-step : (refused : Option Answer) (w : World) (k : ℕ) → IsUsual w → IsStep w (begin_or_not w k refused).world
-unfolding begin_or_not scene
+unfolding begin_or_not system
 begin_or_not-step (Some a) w k u = refused_step w u
 begin_or_not-step None w k u =
     let t = tx_decl w k in
-    reached_step w t.node _ [] _ u (begin-answered (scene w) t.node t.slot k 0 t.tx u.steady)
+    reached_step w t.node _ [] _ u (begin-answered (system w) t.node t.slot k 0 t.tx u.steady)
 
 -- ---- try
 
 tried_step : (w : World) (n i : ℕ) → IsUsual w → i < w.config.slots → IsStep w (tried_at w n i (try_slot (node w n) i)).world
-unfolding tried_at scene
-tried_step w n i u within = reached_step w n _ _ _ u (try_slot-answered (scene w) n i 64 u.steady within)
+unfolding tried_at system
+tried_step w n i u within = reached_step w n _ _ _ u (try_slot-answered (system w) n i 64 u.steady within)
 
 -- ---- deliver
 
 deliver_or_not-step : (letter : Option Letter) (w : World) (from to i : ℕ) → IsUsual w → nth_letter (link w.links from to) i ≡ letter → IsStep w (deliver_or_not w from to letter).world
-unfolding deliver_or_not received_at scene HasEnds
+unfolding deliver_or_not received_at system HasEnds
 deliver_or_not-step None w from to i u is = refused_step w u
 deliver_or_not-step (Some l) w from to i u is =
     let at = nth_letter-In (link w.links from to) i l is in
     let ends = u.ends in
     reached_step w to _ _ _ u
-    (receive-answered (scene w) to 64 l u.steady (In-from_link w.links l record { from = from; to = to; is = at }) (ends from to l at).1 u.few (omega arith))
+    (receive-answered (system w) to 64 l u.steady (In-from_link w.links l record { from = from; to = to; is = at }) (ends from to l at).1 u.few (omega arith))
 
 -- ---- tick
 
 ticked_step : (w : World) (n : ℕ) → IsUsual w → IsStep w (ticked_at w n (tick (node w n))).world
-unfolding ticked_at scene
-ticked_step w n u = reached_step w n _ _ _ u (any_reaches (scene w) n _ _ (tick-answered (scene w) n 64 u.steady))
+unfolding ticked_at system
+ticked_step w n u = reached_step w n _ _ _ u (any_reaches (system w) n _ _ (tick-answered (system w) n 64 u.steady))
 
 -- ---- stop
 
-stops_moves : (s t : Scene) (n : ℕ) → IsLive s n → Became s t n (record (s.node n) { stopped = true }) [] → Moves s t
+stops_moves : (s t : SystemState) (n : ℕ) → IsLive s n → Became s t n (record (s.node n) { stopped = true }) [] → Moves s t
 stops_moves s t n live b =
     next s t t (stops n (Changes-became s t n (record (s.node n) { stopped = true }) [] nothing live b (λ l i. In-nothing l i))) (none t t (Same-refl t))
 
-stop_moves : (s t : Scene) (n : ℕ) → Became s t n (stop (s.node n)).node [] → Moves s t
+stop_moves : (s t : SystemState) (n : ℕ) → Became s t n (stop (s.node n)).node [] → Moves s t
 unfolding stop
 stop_moves s t n =
     let m = s.node n in
@@ -135,17 +135,17 @@ stop_moves s t n =
     (λ live b. stops_moves s t n live b)
 
 stopped_step : (w : World) (n : ℕ) → IsUsual w → IsStep w (stopped_at w n (stop (node w n))).world
-unfolding stopped_at scene
+unfolding stopped_at system
 stopped_step w n u =
     let after = (stop (node w n)).node in
-    moved_step w n after [] (counted w.book) u (stop_moves (scene w) (scene (world_after w n after [] (counted w.book))) n (Became-after w n after [] (counted w.book)))
+    moved_step w n after [] (counted w.book) u (stop_moves (system w) (system (world_after w n after [] (counted w.book))) n (Became-after w n after [] (counted w.book)))
 
 -- ---- install
 
-abbrev pub viewed : Scene → ℕ → ℕ → Node
+abbrev pub viewed : SystemState → ℕ → ℕ → Node
 viewed s n e = record (s.node n) { epoch = e; members = view s e; reported = []; gathers = dropped (s.node n).gathers }
 
-installs_moves : (s t : Scene) (n e : ℕ) → IsSteady s → IsLive s n → (s.node n).epoch < e → e ≤ length s.views → Became s t n (finish (viewed s n e)).node (take 64 (finish (viewed s n e)).sent) → Moves s t
+installs_moves : (s t : SystemState) (n e : ℕ) → IsSteady s → IsLive s n → (s.node n).epoch < e → e ≤ length s.views → Became s t n (finish (viewed s n e)).node (take 64 (finish (viewed s n e)).sent) → Moves s t
 installs_moves s t n e steady live less le b =
     let m = viewed s n e in
     let u = changed s n m [] in
@@ -154,10 +154,10 @@ installs_moves s t n e steady live less le b =
     let ready : IsReady u n = record { steady = move_keep s u move steady; live = rw (first.node) live } in
     let r : Reaches u n (finish m).node (take 64 (finish m).sent) = subst (λ (x : Node). Reaches u n (finish x).node (take 64 (finish x).sent)) first.node (finish-reached u n 64 ready) in
     let leads = r.leads in
-    let whole = Became-trans s u r.scene n m (finish m).node [] (take 64 (finish m).sent) first r.became in
-    next s u t move (leads.on t (none r.scene t (Same-became s r.scene t n (finish m).node (take 64 (finish m).sent) whole b)))
+    let whole = Became-trans s u r.system n m (finish m).node [] (take 64 (finish m).sent) first r.became in
+    next s u t move (leads.on t (none r.system t (Same-became s r.system t n (finish m).node (take 64 (finish m).sent) whole b)))
 
-install_moves : (s t : Scene) (n e : ℕ) → IsSteady s → e ≤ length s.views → Became s t n (install (s.node n) record { epoch = e; members = view s e }).node (take 64 (install (s.node n) record { epoch = e; members = view s e }).sent) → Moves s t
+install_moves : (s t : SystemState) (n e : ℕ) → IsSteady s → e ≤ length s.views → Became s t n (install (s.node n) record { epoch = e; members = view s e }).node (take 64 (install (s.node n) record { epoch = e; members = view s e }).sent) → Moves s t
 unfolding install
 install_moves s t n e steady le =
     let m = s.node n in
@@ -170,11 +170,11 @@ install_moves s t n e steady le =
     (λ _ b. Moves-reaches s t n m [] (still_reaches s n) b))
 
 installed_step : (w : World) (n e : ℕ) → IsUsual w → e ≤ length w.views → IsStep w (installed_at w n (install (node w n) record { epoch = e; members = nth [] w.views (e - 1) })).world
-unfolding installed_at scene
+unfolding installed_at system
 installed_step w n e u le =
     let d = install (node w n) record { epoch = e; members = nth [] w.views (e - 1) } in
     let book = counted (book_passes w.book n (in_stream_order d.passed)).book in
-    moved_step w n d.node (cut d.sent) book u (install_moves (scene w) (scene (world_after w n d.node (cut d.sent) book)) n e u.steady le (Became-after w n d.node (cut d.sent) book))
+    moved_step w n d.node (first_64 d.sent) book u (install_moves (system w) (system (world_after w n d.node (first_64 d.sent) book)) n e u.steady le (Became-after w n d.node (first_64 d.sent) book))
 
 install_step : (w : World) (n e : ℕ) → IsUsual w → IsStep w (step_install w n e).world
 unfolding step_install
@@ -215,8 +215,8 @@ kept_live true stopped live h = refl
 kept_live false true live h = absurd cc
 kept_live false false live h = absurd cc
 
-pub new_view : (w : World) (set : List ℕ) → IsUsual w → IsRising set → view_refused w set ≡ None → NewView (scene w) (scene (record w { views = w.views ++ set ∷ []; book = counted w.book })) set
-unfolding view_refused scene
+pub new_view : (w : World) (set : List ℕ) → IsUsual w → IsRising set → view_refused w set ≡ None → NewView (system w) (system (record w { views = w.views ++ set ∷ []; book = counted w.book })) set
+unfolding view_refused system
 new_view w set u rising h =
     let first = or_else-none _ _ h in
     let second = or_else-none _ _ first.1 in
@@ -243,7 +243,7 @@ view_or_not-step (Some m) w set u rising is = refused_step w u
 view_or_not-step None w set u rising is =
     let after : World = record w { views = w.views ++ set ∷ []; book = counted w.book } in
     record {
-      moves = next (scene w) (scene after) (scene after) (makes_view set (new_view w set u rising is)) (none (scene after) (scene after) (Same-refl (scene after)));
+      moves = next (system w) (system after) (system after) (makes_view set (new_view w set u rising is)) (none (system after) (system after) (Same-refl (system after)));
       ends = u.ends;
       config = refl;
     }

@@ -25,7 +25,7 @@ use Rattle.zeus_model.specs.Commit.{as_kept, no_kept, outside}
 use Rattle.zeus_model.specs.Local.{requests, not_owned, not_copied}
 use Rattle.zeus_model.specs.Ownership.{is_source, unready_cause, invalidations, acknowledgement, collector}
 use Rattle.zeus_model.specs.Membership.{letters_of, others, apart, repeat_report, repeat_entries, repeat_own, repeat_kept, repeat_requests, own_acknowledgement, repeat_proposal, repeat_proposals, repeat_done, leaves, repeat_leave, repeats, tick}
-use Rattle.machine_moves.specs.Scene.{Scene}
+use Rattle.machine_moves.specs.SystemState.{SystemState}
 use Rattle.machine_moves.specs.Move.{own_kept, entry_letter, reported, kept_entry, own_passed, IsTellable, IsAboutProposal, redrives}
 use Rattle.machine_moves.specs.Plain.{IsPlain}
 use Rattle.machine_moves.proofs.Lists.{In-append, In-take}
@@ -42,7 +42,7 @@ use Rattle.machine_moves.proofs.Trying.{own_entry_at, requests_telling}
 
 -- these letters can be sent by moves that leave the node as it is
 pub record Speaks (n : ℕ) (m : Node) (ls : List Letter) : Type 0 where
-  pub on : (s : Scene) (k : ℕ) → IsReady s n → s.node n ≡ m → Reaches s n m (take k ls)
+  pub on : (s : SystemState) (k : ℕ) → IsReady s n → s.node n ≡ m → Reaches s n m (take k ls)
 
 Speaks-tells : (n : ℕ) (m : Node) (ls : List Letter) → ((l : Letter) → In l ls → IsTellable m l) → Speaks n m ls
 Speaks-tells n m ls fair = record { on = λ s k ready is. tells_at s n k m ls ready.live is fair }
@@ -168,7 +168,7 @@ own_acknowledgement_about m x p l i =
     (λ _ j. elim j [ ])
     (λ h. acknowledgement_about m x to p (collector-requester m p m.me) (ready_where (is_source m p.base_place) (unready_cause m x) h) l)) i
 
-redrive_at : (s : Scene) (n k x : ℕ) (p : Proposal) → IsReady s n → (entry (s.node n) x).proposal ≡ Some p → is_open (s.node n) ≡ true → Reaches s n (s.node n) (take k (repeat_proposal (s.node n) x (Some p)))
+redrive_at : (s : SystemState) (n k x : ℕ) (p : Proposal) → IsReady s n → (entry (s.node n) x).proposal ≡ Some p → is_open (s.node n) ≡ true → Reaches s n (s.node n) (take k (repeat_proposal (s.node n) x (Some p)))
 unfolding repeat_proposal IsPlain
 redrive_at s n k x p ready held opened =
     let m = s.node n in
@@ -222,7 +222,7 @@ repeats_spoken n m =
     (Speaks-letters_of n m (repeat_done m) slots (λ i _. Speaks-tells n m (repeat_done m i) (done_again m i))))
     (Speaks-letters_of n m (repeat_leave m) objects (λ x _. Speaks-tells n m (repeat_leave m x) (leave_again m x)))
 
-pub tick-answered : (s : Scene) (n k : ℕ) → IsSteady s → Answered s n k (tick (s.node n))
+pub tick-answered : (s : SystemState) (n k : ℕ) → IsSteady s → Answered s n k (tick (s.node n))
 unfolding tick
 tick-answered s n k steady =
     let m = s.node n in

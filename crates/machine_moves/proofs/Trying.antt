@@ -23,7 +23,7 @@ use Rattle.zeus_model.specs.State.{Node, Slot, slot, own_stream, next_number}
 use Rattle.zeus_model.specs.Act.{Did, just, sends, letter, to_each}
 use Rattle.zeus_model.specs.Commit.{as_kept, no_kept, advance_own}
 use Rattle.zeus_model.specs.Local.{with_current, begin_free, begin, driver, ask, requests, not_owned, not_copied, Hindrance, Missing, Unready, hindrance, run_here, read_missing, read_row, write_cause, new_writes, replicas_of, invalidation, committed, commit_entry, commit, write_row, try_current, try_slot}
-use Rattle.machine_moves.specs.Scene.{Scene}
+use Rattle.machine_moves.specs.SystemState.{SystemState}
 use Rattle.machine_moves.specs.Move.{own_kept, entry_letter, request, own_entry, IsTellable, turns, commits}
 use Rattle.machine_moves.proofs.Within.{slot-with_slot_same, Keeps-with_slot, Keeps-committed}
 use Rattle.machine_moves.proofs.Steady.{IsSteady}
@@ -31,19 +31,19 @@ use Rattle.machine_moves.proofs.Reach.{Reaches, Answered, IsReady, known, still_
 use Rattle.machine_moves.proofs.Passing.{to_each-each, meet-left, meet-right, without-other, advance_own-reached}
 
 -- the slot's current transaction comes or goes
-pub turns_reaches : (s : Scene) (n i k : ℕ) (c : Option Current) → IsReady s n → Reaches s n (with_current (s.node n) i c) (take k [])
+pub turns_reaches : (s : SystemState) (n i k : ℕ) (c : Option Current) → IsReady s n → Reaches s n (with_current (s.node n) i c) (take k [])
 turns_reaches s n i k c ready =
     let after = with_current (s.node n) i c in
     cut_none s n after k (quiet_reaches s n after ready.live (Keeps-with_slot (s.node n) i _) (λ ch. turns n i c ch))
 
 -- ---- begin
 
-begin_free-answered : (other : Option Current) (s : Scene) (n i k : ℕ) (c : Current) → IsReady s n → Answered s n k (begin_free (s.node n) i c other)
+begin_free-answered : (other : Option Current) (s : SystemState) (n i k : ℕ) (c : Current) → IsReady s n → Answered s n k (begin_free (s.node n) i c other)
 unfolding begin_free
 begin_free-answered None s n i k c ready = turns_reaches s n i k (Some c) ready
 begin_free-answered (Some other) s n i k c ready = cut_none s n (s.node n) k (still_reaches s n)
 
-pub begin-answered : (s : Scene) (n i id k : ℕ) (tx : List Op) → IsSteady s → Answered s n k (begin (s.node n) i id tx)
+pub begin-answered : (s : SystemState) (n i id k : ℕ) (tx : List Op) → IsSteady s → Answered s n k (begin (s.node n) i id tx)
 unfolding begin
 begin-answered s n i id k tx steady =
     let m = s.node n in
@@ -66,12 +66,12 @@ requests_telling m want xs l i = ask_telling (driver m) m want xs l i
 
 -- ---- a read
 
-read_missing-answered : (degree : Option ℕ) (s : Scene) (n i k : ℕ) (c : Current) (x : ℕ) → IsReady s n → Answered s n k (read_missing (s.node n) i c x degree)
+read_missing-answered : (degree : Option ℕ) (s : SystemState) (n i k : ℕ) (c : Current) (x : ℕ) → IsReady s n → Answered s n k (read_missing (s.node n) i c x degree)
 unfolding read_missing
 read_missing-answered None s n i k c x ready = turns_reaches s n i k None ready
 read_missing-answered (Some degree) s n i k c x ready = cut_tells s n k _ ready.live (requests_telling (s.node n) _ (not_copied (s.node n) (named c.tx)))
 
-read_row-answered : (h : Option Hindrance) (s : Scene) (n i k : ℕ) (c : Current) → IsReady s n → Answered s n k (read_row (s.node n) i c h)
+read_row-answered : (h : Option Hindrance) (s : SystemState) (n i k : ℕ) (c : Current) → IsReady s n → Answered s n k (read_row (s.node n) i c h)
 unfolding read_row
 read_row-answered None s n i k c ready = turns_reaches s n i k None ready
 read_row-answered (Some (Missing x)) s n i k c ready = read_missing-answered (s.node n).degree s n i k c x ready
@@ -120,7 +120,7 @@ commit_telling m i c ran replicas writes =
     own_entry_at after to i (length (slot m i).pending) (next_number (slot m i)) (slot m i).done kept (committed-length m i c ran followers writes) (committed-entry m i c ran followers writes) first refl
     follower (meet-right to followers m.members h) (without-other to m.me replicas follower))
 
-commits_reaches : (s : Scene) (n self i : ℕ) (c : Current) → self ≡ n → IsReady s n → i < s.config.slots → (slot (s.node n) i).current ≡ Some c → write_cause (s.node n) i c.tx ≡ None → Reaches s n (committed (s.node n) i c (run_here (s.node n) c.tx) (without self (replicas_of (s.node n) (new_writes (s.node n) (run_here (s.node n) c.tx).writes))) (new_writes (s.node n) (run_here (s.node n) c.tx).writes)) []
+commits_reaches : (s : SystemState) (n self i : ℕ) (c : Current) → self ≡ n → IsReady s n → i < s.config.slots → (slot (s.node n) i).current ≡ Some c → write_cause (s.node n) i c.tx ≡ None → Reaches s n (committed (s.node n) i c (run_here (s.node n) c.tx) (without self (replicas_of (s.node n) (new_writes (s.node n) (run_here (s.node n) c.tx).writes))) (new_writes (s.node n) (run_here (s.node n) c.tx).writes)) []
 commits_reaches s n self i c same ready within is none =
     let m = s.node n in
     let ran : Ran = run_here m c.tx in
@@ -128,7 +128,7 @@ commits_reaches s n self i c same ready within is none =
     let after = committed m i c ran (without n (replicas_of m writes)) writes in
     rw same (quiet_reaches s n after ready.live (Keeps-committed m i c ran (without n (replicas_of m writes)) writes) (λ ch. commits n i c within is none ch))
 
-commit-answered : (s : Scene) (n i k : ℕ) (c : Current) → IsReady s n → i < s.config.slots → (slot (s.node n) i).current ≡ Some c → write_cause (s.node n) i c.tx ≡ None → Answered s n k (commit (s.node n) i c (run_here (s.node n) c.tx))
+commit-answered : (s : SystemState) (n i k : ℕ) (c : Current) → IsReady s n → i < s.config.slots → (slot (s.node n) i).current ≡ Some c → write_cause (s.node n) i c.tx ≡ None → Answered s n k (commit (s.node n) i c (run_here (s.node n) c.tx))
 unfolding commit commit_entry
 commit-answered s n i k c ready within is none =
     let m = s.node n in
@@ -144,7 +144,7 @@ commit-answered s n i k c ready within is none =
 
 -- ---- a try
 
-write_row-answered : (cause : Option Tried) (s : Scene) (n i k : ℕ) (c : Current) → IsReady s n → i < s.config.slots → (slot (s.node n) i).current ≡ Some c → write_cause (s.node n) i c.tx ≡ cause → Answered s n k (write_row (s.node n) i c cause)
+write_row-answered : (cause : Option Tried) (s : SystemState) (n i k : ℕ) (c : Current) → IsReady s n → i < s.config.slots → (slot (s.node n) i).current ≡ Some c → write_cause (s.node n) i c.tx ≡ cause → Answered s n k (write_row (s.node n) i c cause)
 unfolding write_row
 write_row-answered None s n i k c ready within is cause = commit-answered s n i k c ready within is cause
 write_row-answered (Some (NotOwner x)) s n i k c ready within is cause = cut_tells s n k _ ready.live (requests_telling (s.node n) _ (not_owned (s.node n) (named c.tx)))
@@ -158,7 +158,7 @@ write_row-answered (Some (Held x other)) s n i k c ready within is cause = cut_n
 write_row-answered (Some WornOut) s n i k c ready within is cause = cut_none s n (s.node n) k (still_reaches s n)
 write_row-answered (Some (Committed id number reply)) s n i k c ready within is cause = cut_none s n (s.node n) k (still_reaches s n)
 
-try_current-answered : (current : Option Current) (s : Scene) (n i k : ℕ) → IsReady s n → i < s.config.slots → (slot (s.node n) i).current ≡ current → Answered s n k (try_current (s.node n) i current)
+try_current-answered : (current : Option Current) (s : SystemState) (n i k : ℕ) → IsReady s n → i < s.config.slots → (slot (s.node n) i).current ≡ current → Answered s n k (try_current (s.node n) i current)
 unfolding try_current
 try_current-answered None s n i k ready within is = cut_none s n (s.node n) k (still_reaches s n)
 try_current-answered (Some c) s n i k ready within is =
@@ -168,7 +168,7 @@ try_current-answered (Some c) s n i k ready within is =
     (λ _. read_row-answered (hindrance m c.tx) s n i k c ready)
 
 -- a slot's transaction is tried
-pub try_slot-answered : (s : Scene) (n i k : ℕ) → IsSteady s → i < s.config.slots → Answered s n k (try_slot (s.node n) i)
+pub try_slot-answered : (s : SystemState) (n i k : ℕ) → IsSteady s → i < s.config.slots → Answered s n k (try_slot (s.node n) i)
 unfolding try_slot
 try_slot-answered s n i k steady within =
     let m = s.node n in

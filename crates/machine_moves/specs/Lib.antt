@@ -1,4 +1,4 @@
-pub mod Scene
+pub mod SystemState
 pub mod Move
 pub mod Fits
 pub mod Plain

@@ -26,7 +26,7 @@ use Rattle.zeus_model.specs.Commit.{as_kept, raise, store, passes, pass_own, pas
 use Rattle.zeus_model.specs.Ownership.{settle, holding, is_source, own_content, unready_cause, driven, greater_cause, greater_gather, gather_for, noted, is_decidable, bring}
 use Rattle.zeus_model.specs.Membership.{dropped}
 use Rattle.zeus_model.specs.Local.{with_current, committed, write_cause, run_here, new_writes, replicas_of}
-use Rattle.machine_moves.specs.Scene.{Scene, IsReceivable, Changes, Same, NewView, nothing, view}
+use Rattle.machine_moves.specs.SystemState.{SystemState, IsReceivable, Changes, Same, NewView, nothing, view}
 
 -- the entries that a node has of a stream: pending in its own slot, or stored
 unfoldable pub own_kept : Node → ℕ → List Kept
@@ -67,7 +67,7 @@ pub data IsAboutProposal (n : Node) (x : ℕ) (p : Proposal) : Letter → Type 0
       → IsAboutProposal n x p (letter n to (OAck x p (own_content n x p.base_place)))
 
 -- the acknowledgement of a proposal is among the letters
-abbrev pub HasAcked : Scene → Node → ℕ → Proposal → Type 0
+abbrev pub HasAcked : SystemState → Node → ℕ → Proposal → Type 0
 HasAcked s n x p = (to : ℕ) × In (letter n to (OAck x p (own_content n x p.base_place))) s.letters
 
 -- the letter tells this stamp and placement, as the base of a proposal or as a decision
@@ -85,7 +85,7 @@ pub data IsRaising (s : Stream) (d : ℕ) : Letter → Type 0 where
   by_word : (from to epoch : ℕ) → IsRaising s d record { from = from; to = to; epoch = epoch; body = RVal s d }
 
 -- a driver may drive a request of a member, which holds no proposal and whose settled placement has a source
-pub record MayDrive (s : Scene) (n x requester : ℕ) (want : Want) : Type 0 where
+pub record MayDrive (s : SystemState) (n x requester : ℕ) (want : Want) : Type 0 where
   pub directory : has n (s.node n).directory ≡ true
   pub member : has requester (s.node n).members ≡ true
   pub opened : is_open (s.node n) ≡ true
@@ -95,7 +95,7 @@ pub record MayDrive (s : Scene) (n x requester : ℕ) (want : Want) : Type 0 whe
   pub ready : is_source (s.node n) (entry (s.node n) x).place ≡ true → unready_cause (s.node n) x ≡ None
 
 -- an arbiter may hold a proposal that it was sent, above its settled stamp, whose base is not, and not below what it holds
-pub record MayAccept (s : Scene) (n x : ℕ) (p : Proposal) : Type 0 where
+pub record MayAccept (s : SystemState) (n x : ℕ) (p : Proposal) : Type 0 where
   pub sent : (l : Letter) × (l.body ≡ OInv x p) × IsReceivable s n l
   pub opened : is_open (s.node n) ≡ true
   pub arbiter : (has n (s.node n).directory ≡ true) ⊎ (is_source (s.node n) p.base_place ≡ true)
@@ -104,7 +104,7 @@ pub record MayAccept (s : Scene) (n x : ℕ) (p : Proposal) : Type 0 where
   pub greatest : greater_cause p.stamp (entry (s.node n) x).proposal ≡ None
   pub ready : is_source (s.node n) p.base_place ≡ true → unready_cause (s.node n) x ≡ None
 
-pub data Move (old new : Scene) : Type 0 where
+pub data Move (old new : SystemState) : Type 0 where
   makes_view : (set : List ℕ) → NewView old new set → Move old new
   stops : (n : ℕ) → Changes old new n (record (old.node n) { stopped = true }) nothing → Move old new
   installs : (n e : ℕ) → (old.node n).epoch < e → e ≤ length old.views
@@ -166,6 +166,6 @@ pub data Move (old new : Scene) : Type 0 where
       (new_writes (old.node n) (run_here (old.node n) c.tx).writes)) nothing → Move old new
 
 -- moves one after another
-pub data Moves : Scene → Scene → Type 0 where
-  none : (old new : Scene) → Same old new → Moves old new
-  next : (old mid new : Scene) → Move old mid → Moves mid new → Moves old new
+pub data Moves : SystemState → SystemState → Type 0 where
+  none : (old new : SystemState) → Same old new → Moves old new
+  next : (old mid new : SystemState) → Move old mid → Moves mid new → Moves old new

@@ -9,11 +9,13 @@ ghost use Rattle.zeus_txn.specs.declared.tx.TxDecl.{TxDecl};
 ghost use Rattle.zeus_model.specs.World.{start, stepped, run};
 ghost use Rattle.machine_moves.specs.Fits.{StepFits};
 ghost use Rattle.machine_moves.specs.Move.{Moves};
-ghost use Rattle.machine_moves.specs.Scene.{scene, IsNumbered};
+ghost use Rattle.machine_moves.specs.SystemState.{system, IsNumbered};
 
 /// In each run of steps that fit the configuration, each step is a sequence of moves, and the live nodes know their
 /// numbers, the directory, the degree, their epochs and the members of these.
 pub fn steps_are_moves()
-    ensures moves { (c : Config) (txs : List TxDecl) (steps : List Step) (s : Step) → KeepsLimits c → All (StepFits c txs) steps → StepFits c txs s → Moves (scene (run (start c txs) steps)) (scene (stepped (run (start c txs) steps) s)) }
-    ensures numbered { (c : Config) (txs : List TxDecl) (steps : List Step) → KeepsLimits c → All (StepFits c txs) steps → IsNumbered (scene (run (start c txs) steps)) }
+    ensures moves { (c : Config) (txs : List TxDecl) (steps : List Step) (s : Step) → KeepsLimits c → All (StepFits c txs) steps → StepFits c txs s
+        → Moves (system (run (start c txs) steps)) (system (stepped (run (start c txs) steps) s)) }
+    ensures numbered { (c : Config) (txs : List TxDecl) (steps : List Step) → KeepsLimits c → All (StepFits c txs) steps
+        → IsNumbered (system (run (start c txs) steps)) }
 {}

@@ -8,5 +8,6 @@ mod tests;
 
 pub use barrier::Barrier;
 pub use service::Service;
+pub use zeus_base::{NoMemory, NodeId, NodeSet};
 pub use zeus_model::Made;
 pub use zeus_packet::View;

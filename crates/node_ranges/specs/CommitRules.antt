@@ -17,7 +17,7 @@ use Rattle.zeus_model.specs.declared.answer.Outcome.{Outcome}
 use Rattle.zeus_model.specs.declared.answer.Outcome.TheVariants.{Taken, Again, Gap, Refused}
 use Rattle.zeus_model.specs.declared.state.Kept.{Kept}
 use Rattle.zeus_model.specs.Act.{Act, Did, still, just, sends, and_then, in_turn, letter, to_each}
-use Rattle.zeus_model.specs.Commit.{as_kept, followers_of, passes, passing, told, pass_own, advance_own_by, advance_own, pass_kept, advance_kept_by, advance_kept, raise, next_kept, store, stored_rinv, on_rinv, is_within, on_own_rack, on_kept_rack, on_rack, on_rval, no_pending, no_kept, streams_of, streams_outside, outside, none_stored, report, finish}
+use Rattle.zeus_model.specs.Commit.{as_kept, followers_of, passes, passing, told, pass_own, advance_own_by, advance_own, pass_kept, advance_kept_by, advance_kept, raise, next_kept, store, stored_rinv, on_rinv, is_within, on_own_rack, on_kept_rack, on_rack, on_rval, no_pending, no_kept, streams_of, streams_outside, outside, none_stored, report_recovered, finish}
 use Rattle.zeus_model.specs.Receive.{on_recovered}
 use Rattle.zeus_model.specs.State.{Node, slot, log, with_slot, with_log, own_stream}
 use Rattle.zeus_model.specs.Tables.{nth, below, front}
@@ -201,8 +201,8 @@ pub outside-fit : (limits : Limits) (n : Node) → KeepsRanges limits n → All 
 outside-fit limits n k = streams_outside-fit limits n.members (length n.slots) 0 (length n.logs) (omega (arith, k.sizes.slots)) (omega (arith, k.sizes.nodes))
 
 -- a node that reports keeps its ranges
-pub report-keeps : (limits : Limits) → Keeping limits report
-unfolding report body_fits
+pub report-keeps : (limits : Limits) → Keeping limits report_recovered
+unfolding report_recovered body_fits
 report-keeps limits n k =
     let after : Act = record { node = record n { reported = with_node n.me n.reported }; sent = to_each n (without n.me n.members) Recovered; passed = [] } in
     cond_both (not (has n.me n.reported) && none_stored n (outside n)) after (still n) (λ (a : Act). KeepsAndFits limits a.node a.sent)
@@ -221,9 +221,9 @@ pub finish-keeps : (limits : Limits) → Keeping limits finish
 unfolding finish
 finish-keeps limits n k =
     let slots = below (length n.slots) in
-    KeepsAndFits-then limits (in_turn advance_own n slots) (λ m. and_then (in_turn advance_kept m (outside m)) report)
+    KeepsAndFits-then limits (in_turn advance_own n slots) (λ m. and_then (in_turn advance_kept m (outside m)) report_recovered)
     (in_turn-keeps limits advance_own (λ s. s < limits.slots) slots (λ s within. advance_own-keeps limits s within) (All-below 0 (length n.slots) limits.slots (omega (arith, k.sizes.slots))) n k)
-    (λ m h. KeepsAndFits-then limits (in_turn advance_kept m (outside m)) report (advances-keep limits m h) (report-keeps limits))
+    (λ m h. KeepsAndFits-then limits (in_turn advance_kept m (outside m)) report_recovered (advances-keep limits m h) (report-keeps limits))
 
 -- ---- letters of entries
 

@@ -8,7 +8,7 @@ use Rattle.zeus_packet.specs.declared.letter.Body.TheVariants.{RInv, RAck, RVal,
 use Rattle.zeus_packet.specs.declared.letter.Letter.{Letter}
 use Rattle.zeus_model.specs.declared.answer.Outcome.{Outcome}
 use Rattle.zeus_model.specs.Commit.{finish}
-use Rattle.zeus_model.specs.Receive.{row, untaken, receive_or_not, receive}
+use Rattle.zeus_model.specs.Receive.{row, rejection, receive_or_not, receive}
 use Rattle.zeus_model.specs.State.{Node}
 use Rattle.node_ranges.specs.Acts.{KeepsAndFits-still, KeepsAndFits-did_then}
 use Rattle.node_ranges.specs.CommitRules.{on_rinv-keeps, on_rack-keeps, on_rval-keeps, on_recovered-keeps, finish-keeps}
@@ -46,4 +46,4 @@ receive_or_not-keeps limits n l None fit k =
 -- a letter that fits
 pub receive-keeps : (limits : Limits) (n : Node) (l : Letter) → fits l limits ≡ true → KeepsRanges limits n → KeepsAndFits limits (receive n l).node (receive n l).sent
 unfolding receive
-receive-keeps limits n l fit k = receive_or_not-keeps limits n l (untaken n l) fit k
+receive-keeps limits n l fit k = receive_or_not-keeps limits n l (rejection n l) fit k

@@ -8,4 +8,6 @@ mod tests;
 
 pub use copies::Copies;
 pub use hold::Hold;
+pub use zeus_base::{Config, NoMemory, NodeId, ObjId, SlotId, Value};
 pub use zeus_model::Copy;
+pub use zeus_packet::{Content, Write};

@@ -8,4 +8,6 @@ mod tests;
 
 pub use dir::Dir;
 pub use entry::{Accept, OwnerEntry};
+pub use zeus_base::{Config, NoMemory, NodeId, NodeSet, ObjId, Stamp};
 pub use zeus_model::Entry;
+pub use zeus_packet::{Place, Proposal};

@@ -11,7 +11,7 @@ use Rattle.zeus_packet.specs.declared.place.Proposal.{Proposal}
 use Rattle.zeus_packet.specs.declared.place.Want.{Want}
 use Rattle.zeus_packet.specs.declared.place.Want.TheVariants.{Own, Read, Leave}
 use Rattle.ownership_safety.specs.Moves.{MayWant}
-use Rattle.ownership_safety.specs.Ordered.{IsPlaced}
+use Rattle.ownership_safety.specs.OwnershipInvariant.{IsPlaced}
 
 -- ---- a set with an optional node
 

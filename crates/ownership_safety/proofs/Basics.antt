@@ -7,7 +7,7 @@ use Rattle.zeus_base.specs.OrderLaws.{is_below-irrefl, is_below-total, is_below-
 use Rattle.zeus_base.specs.declared.order.Stamp.{Stamp}
 use Rattle.zeus_model.specs.Tables.{nth}
 use Rattle.ownership_safety.specs.Object.{In, here, there}
-use Rattle.ownership_safety.specs.Ordered.{IsLesser}
+use Rattle.ownership_safety.specs.OwnershipInvariant.{IsLesser}
 
 -- ---- members
 

@@ -12,7 +12,7 @@ use Rattle.zeus_packet.specs.declared.place.Place.{Place}
 use Rattle.zeus_packet.specs.declared.place.Proposal.{Proposal}
 use Rattle.zeus_model.specs.Tables.{nth}
 use Rattle.ownership_safety.specs.Object.{Object, IsView, IsMember, IsArbiter, IsSaid, HasAcked, IsChosen, view, rank, entry_rank, no_proposal, chain_stamp, chain_place, place_at}
-use Rattle.ownership_safety.specs.Ordered.{Ordered, IsViewed, IsPlaced, IsDecided}
+use Rattle.ownership_safety.specs.OwnershipInvariant.{OwnershipInvariant, IsViewed, IsPlaced, IsDecided}
 use Rattle.ownership_safety.proofs.Arbiters.{arbiters-directory, arbiters-stay, new_place-placed}
 
 -- ---- the chain
@@ -50,20 +50,20 @@ pub arbiter-later : (o : Object) → IsViewed o → (e f : ℕ) (place : Place) 
 arbiter-later o v e f place n placed ve vf le member arbiter =
     arbiters-stay place (view o e) (view o f) o.directory n placed.rising (views-shrink o v e f ve vf le) member arbiter
 
-module _ (o : Object) (chain : List Proposal) (ordered : Ordered o chain) where
+module _ (o : Object) (chain : List Proposal) (ownership : OwnershipInvariant o chain) where
   -- ---- the chain
 
   -- a decided stamp has the version of its place in the chain
   pub stamp_at-ver : (v : ℕ) → v ≤ length chain → (chain_stamp chain v).ver ≡ v
   unfolding chain_stamp
   stamp_at-ver zero h = refl
-  stamp_at-ver (suc v) h = (ordered.links v h).ver
+  stamp_at-ver (suc v) h = (ownership.links v h).ver
 
   pub place_at-placed : (v : ℕ) → v ≤ length chain → IsPlaced (place_at o chain v)
   unfolding chain_place
-  place_at-placed zero h = ordered.declared
+  place_at-placed zero h = ownership.declared
   place_at-placed (suc v) h =
-      new_place-placed (nth no_proposal chain v) (ordered.links v h).placed (ordered.links v h).want
+      new_place-placed (nth no_proposal chain v) (ownership.links v h).placed (ownership.links v h).want
 
   pub stamp_at-below : (u v : ℕ) → u < v → v ≤ length chain → is_below (chain_stamp chain u) (chain_stamp chain v) ≡ true
   stamp_at-below u v less in_chain =
@@ -94,33 +94,33 @@ module _ (o : Object) (chain : List Proposal) (ordered : Ordered o chain) where
   -- ---- letters
 
   pub said-viewed : (p : Proposal) (e : ℕ) → IsSaid o p e → IsView o e
-  said-viewed p e (inl (from, to, m)) = (ordered.viewed.invalidations from to e p m).0
-  said-viewed p e (inr (n, (to, c, m))) = (ordered.viewed.acknowledgements n to e p c m).0
+  said-viewed p e (inl (from, to, m)) = (ownership.viewed.invalidations from to e p m).0
+  said-viewed p e (inr (n, (to, c, m))) = (ownership.viewed.acknowledgements n to e p c m).0
 
   pub ack-said : (n : ℕ) (p : Proposal) (e : ℕ) → HasAcked o n p e → IsSaid o p e
   ack-said n p e a = inr (n, a)
 
   pub ack-viewed : (n : ℕ) (p : Proposal) (e : ℕ) → HasAcked o n p e → IsView o e
-  ack-viewed n p e a = (ordered.viewed.acknowledgements n a.0 e p a.1 a.2).0
+  ack-viewed n p e a = (ownership.viewed.acknowledgements n a.0 e p a.1 a.2).0
 
   pub ack-epoch : (n : ℕ) (p : Proposal) (e : ℕ) → HasAcked o n p e → e ≤ o.epoch n
-  ack-epoch n p e a = (ordered.viewed.acknowledgements n a.0 e p a.1 a.2).1
+  ack-epoch n p e a = (ownership.viewed.acknowledgements n a.0 e p a.1 a.2).1
 
   pub ack-rank : (n : ℕ) (p : Proposal) (e : ℕ) → HasAcked o n p e → is_below (rank o n) p.stamp ≡ false
-  ack-rank n p e a = (ordered.acks n a.0 e p a.1 a.2).rank
+  ack-rank n p e a = (ownership.acks n a.0 e p a.1 a.2).rank
 
   pub ack-arbiter : (n : ℕ) (p : Proposal) (e : ℕ) → HasAcked o n p e → IsArbiter o e p.base_place n
-  ack-arbiter n p e a = (ordered.acks n a.0 e p a.1 a.2).arbiter
+  ack-arbiter n p e a = (ownership.acks n a.0 e p a.1 a.2).arbiter
 
   -- the base of a proposal that was said is a decided placement
   pub said-placed : (p : Proposal) (e : ℕ) → IsSaid o p e → IsPlaced p.base_place
-  said-placed p e s = (ordered.proposals p e s).placed
+  said-placed p e s = (ownership.proposals p e s).placed
 
   -- two proposals of one version that were said have one base
   pub same_base : (p q : Proposal) (e f : ℕ) → IsSaid o p e → IsSaid o q f → p.stamp.ver ≡ q.stamp.ver → p.base_place ≡ q.base_place
   same_base p q e f s t same =
-      let one = ordered.proposals p e s in
-      let two = ordered.proposals q f t in
+      let one = ownership.proposals p e s in
+      let two = ownership.proposals q f t in
       let ver : p.base.ver ≡ q.base.ver = omega (arith, one.next, two.next) in
       one.base_place ∙ ap (λ (v : ℕ). place_at o chain v) ver ∙ sym two.base_place
 

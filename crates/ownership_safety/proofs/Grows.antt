@@ -13,7 +13,7 @@ use Rattle.zeus_packet.specs.declared.write.Content.{Content}
 use Rattle.zeus_model.specs.Tables.{nth}
 use Rattle.ownership_safety.specs.Object.{Object, Invalidates, Acknowledges, IsView, IsMember, IsSource, IsArbiter, IsSaid, HasAcked, HasAckedStamp, IsChosen, IsBlocked, rank, no_proposal, chain_stamp, chain_place, place_at}
 use Rattle.ownership_safety.specs.Moves.{SameOthers}
-use Rattle.ownership_safety.specs.Ordered.{IsProposal, IsAck, IsLink, IsDecided}
+use Rattle.ownership_safety.specs.OwnershipInvariant.{IsProposal, IsAck, IsLink, IsDecided}
 use Rattle.ownership_safety.specs.Kept.{Grows, Rises}
 use Rattle.ownership_safety.proofs.Basics.{nth-append}
 

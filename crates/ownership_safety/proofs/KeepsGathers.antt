@@ -14,12 +14,12 @@ use Rattle.zeus_model.specs.Ownership.{gather_for, noted}
 use Rattle.zeus_model.specs.Tables.{or_else}
 use Rattle.ownership_safety.specs.Object.{Object, Letter, Invalidates, Acknowledges, Validates, In, rank}
 use Rattle.ownership_safety.specs.Moves.{Acts, Notes, Tells}
-use Rattle.ownership_safety.specs.Ordered.{Ordered, IsViewed, IsGather}
+use Rattle.ownership_safety.specs.OwnershipInvariant.{OwnershipInvariant, IsViewed, IsGather}
 use Rattle.ownership_safety.specs.Kept.{Grows}
 use Rattle.ownership_safety.proofs.Grows.{Extends-refl, each_node, decided-grows}
 use Rattle.ownership_safety.proofs.Letters.{viewed-grows, live-back}
-use Rattle.ownership_safety.proofs.Quiet.{Quiet, gather-grows}
-use Rattle.ownership_safety.proofs.KeepsViews.{nothing-only, quiet-node, entries-ordered, told-kept}
+use Rattle.ownership_safety.proofs.NothingSaid.{Quiet, gather-grows}
+use Rattle.ownership_safety.proofs.KeepsViews.{nothing-only, quiet-node, entries-ownership, told-kept}
 
 -- ---- what holds after a live node acted in its epoch
 
@@ -92,13 +92,13 @@ module _ (old new : Object) (n : ℕ) (p : Proposal) (a : ℕ) (c : Option Conte
             ];
       }
 
-  module _ (chain : List Proposal) (ordered : Ordered old chain) where
+  module _ (chain : List Proposal) (ownership : OwnershipInvariant old chain) where
     -- a gather of the stamp is one of the proposal
     notes-proposal : (g : Gather) → old.gather n ≡ Some g → g.proposal.stamp ≡ p.stamp → g.proposal ≡ p
     notes-proposal g h same =
-        let is = ordered.gathers n g h in
+        let is = ownership.gathers n g h in
         let first = is.acks is.some.0 is.some.1 in
-        ordered.one_stamp g.proposal p (old.epoch n) (old.epoch n) (inr (is.some.0, (n, first.0, first.1))) (inr (a, (n, c, notes.sent))) same
+        ownership.one_stamp g.proposal p (old.epoch n) (old.epoch n) (inr (is.some.0, (n, first.0, first.1))) (inr (a, (n, c, notes.sent))) same
 
     notes-gather : IsGather new n (noted (gather_for p (old.gather n)) a c)
     notes-gather =
@@ -108,21 +108,21 @@ module _ (old new : Object) (n : ℕ) (p : Proposal) (a : ℕ) (c : Option Conte
               (noted-gather (empty_gather p) refl (λ b h. absurd (has-empty b h)) (λ d h. absurd cc))
           | inr (g, h, stamp, is) ↦
               let one : g.proposal ≡ p = notes-proposal g h stamp in
-              let was = ordered.gathers n g h in
+              let was = ownership.gathers n g h in
               subst (λ (x : Gather). IsGather new n (noted x a c)) (sym is)
               (noted-gather g one
               (λ b k. subst (λ (q : Proposal). (d : Option Content) × In (Acknowledges b n (old.epoch n) q d) old.letters) one (was.acks b k))
               (λ d k. subst (λ (q : Proposal). (b : ℕ) × In (Acknowledges b n (old.epoch n) q (Some d)) old.letters) one (was.content d k)))
         ]
 
-    pub keeps_Notes : Ordered new chain
+    pub keeps_Notes : OwnershipInvariant new chain
     keeps_Notes =
         let entries : (m : ℕ) → new.entry m ≡ old.entry m = each_node (λ m. new.entry m ≡ old.entry m) n notes.entry notes.acts.others.entry in
-        entries-ordered old new chain ordered quiet_Notes (acts-viewed old new n notes.acts grows_Notes ordered.viewed) entries
+        entries-ownership old new chain ownership quiet_Notes (acts-viewed old new n notes.acts grows_Notes ownership.viewed) entries
         (each_node (λ m. (g : Gather) → new.gather m ≡ Some g → IsGather new m g) n
         (λ g h. subst (λ (x : Gather). IsGather new n x) (some_same (noted (gather_for p (old.gather n)) a c) g (sym notes.gather ∙ h)) notes-gather)
-        (λ m other g h. gather-grows old new grows_Notes m (ap (λ (x : Entry). x.stamp) (entries m)) (acts-epochs old new n notes.acts m) g (ordered.gathers m g (sym (notes.acts.others.gather m other) ∙ h))))
-        (told-kept old new chain ordered grows_Notes notes.sends)
+        (λ m other g h. gather-grows old new grows_Notes m (ap (λ (x : Entry). x.stamp) (entries m)) (acts-epochs old new n notes.acts m) g (ownership.gathers m g (sym (notes.acts.others.gather m other) ∙ h))))
+        (told-kept old new chain ownership grows_Notes notes.sends)
       where
         some_same : (x y : Gather) → ◌≡◌ {A = Option Gather} (Some x) (Some y) → x ≡ y
         some_same x y e = cc
@@ -143,17 +143,17 @@ module _ (old new : Object) (n : ℕ) (tells : Tells old new n) where
   pub grows_Tells : Grows old new
   grows_Tells = quiet_Tells.grows
 
-  pub keeps_Tells : (chain : List Proposal) → Ordered old chain → Ordered new chain
-  keeps_Tells chain ordered =
+  pub keeps_Tells : (chain : List Proposal) → OwnershipInvariant old chain → OwnershipInvariant new chain
+  keeps_Tells chain ownership =
       let entries : (m : ℕ) → new.entry m ≡ old.entry m = each_node (λ m. new.entry m ≡ old.entry m) n tells.entry tells.acts.others.entry in
       let gathers : (m : ℕ) → new.gather m ≡ old.gather m = each_node (λ m. new.gather m ≡ old.gather m) n tells.gather tells.acts.others.gather in
-      entries-ordered old new chain ordered quiet_Tells (acts-viewed old new n tells.acts grows_Tells ordered.viewed) entries
-      (λ m g h. gather-grows old new grows_Tells m (ap (λ (x : Entry). x.stamp) (entries m)) (acts-epochs old new n tells.acts m) g (ordered.gathers m g (sym (gathers m) ∙ h)))
+      entries-ownership old new chain ownership quiet_Tells (acts-viewed old new n tells.acts grows_Tells ownership.viewed) entries
+      (λ m g h. gather-grows old new grows_Tells m (ap (λ (x : Entry). x.stamp) (entries m)) (acts-epochs old new n tells.acts m) g (ownership.gathers m g (sym (gathers m) ∙ h)))
       (λ t place m.
       elim (tells-letter (Validates t place) m) [
-        | inl before ↦ decided-grows old new grows_Tells chain chain (Extends-refl chain) t place (ordered.told t place before)
+        | inl before ↦ decided-grows old new grows_Tells chain chain (Extends-refl chain) t place (ownership.told t place before)
         | inr now ↦
             let stamp : t ≡ (old.entry n).stamp = cc in
             let there : place ≡ (old.entry n).place = cc in
-            rw (stamp, there) (decided-grows old new grows_Tells chain chain (Extends-refl chain) (old.entry n).stamp (old.entry n).place (ordered.settled n))
+            rw (stamp, there) (decided-grows old new grows_Tells chain chain (Extends-refl chain) (old.entry n).stamp (old.entry n).place (ownership.settled n))
       ])

@@ -14,13 +14,13 @@ use Rattle.zeus_model.specs.Ownership.{settled_entry, gather_above}
 use Rattle.zeus_model.specs.Tables.{nth, where_true}
 use Rattle.ownership_safety.specs.Object.{Object, Invalidates, Acknowledges, Validates, In, IsChosen, view, rank, entry_rank, no_proposal, chain_stamp, place_at, latest}
 use Rattle.ownership_safety.specs.Moves.{Acts, Sends, nothing, Settles, Decides}
-use Rattle.ownership_safety.specs.Ordered.{Ordered, IsHeld, IsGather, IsLink, IsDecided}
+use Rattle.ownership_safety.specs.OwnershipInvariant.{OwnershipInvariant, IsHeld, IsGather, IsLink, IsDecided}
 use Rattle.ownership_safety.specs.Kept.{Grows, IsAgain, IsFirst}
 use Rattle.ownership_safety.proofs.Basics.{nth-last}
 use Rattle.ownership_safety.proofs.Chain.{chain_stamp-suc, chain_place-suc, entry_rank-none, stamp_at-less, chosen-said}
 use Rattle.ownership_safety.proofs.Choice.{chosen-chain, chosen-not_below, chosen-clears}
 use Rattle.ownership_safety.proofs.Grows.{Extends, Extends-refl, Extends-append, each_node, decided-grows, chosen-grows, stamp_at-grows, place_at-grows}
-use Rattle.ownership_safety.proofs.Quiet.{Quiet, quiet-ordered, held-grows, gather-grows}
+use Rattle.ownership_safety.proofs.NothingSaid.{Quiet, quiet-ownership, held-grows, gather-grows}
 use Rattle.ownership_safety.proofs.KeepsViews.{nothing-only, quiet-node}
 use Rattle.ownership_safety.proofs.KeepsGathers.{acts-viewed}
 
@@ -53,7 +53,7 @@ gather_above-some t (Some f) g h =
           absurd cc
     ]
 
-module _ (old new : Object) (n : ℕ) (p : Proposal) (e : ℕ) (fixes : Fixes old new n p e) (chain : List Proposal) (ordered : Ordered old chain) where
+module _ (old new : Object) (n : ℕ) (p : Proposal) (e : ℕ) (fixes : Fixes old new n p e) (chain : List Proposal) (ownership : OwnershipInvariant old chain) where
   fixes-stamp : (new.entry n).stamp ≡ p.stamp
   fixes-stamp = ap (λ (x : Entry). x.stamp) fixes.entry
 
@@ -61,7 +61,7 @@ module _ (old new : Object) (n : ℕ) (p : Proposal) (e : ℕ) (fixes : Fixes ol
   fixes-place = ap (λ (x : Entry). x.place) fixes.entry
 
   fixes-free : (new.entry n).proposal ≡ None
-  fixes-free = ap (λ (x : Entry). x.proposal) fixes.entry ∙ chosen-clears old chain ordered p e n fixes.chosen fixes.acts.live fixes.above
+  fixes-free = ap (λ (x : Entry). x.proposal) fixes.entry ∙ chosen-clears old chain ownership p e n fixes.chosen fixes.acts.live fixes.above
 
   fixes-rank : rank new n ≡ p.stamp
   fixes-rank = entry_rank-none (new.entry n).stamp (new.entry n).proposal fixes-free ∙ fixes-stamp
@@ -69,7 +69,7 @@ module _ (old new : Object) (n : ℕ) (p : Proposal) (e : ℕ) (fixes : Fixes ol
   quiet_Fixes : Quiet old new
   quiet_Fixes =
       quiet-node old new n fixes.acts.setting fixes.acts.others (λ h. fixes.acts.stopped ∙ h) (let same = fixes.acts.epoch in omega arith)
-      (rw fixes-rank (rank-below p.stamp (old.entry n).stamp (old.entry n).proposal fixes.above (λ q h. chosen-not_below old chain ordered p q e n fixes.chosen fixes.acts.live h fixes.above)))
+      (rw fixes-rank (rank-below p.stamp (old.entry n).stamp (old.entry n).proposal fixes.above (λ q h. chosen-not_below old chain ownership p q e n fixes.chosen fixes.acts.live h fixes.above)))
       (rw fixes-stamp (is_below-asym (old.entry n).stamp p.stamp fixes.above)) fixes.sends.kept
       (λ from to f q. nothing-only old new fixes.sends (Invalidates from to f q))
       (λ from to f q c. nothing-only old new fixes.sends (Acknowledges from to f q c))
@@ -83,7 +83,7 @@ module _ (old new : Object) (n : ℕ) (p : Proposal) (e : ℕ) (fixes : Fixes ol
       (λ q h. absurd (none_some q (sym fixes-free ∙ h)))
       (λ m other q h.
       let same = fixes.acts.others.entry m other in
-      held-grows old new fixes-grows m same q (ordered.held m q (sym (ap (λ (x : Entry). x.proposal) same) ∙ h)))
+      held-grows old new fixes-grows m same q (ownership.held m q (sym (ap (λ (x : Entry). x.proposal) same) ∙ h)))
     where
       none_some : (q : Proposal) → ◌≡◌ {A = Option Proposal} None (Some q) → ⊥
       none_some q h = cc
@@ -91,7 +91,7 @@ module _ (old new : Object) (n : ℕ) (p : Proposal) (e : ℕ) (fixes : Fixes ol
   fixes-gather : (g : Gather) → new.gather n ≡ Some g → IsGather new n g
   fixes-gather g h =
       let both = gather_above-some p.stamp (old.gather n) g (sym fixes.gather ∙ h) in
-      let was = ordered.gathers n g both.0 in
+      let was = ownership.gathers n g both.0 in
       let epoch : new.epoch n ≡ old.epoch n = fixes.acts.epoch in
       record {
         above = rw fixes-stamp both.1;
@@ -109,28 +109,28 @@ module _ (old new : Object) (n : ℕ) (p : Proposal) (e : ℕ) (fixes : Fixes ol
       each_node (λ m. (g : Gather) → new.gather m ≡ Some g → IsGather new m g) n fixes-gather
       (λ m other g h.
       gather-grows old new fixes-grows m (ap (λ (x : Entry). x.stamp) (fixes.acts.others.entry m other)) (fixes.acts.others.epoch m other) g
-      (ordered.gathers m g (sym (fixes.acts.others.gather m other) ∙ h)))
+      (ownership.gathers m g (sym (fixes.acts.others.gather m other) ∙ h)))
 
   module _ (longer : List Proposal) (extends : Extends chain longer) where
     fixes-settled : IsDecided new longer p.stamp (new_place p) → (m : ℕ) → IsDecided new longer (new.entry m).stamp (new.entry m).place
     fixes-settled is =
         each_node (λ m. IsDecided new longer (new.entry m).stamp (new.entry m).place) n (rw (fixes-stamp, fixes-place) is)
-        (λ m other. rw (fixes.acts.others.entry m other) (decided-grows old new fixes-grows chain longer extends (old.entry m).stamp (old.entry m).place (ordered.settled m)))
+        (λ m other. rw (fixes.acts.others.entry m other) (decided-grows old new fixes-grows chain longer extends (old.entry m).stamp (old.entry m).place (ownership.settled m)))
 
-    fixes-ordered : IsDecided new longer p.stamp (new_place p)
+    fixes-ownership : IsDecided new longer p.stamp (new_place p)
         → ((v : ℕ) → length chain ≤ v → v < length longer → IsLink new longer v (nth no_proposal longer v))
-        → ((m : ℕ) × ((new.entry m).stamp ≡ chain_stamp longer (length longer))) → Ordered new longer
-    fixes-ordered decided links known =
-        quiet-ordered old new quiet_Fixes chain longer extends ordered
-        (acts-viewed old new n fixes.acts fixes-grows ordered.viewed) fixes-held fixes-gathers links known (fixes-settled decided)
-        (λ t place m. decided-grows old new fixes-grows chain longer extends t place (ordered.told t place (nothing-only old new fixes.sends (Validates t place) m)))
+        → ((m : ℕ) × ((new.entry m).stamp ≡ chain_stamp longer (length longer))) → OwnershipInvariant new longer
+    fixes-ownership decided links known =
+        quiet-ownership old new quiet_Fixes chain longer extends ownership
+        (acts-viewed old new n fixes.acts fixes-grows ownership.viewed) fixes-held fixes-gathers links known (fixes-settled decided)
+        (λ t place m. decided-grows old new fixes-grows chain longer extends t place (ownership.told t place (nothing-only old new fixes.sends (Validates t place) m)))
 
 -- ---- what is decided already is settled
 
-module _ (old new : Object) (chain : List Proposal) (ordered : Ordered old chain) (n : ℕ) where
+module _ (old new : Object) (chain : List Proposal) (ownership : OwnershipInvariant old chain) (n : ℕ) where
   settles-fixes : (u : ℕ) (settles : Settles old new chain n (suc u)) → (e : ℕ) × Fixes old new n (nth no_proposal chain u) e
   settles-fixes u settles =
-      let chosen = (ordered.links u settles.decided).chosen in
+      let chosen = (ownership.links u settles.decided).chosen in
       let stamp = chain_stamp-suc chain u in
       let place = chain_place-suc old.declared chain u in (
         chosen.0,
@@ -146,7 +146,7 @@ module _ (old new : Object) (chain : List Proposal) (ordered : Ordered old chain
 
   link-decided : (u : ℕ) → Grows old new → u < length chain → IsDecided new chain (nth no_proposal chain u).stamp (new_place (nth no_proposal chain u))
   link-decided u grows inside =
-      let ver = (ordered.links u inside).ver in
+      let ver = (ownership.links u inside).ver in
       record {
         ver = omega arith;
         stamp = sym (chain_stamp-suc chain u) ∙ ap (λ (v : ℕ). chain_stamp chain v) (sym ver);
@@ -155,44 +155,44 @@ module _ (old new : Object) (chain : List Proposal) (ordered : Ordered old chain
 
   settles-known : (u : ℕ) → Settles old new chain n u → (m : ℕ) × ((new.entry m).stamp ≡ chain_stamp chain (length chain))
   settles-known u settles =
-      let m = ordered.known.0 in (
+      let m = ownership.known.0 in (
         m,
         each_node (λ x. x ≡ m → (new.entry x).stamp ≡ chain_stamp chain (length chain)) n
             (λ same.
-            let last : (old.entry n).stamp ≡ chain_stamp chain (length chain) = ap (λ (x : ℕ). (old.entry x).stamp) same ∙ ordered.known.1 in
+            let last : (old.entry n).stamp ≡ chain_stamp chain (length chain) = ap (λ (x : ℕ). (old.entry x).stamp) same ∙ ownership.known.1 in
             let under : is_below (chain_stamp chain (length chain)) (chain_stamp chain u) ≡ true = rw (← last) settles.above in
-            let less = stamp_at-less old chain ordered (length chain) u (le_refl (length chain)) settles.decided under in
+            let less = stamp_at-less old chain ownership (length chain) u (le_refl (length chain)) settles.decided under in
             let most = settles.decided in
             absurd (omega arith))
             (λ x other same.
-            ap (λ (y : Entry). y.stamp) (settles.acts.others.entry x other) ∙ ap (λ (y : ℕ). (old.entry y).stamp) same ∙ ordered.known.1) m refl,
+            ap (λ (y : Entry). y.stamp) (settles.acts.others.entry x other) ∙ ap (λ (y : ℕ). (old.entry y).stamp) same ∙ ownership.known.1) m refl,
       )
 
   pub grows_Settles : (u : ℕ) → Settles old new chain n u → Grows old new
   grows_Settles zero settles = absurd (let first = settles.first in omega arith)
   grows_Settles (suc u) settles =
       let fixes = settles-fixes u settles in
-      fixes-grows old new n (nth no_proposal chain u) fixes.0 fixes.1 chain ordered
+      fixes-grows old new n (nth no_proposal chain u) fixes.0 fixes.1 chain ownership
 
-  pub keeps_Settles : (u : ℕ) → Settles old new chain n u → Ordered new chain
+  pub keeps_Settles : (u : ℕ) → Settles old new chain n u → OwnershipInvariant new chain
   keeps_Settles zero settles = absurd (let first = settles.first in omega arith)
   keeps_Settles (suc u) settles =
       let fixes = settles-fixes u settles in
-      fixes-ordered old new n (nth no_proposal chain u) fixes.0 fixes.1 chain ordered chain (Extends-refl chain)
+      fixes-ownership old new n (nth no_proposal chain u) fixes.0 fixes.1 chain ownership chain (Extends-refl chain)
       (link-decided u (grows_Settles (suc u) settles) settles.decided)
       (λ v after before. absurd (omega arith))
       (settles-known (suc u) settles)
 
 -- ---- what a node has gathered is decided
 
-module _ (old new : Object) (chain : List Proposal) (ordered : Ordered old chain) (n : ℕ) (g : Gather) (decides : Decides old new n g) where
+module _ (old new : Object) (chain : List Proposal) (ownership : OwnershipInvariant old chain) (n : ℕ) (g : Gather) (decides : Decides old new n g) where
   decides-gather : IsGather old n g
-  decides-gather = ordered.gathers n g decides.gathered
+  decides-gather = ownership.gathers n g decides.gathered
 
   decides-chosen : IsChosen old g.proposal (old.epoch n)
   decides-chosen =
       record {
-        viewed = ordered.viewed.epochs n decides.acts.live;
+        viewed = ownership.viewed.epochs n decides.acts.live;
         directory = decides.directory;
         source = decides.source;
         acked = λ a h.
@@ -212,7 +212,7 @@ module _ (old new : Object) (chain : List Proposal) (ordered : Ordered old chain
       }
 
   pub grows_Decides : Grows old new
-  grows_Decides = fixes-grows old new n g.proposal (old.epoch n) decides-fixes chain ordered
+  grows_Decides = fixes-grows old new n g.proposal (old.epoch n) decides-fixes chain ownership
 
   -- the proposal was said to this node as its requester, or to another collector since the requester is no member
   decides-requester : (g.proposal.requester ≡ n) ⊎ (old.stopped g.proposal.requester ≡ true)
@@ -220,10 +220,10 @@ module _ (old new : Object) (chain : List Proposal) (ordered : Ordered old chain
       let r = g.proposal.requester in
       let a = decides-gather.some.0 in
       let ack = decides-gather.acks a decides-gather.some.1 in
-      let to_requester = (ordered.acks a n (old.epoch n) g.proposal ack.0 ack.1).to_requester in
+      let to_requester = (ownership.acks a n (old.epoch n) g.proposal ack.0 ack.1).to_requester in
       elim (cases_Bool (old.stopped r)) [
         | inl stopped ↦ inr stopped
-        | inr live ↦ inl (sym (to_requester (ordered.viewed.live r (old.epoch n) live (ordered.viewed.epochs n decides.acts.live))))
+        | inr live ↦ inl (sym (to_requester (ownership.viewed.live r (old.epoch n) live (ownership.viewed.epochs n decides.acts.live))))
       ]
 
   module _ (inside : g.proposal.base.ver < length chain) (is : g.proposal ≡ nth no_proposal chain g.proposal.base.ver) where
@@ -247,7 +247,7 @@ module _ (old new : Object) (chain : List Proposal) (ordered : Ordered old chain
 
     again-requester : g.proposal.requester ≢ n
     again-requester same =
-        let link = ordered.links g.proposal.base.ver inside in
+        let link = ownership.links g.proposal.base.ver inside in
         let requester : (old.stopped g.proposal.requester ≡ true) ⊎ (is_below (old.entry g.proposal.requester).stamp g.proposal.stamp ≡ false) =
         subst (λ (q : Proposal). (old.stopped q.requester ≡ true) ⊎ (is_below (old.entry q.requester).stamp q.stamp ≡ false)) (sym is) link.requester
         in
@@ -260,13 +260,13 @@ module _ (old new : Object) (chain : List Proposal) (ordered : Ordered old chain
 
     decides-again : IsAgain old new chain n g.proposal
     decides-again =
-        let next : g.proposal.stamp.ver ≡ suc g.proposal.base.ver = (ordered.proposals g.proposal (old.epoch n) (chosen-said old chain ordered g.proposal (old.epoch n) decides-chosen)).next in
+        let next : g.proposal.stamp.ver ≡ suc g.proposal.base.ver = (ownership.proposals g.proposal (old.epoch n) (chosen-said old chain ownership g.proposal (old.epoch n) decides-chosen)).next in
         record {
           inside = inside;
           link = is;
           requester = again-requester;
           settles = rw next again-settles;
-          ordered = keeps_Settles old new chain ordered n (suc g.proposal.base.ver) again-settles;
+          ownership = keeps_Settles old new chain ownership n (suc g.proposal.base.ver) again-settles;
         }
 
   module _ (last : g.proposal.base.ver ≡ length chain) where
@@ -278,15 +278,15 @@ module _ (old new : Object) (chain : List Proposal) (ordered : Ordered old chain
 
     first-next : g.proposal.stamp.ver ≡ suc (length chain)
     first-next =
-        (ordered.proposals g.proposal (old.epoch n) (chosen-said old chain ordered g.proposal (old.epoch n) decides-chosen)).next ∙ ap (λ (v : ℕ). suc v) last
+        (ownership.proposals g.proposal (old.epoch n) (chosen-said old chain ownership g.proposal (old.epoch n) decides-chosen)).next ∙ ap (λ (v : ℕ). suc v) last
 
     first-base : g.proposal.base ≡ chain_stamp chain (length chain)
     first-base =
-        (ordered.proposals g.proposal (old.epoch n) (chosen-said old chain ordered g.proposal (old.epoch n) decides-chosen)).base ∙ ap (λ (v : ℕ). chain_stamp chain v) last
+        (ownership.proposals g.proposal (old.epoch n) (chosen-said old chain ownership g.proposal (old.epoch n) decides-chosen)).base ∙ ap (λ (v : ℕ). chain_stamp chain v) last
 
     first-base_place : g.proposal.base_place ≡ latest old chain
     first-base_place =
-        (ordered.proposals g.proposal (old.epoch n) (chosen-said old chain ordered g.proposal (old.epoch n) decides-chosen)).base_place ∙ ap (λ (v : ℕ). place_at old chain v) last
+        (ownership.proposals g.proposal (old.epoch n) (chosen-said old chain ownership g.proposal (old.epoch n) decides-chosen)).base_place ∙ ap (λ (v : ℕ). place_at old chain v) last
 
     first-extends : Extends chain longer
     first-extends = Extends-append chain (g.proposal ∷ [])
@@ -296,7 +296,7 @@ module _ (old new : Object) (chain : List Proposal) (ordered : Ordered old chain
 
     first-link : IsLink new longer (length chain) g.proposal
     first-link =
-        let said = ordered.proposals g.proposal (old.epoch n) (chosen-said old chain ordered g.proposal (old.epoch n) decides-chosen) in
+        let said = ownership.proposals g.proposal (old.epoch n) (chosen-said old chain ownership g.proposal (old.epoch n) decides-chosen) in
         record {
           ver = first-next;
           base = first-base ∙ stamp_at-grows old new grows_Decides chain longer first-extends (length chain) (le_refl (length chain));
@@ -307,7 +307,7 @@ module _ (old new : Object) (chain : List Proposal) (ordered : Ordered old chain
           requester = elim decides-requester [
             | inl same ↦
                 inr (subst (λ (r : ℕ). is_below (new.entry r).stamp g.proposal.stamp ≡ false) (sym same)
-                (rw (fixes-stamp old new n g.proposal (old.epoch n) decides-fixes chain ordered) (is_below-irrefl g.proposal.stamp)))
+                (rw (fixes-stamp old new n g.proposal (old.epoch n) decides-fixes chain ownership) (is_below-irrefl g.proposal.stamp)))
             | inr stopped ↦ inl (grows_Decides.stopped g.proposal.requester stopped)
           ];
         }
@@ -334,17 +334,17 @@ module _ (old new : Object) (chain : List Proposal) (ordered : Ordered old chain
           base = first-base;
           base_place = first-base_place;
           requester = decides-requester;
-          ordered =
-              fixes-ordered old new n g.proposal (old.epoch n) decides-fixes chain ordered longer first-extends first-decided
+          ownership =
+              fixes-ownership old new n g.proposal (old.epoch n) decides-fixes chain ownership longer first-extends first-decided
               (λ v after before.
               let at : v ≡ length chain = omega (arith, first-length) in
               subst (λ (x : ℕ). IsLink new longer x (nth no_proposal longer x)) (sym at) (rw first-last first-link))
-              (n, fixes-stamp old new n g.proposal (old.epoch n) decides-fixes chain ordered ∙ sym first-stamp ∙ ap (λ (v : ℕ). chain_stamp longer v) (sym first-length));
+              (n, fixes-stamp old new n g.proposal (old.epoch n) decides-fixes chain ownership ∙ sym first-stamp ∙ ap (λ (v : ℕ). chain_stamp longer v) (sym first-length));
         }
 
   pub keeps_Decides : IsAgain old new chain n g.proposal ⊎ IsFirst old new chain n g.proposal
   keeps_Decides =
-      elim (chosen-chain old chain ordered g.proposal (old.epoch n) decides-chosen) [
+      elim (chosen-chain old chain ownership g.proposal (old.epoch n) decides-chosen) [
         | inl again ↦ inl (decides-again again.0 again.1)
         | inr last ↦ inr (decides-first last)
       ]

@@ -14,12 +14,12 @@ use Rattle.zeus_model.specs.declared.state.Gather.{Gather}
 use Rattle.zeus_model.specs.Tables.{nth}
 use Rattle.ownership_safety.specs.Object.{Object, Letter, Invalidates, Acknowledges, Validates, In, IsView, IsLive, IsMember, view, rank}
 use Rattle.ownership_safety.specs.Moves.{SameSetting, SameOthers, Sends, nothing, NewView, Stops, Installs}
-use Rattle.ownership_safety.specs.Ordered.{Ordered, IsViewed, IsGather, IsDecided}
+use Rattle.ownership_safety.specs.OwnershipInvariant.{OwnershipInvariant, IsViewed, IsGather, IsDecided}
 use Rattle.ownership_safety.proofs.Basics.{nth-append, nth-append_each, nth-last}
 use Rattle.ownership_safety.specs.Kept.{Grows}
 use Rattle.ownership_safety.proofs.Grows.{Extends-refl, each_node, rank-not_below, settled-not_below, stopped-kept, epoch-kept, decided-grows, member-grows}
 use Rattle.ownership_safety.proofs.Letters.{viewed-grows, live-back, invalidations-viewed, acknowledgements-viewed}
-use Rattle.ownership_safety.proofs.Quiet.{Quiet, quiet-ordered, held-grows, gather-grows}
+use Rattle.ownership_safety.proofs.NothingSaid.{Quiet, quiet-ownership, held-grows, gather-grows}
 
 -- a move that sends nothing
 pub nothing-only : (old new : Object) → Sends old new nothing → (l : Letter) → In l new.letters → In l old.letters
@@ -51,20 +51,20 @@ quiet-node old new n setting others stopped epoch rank settled kept invalidation
     }
 
 -- a quiet move that changes no entry and sends no validation
-pub entries-ordered : (old new : Object) (chain : List Proposal) → Ordered old chain → Quiet old new → IsViewed new → ((m : ℕ) → new.entry m ≡ old.entry m) → ((m : ℕ) (g : Gather) → new.gather m ≡ Some g → IsGather new m g)
-    → ((t : Stamp) (place : Place) → In (Validates t place) new.letters → IsDecided new chain t place) → Ordered new chain
-entries-ordered old new chain ordered quiet viewed same gathers told =
-    quiet-ordered old new quiet chain chain (Extends-refl chain) ordered viewed
-    (λ m p h. held-grows old new quiet.grows m (same m) p (ordered.held m p (sym (ap (λ e. e.proposal) (same m)) ∙ h)))
+pub entries-ownership : (old new : Object) (chain : List Proposal) → OwnershipInvariant old chain → Quiet old new → IsViewed new → ((m : ℕ) → new.entry m ≡ old.entry m) → ((m : ℕ) (g : Gather) → new.gather m ≡ Some g → IsGather new m g)
+    → ((t : Stamp) (place : Place) → In (Validates t place) new.letters → IsDecided new chain t place) → OwnershipInvariant new chain
+entries-ownership old new chain ownership quiet viewed same gathers told =
+    quiet-ownership old new quiet chain chain (Extends-refl chain) ownership viewed
+    (λ m p h. held-grows old new quiet.grows m (same m) p (ownership.held m p (sym (ap (λ e. e.proposal) (same m)) ∙ h)))
     gathers
     (λ v after before. absurd (omega arith))
-    (ordered.known.0, ap (λ e. e.stamp) (same ordered.known.0) ∙ ordered.known.1)
-    (λ m. rw (same m) (decided-grows old new quiet.grows chain chain (Extends-refl chain) (old.entry m).stamp (old.entry m).place (ordered.settled m)))
+    (ownership.known.0, ap (λ e. e.stamp) (same ownership.known.0) ∙ ownership.known.1)
+    (λ m. rw (same m) (decided-grows old new quiet.grows chain chain (Extends-refl chain) (old.entry m).stamp (old.entry m).place (ownership.settled m)))
     told
 
-pub told-kept : (old new : Object) (chain : List Proposal) → Ordered old chain → Grows old new → Sends old new nothing → (t : Stamp) (place : Place) → In (Validates t place) new.letters → IsDecided new chain t place
-told-kept old new chain ordered grows sends t place m =
-    decided-grows old new grows chain chain (Extends-refl chain) t place (ordered.told t place (nothing-only old new sends (Validates t place) m))
+pub told-kept : (old new : Object) (chain : List Proposal) → OwnershipInvariant old chain → Grows old new → Sends old new nothing → (t : Stamp) (place : Place) → In (Validates t place) new.letters → IsDecided new chain t place
+told-kept old new chain ownership grows sends t place m =
+    decided-grows old new grows chain chain (Extends-refl chain) t place (ownership.told t place (nothing-only old new sends (Validates t place) m))
 
 -- ---- a view is made
 
@@ -143,11 +143,11 @@ module _ (old new : Object) (set : List ℕ) (made : NewView old new set) where
         acknowledgements = acknowledgements-viewed old new grows_NewView viewed;
       }
 
-  pub keeps_NewView : (chain : List Proposal) → Ordered old chain → Ordered new chain
-  keeps_NewView chain ordered =
-      entries-ordered old new chain ordered quiet_NewView (viewed_NewView ordered.viewed) made.entry
-      (λ m g h. gather-grows old new grows_NewView m (ap (λ e. e.stamp) (made.entry m)) (made.epoch m) g (ordered.gathers m g (sym (made.gather m) ∙ h)))
-      (told-kept old new chain ordered grows_NewView made.sends)
+  pub keeps_NewView : (chain : List Proposal) → OwnershipInvariant old chain → OwnershipInvariant new chain
+  keeps_NewView chain ownership =
+      entries-ownership old new chain ownership quiet_NewView (viewed_NewView ownership.viewed) made.entry
+      (λ m g h. gather-grows old new grows_NewView m (ap (λ e. e.stamp) (made.entry m)) (made.epoch m) g (ownership.gathers m g (sym (made.gather m) ∙ h)))
+      (told-kept old new chain ownership grows_NewView made.sends)
 
 -- ---- a node stops
 
@@ -162,18 +162,18 @@ module _ (old new : Object) (n : ℕ) (stops : Stops old new n) where
   pub grows_Stops : Grows old new
   grows_Stops = quiet_Stops.grows
 
-  pub keeps_Stops : (chain : List Proposal) → Ordered old chain → Ordered new chain
-  keeps_Stops chain ordered =
+  pub keeps_Stops : (chain : List Proposal) → OwnershipInvariant old chain → OwnershipInvariant new chain
+  keeps_Stops chain ownership =
       let entries : (m : ℕ) → new.entry m ≡ old.entry m = each_node (λ m. new.entry m ≡ old.entry m) n stops.entry stops.others.entry in
       let epochs : (m : ℕ) → new.epoch m ≡ old.epoch m = each_node (λ m. new.epoch m ≡ old.epoch m) n stops.epoch stops.others.epoch in
       let gathers : (m : ℕ) → new.gather m ≡ old.gather m = each_node (λ m. new.gather m ≡ old.gather m) n stops.gather stops.others.gather in
       let viewed : IsViewed new =
-      viewed-grows old new grows_Stops ordered.viewed stops.setting.views
-      (λ m live. rw (epochs m) (grows_Stops.viewed (old.epoch m) (ordered.viewed.epochs m (live-back old new grows_Stops m live))))
+      viewed-grows old new grows_Stops ownership.viewed stops.setting.views
+      (λ m live. rw (epochs m) (grows_Stops.viewed (old.epoch m) (ownership.viewed.epochs m (live-back old new grows_Stops m live))))
       in
-      entries-ordered old new chain ordered quiet_Stops viewed entries
-      (λ m g h. gather-grows old new grows_Stops m (ap (λ e. e.stamp) (entries m)) (epochs m) g (ordered.gathers m g (sym (gathers m) ∙ h)))
-      (told-kept old new chain ordered grows_Stops stops.sends)
+      entries-ownership old new chain ownership quiet_Stops viewed entries
+      (λ m g h. gather-grows old new grows_Stops m (ap (λ e. e.stamp) (entries m)) (epochs m) g (ownership.gathers m g (sym (gathers m) ∙ h)))
+      (told-kept old new chain ownership grows_Stops stops.sends)
 
 -- ---- a node goes on to a view
 
@@ -188,22 +188,22 @@ module _ (old new : Object) (n e : ℕ) (installs : Installs old new n e) where
   pub grows_Installs : Grows old new
   grows_Installs = quiet_Installs.grows
 
-  pub keeps_Installs : (chain : List Proposal) → Ordered old chain → Ordered new chain
-  keeps_Installs chain ordered =
+  pub keeps_Installs : (chain : List Proposal) → OwnershipInvariant old chain → OwnershipInvariant new chain
+  keeps_Installs chain ownership =
       let entries : (m : ℕ) → new.entry m ≡ old.entry m = each_node (λ m. new.entry m ≡ old.entry m) n installs.entry installs.others.entry in
       let here : IsLive new n → IsView new (new.epoch n) = λ live.
       rw (installs.epoch, installs.setting.views) (let later = installs.later in omega arith, installs.viewed)
       in
       let viewed : IsViewed new =
-      viewed-grows old new grows_Installs ordered.viewed installs.setting.views
+      viewed-grows old new grows_Installs ownership.viewed installs.setting.views
       (each_node (λ m. IsLive new m → IsView new (new.epoch m)) n here
-      (λ m other live. rw (installs.others.epoch m other) (grows_Installs.viewed (old.epoch m) (ordered.viewed.epochs m (live-back old new grows_Installs m live)))))
+      (λ m other live. rw (installs.others.epoch m other) (grows_Installs.viewed (old.epoch m) (ownership.viewed.epochs m (live-back old new grows_Installs m live)))))
       in
-      entries-ordered old new chain ordered quiet_Installs viewed entries
+      entries-ownership old new chain ownership quiet_Installs viewed entries
       (each_node (λ m. (g : Gather) → new.gather m ≡ Some g → IsGather new m g) n
       (λ g h. absurd (none_some g (sym installs.gather ∙ h)))
-      (λ m other g h. gather-grows old new grows_Installs m (ap (λ x. x.stamp) (entries m)) (installs.others.epoch m other) g (ordered.gathers m g (sym (installs.others.gather m other) ∙ h))))
-      (told-kept old new chain ordered grows_Installs installs.sends)
+      (λ m other g h. gather-grows old new grows_Installs m (ap (λ x. x.stamp) (entries m)) (installs.others.epoch m other) g (ownership.gathers m g (sym (installs.others.gather m other) ∙ h))))
+      (told-kept old new chain ownership grows_Installs installs.sends)
     where
       none_some : (g : Gather) → ◌≡◌ {A = Option Gather} None (Some g) → ⊥
       none_some g h = cc

@@ -8,7 +8,7 @@ use Rattle.zeus_packet.specs.declared.place.Proposal.{Proposal}
 use Rattle.zeus_packet.specs.declared.write.Content.{Content}
 use Rattle.zeus_model.specs.Tables.{nth}
 use Rattle.ownership_safety.specs.Object.{Object, Invalidates, Acknowledges, In, IsView, IsLive, IsMember, HasAcked, view, rank}
-use Rattle.ownership_safety.specs.Ordered.{Ordered, IsViewed}
+use Rattle.ownership_safety.specs.OwnershipInvariant.{OwnershipInvariant, IsViewed}
 use Rattle.ownership_safety.proofs.Chain.{ack-rank, ack-epoch}
 use Rattle.ownership_safety.specs.Kept.{Grows}
 use Rattle.ownership_safety.proofs.Grows.{member-grows}
@@ -60,18 +60,18 @@ module _ (old new : Object) (grows : Grows old new) where
         acknowledgements = acknowledgements-viewed viewed;
       }
 
-  module _ (chain : List Proposal) (ordered : Ordered old chain) where
+  module _ (chain : List Proposal) (ownership : OwnershipInvariant old chain) where
     pub ack_order-grows : (n : ℕ) (p q : Proposal) (e f : ℕ) → HasAcked new n p e → HasAcked new n q f → is_below q.stamp p.stamp ≡ true → f ≤ e
     ack_order-grows n p q e f (to, c, m) (tu, d, k) below =
         elim (grows.acks n to e p c m) [
           | inl m_before ↦ elim (grows.acks n tu f q d k) [
-            | inl k_before ↦ ordered.ack_order n p q e f (to, c, m_before) (tu, d, k_before) below
+            | inl k_before ↦ ownership.ack_order n p q e f (to, c, m_before) (tu, d, k_before) below
             | inr k_now ↦
-                let rank_p : is_below (rank old n) p.stamp ≡ false = ack-rank old chain ordered n p e (to, c, m_before) in
+                let rank_p : is_below (rank old n) p.stamp ≡ false = ack-rank old chain ownership n p e (to, c, m_before) in
                 absurd (true≢false (sym below ∙ not_below-trans p.stamp (rank old n) q.stamp rank_p k_now.rank))
           ]
           | inr m_now ↦ elim (grows.acks n tu f q d k) [
-            | inl k_before ↦ omega (arith, ack-epoch old chain ordered n q f (tu, d, k_before), m_now.epoch)
+            | inl k_before ↦ omega (arith, ack-epoch old chain ownership n q f (tu, d, k_before), m_now.epoch)
             | inr k_now ↦ omega (arith, k_now.epoch, m_now.epoch)
           ]
         ]

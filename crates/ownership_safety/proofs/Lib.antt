@@ -5,7 +5,7 @@ pub mod Choice
 pub mod Owner
 pub mod Grows
 pub mod Letters
-pub mod Quiet
+pub mod NothingSaid
 pub mod Speaks
 pub mod KeepsViews
 pub mod KeepsSpeech

@@ -3,7 +3,7 @@ use Rattle.std.specs.Prelude.{ℕ, ◌≡◌, ◌<◌, List, [], ◌∷◌, ◌+
 use Rattle.std.proofs.Common.{arith, inl, inr}
 use Rattle.zeus_packet.specs.declared.place.Proposal.{Proposal}
 use Rattle.ownership_safety.specs.Object.{Object}
-use Rattle.ownership_safety.specs.Ordered.{Ordered}
+use Rattle.ownership_safety.specs.OwnershipInvariant.{OwnershipInvariant}
 use Rattle.ownership_safety.specs.Kept.{Grows, Rises, IsAgain, IsFirst}
 use Rattle.ownership_safety.proofs.Grows.{Extends, Extends-refl, Extends-append, Extends-trans, Rises-refl, Rises-further}
 use Rattle.ownership_safety.specs.Run.{IsMove, IsReached, makes_view, stops, installs, settles, drives, accepts, redrives, notes, tells, decides_again, decides_first, begins, moves, IsRun, none, further}
@@ -11,48 +11,48 @@ use Rattle.ownership_safety.proofs.KeepsViews.{keeps_NewView, keeps_Stops, keeps
 use Rattle.ownership_safety.proofs.KeepsSpeech.{keeps_Drives, keeps_Accepts, keeps_Redrives, grows_Drives, grows_Accepts, grows_Redrives}
 use Rattle.ownership_safety.proofs.KeepsGathers.{keeps_Notes, keeps_Tells, grows_Notes, grows_Tells}
 use Rattle.ownership_safety.proofs.KeepsSettled.{keeps_Settles, keeps_Decides, grows_Settles, grows_Decides}
-use Rattle.ownership_safety.proofs.Start.{start-ordered}
+use Rattle.ownership_safety.proofs.Start.{start-ownership}
 
-again_ordered : (old new : Object) (chain : List Proposal) (n : ℕ) (p : Proposal) → p.base.ver < length chain → IsAgain old new chain n p ⊎ IsFirst old new chain n p → Ordered new chain
-again_ordered old new chain n p inside (inl again) = again.ordered
-again_ordered old new chain n p inside (inr first) = let last = first.last in absurd (omega arith)
+again_ownership : (old new : Object) (chain : List Proposal) (n : ℕ) (p : Proposal) → p.base.ver < length chain → IsAgain old new chain n p ⊎ IsFirst old new chain n p → OwnershipInvariant new chain
+again_ownership old new chain n p inside (inl again) = again.ownership
+again_ownership old new chain n p inside (inr first) = let last = first.last in absurd (omega arith)
 
-first_ordered : (old new : Object) (chain : List Proposal) (n : ℕ) (p : Proposal) → p.base.ver ≡ length chain → IsAgain old new chain n p ⊎ IsFirst old new chain n p → Ordered new (chain ++ p ∷ [])
-first_ordered old new chain n p last (inl again) = let inside = again.inside in absurd (omega arith)
-first_ordered old new chain n p last (inr first) = first.ordered
+first_ownership : (old new : Object) (chain : List Proposal) (n : ℕ) (p : Proposal) → p.base.ver ≡ length chain → IsAgain old new chain n p ⊎ IsFirst old new chain n p → OwnershipInvariant new (chain ++ p ∷ [])
+first_ownership old new chain n p last (inl again) = let inside = again.inside in absurd (omega arith)
+first_ownership old new chain n p last (inr first) = first.ownership
 
-pub move-ordered : (old new : Object) (chain longer : List Proposal) → Ordered old chain → IsMove old new chain longer → Ordered new longer
-move-ordered old new chain longer ordered (makes_view set is) = keeps_NewView old new set is chain ordered
-move-ordered old new chain longer ordered (stops n is) = keeps_Stops old new n is chain ordered
-move-ordered old new chain longer ordered (installs n e is) = keeps_Installs old new n e is chain ordered
-move-ordered old new chain longer ordered (settles n u is) = keeps_Settles old new chain ordered n u is
-move-ordered old new chain longer ordered (drives n p is) = keeps_Drives old new n p is chain ordered
-move-ordered old new chain longer ordered (accepts n p is) = keeps_Accepts old new n p is chain ordered
-move-ordered old new chain longer ordered (redrives n p is) = keeps_Redrives old new n p is chain ordered
-move-ordered old new chain longer ordered (notes n p a c is) = keeps_Notes old new n p a c is chain ordered
-move-ordered old new chain longer ordered (tells n is) = keeps_Tells old new n is chain ordered
-move-ordered old new chain longer ordered (decides_again n g is inside) =
-    again_ordered old new chain n g.proposal inside (keeps_Decides old new chain ordered n g is)
-move-ordered old new chain longer ordered (decides_first n g is last) =
-    first_ordered old new chain n g.proposal last (keeps_Decides old new chain ordered n g is)
+pub move-ownership : (old new : Object) (chain longer : List Proposal) → OwnershipInvariant old chain → IsMove old new chain longer → OwnershipInvariant new longer
+move-ownership old new chain longer ownership (makes_view set is) = keeps_NewView old new set is chain ownership
+move-ownership old new chain longer ownership (stops n is) = keeps_Stops old new n is chain ownership
+move-ownership old new chain longer ownership (installs n e is) = keeps_Installs old new n e is chain ownership
+move-ownership old new chain longer ownership (settles n u is) = keeps_Settles old new chain ownership n u is
+move-ownership old new chain longer ownership (drives n p is) = keeps_Drives old new n p is chain ownership
+move-ownership old new chain longer ownership (accepts n p is) = keeps_Accepts old new n p is chain ownership
+move-ownership old new chain longer ownership (redrives n p is) = keeps_Redrives old new n p is chain ownership
+move-ownership old new chain longer ownership (notes n p a c is) = keeps_Notes old new n p a c is chain ownership
+move-ownership old new chain longer ownership (tells n is) = keeps_Tells old new n is chain ownership
+move-ownership old new chain longer ownership (decides_again n g is inside) =
+    again_ownership old new chain n g.proposal inside (keeps_Decides old new chain ownership n g is)
+move-ownership old new chain longer ownership (decides_first n g is last) =
+    first_ownership old new chain n g.proposal last (keeps_Decides old new chain ownership n g is)
 
-pub move-grows : (old new : Object) (chain longer : List Proposal) → Ordered old chain → IsMove old new chain longer → Grows old new
-move-grows old new chain longer ordered (makes_view set is) = grows_NewView old new set is
-move-grows old new chain longer ordered (stops n is) = grows_Stops old new n is
-move-grows old new chain longer ordered (installs n e is) = grows_Installs old new n e is
-move-grows old new chain longer ordered (settles n u is) = grows_Settles old new chain ordered n u is
-move-grows old new chain longer ordered (drives n p is) = grows_Drives old new n p is chain ordered
-move-grows old new chain longer ordered (accepts n p is) = grows_Accepts old new n p is
-move-grows old new chain longer ordered (redrives n p is) = grows_Redrives old new n p is
-move-grows old new chain longer ordered (notes n p a c is) = grows_Notes old new n p a c is
-move-grows old new chain longer ordered (tells n is) = grows_Tells old new n is
-move-grows old new chain longer ordered (decides_again n g is inside) = grows_Decides old new chain ordered n g is
-move-grows old new chain longer ordered (decides_first n g is last) = grows_Decides old new chain ordered n g is
+pub move-grows : (old new : Object) (chain longer : List Proposal) → OwnershipInvariant old chain → IsMove old new chain longer → Grows old new
+move-grows old new chain longer ownership (makes_view set is) = grows_NewView old new set is
+move-grows old new chain longer ownership (stops n is) = grows_Stops old new n is
+move-grows old new chain longer ownership (installs n e is) = grows_Installs old new n e is
+move-grows old new chain longer ownership (settles n u is) = grows_Settles old new chain ownership n u is
+move-grows old new chain longer ownership (drives n p is) = grows_Drives old new n p is chain ownership
+move-grows old new chain longer ownership (accepts n p is) = grows_Accepts old new n p is
+move-grows old new chain longer ownership (redrives n p is) = grows_Redrives old new n p is
+move-grows old new chain longer ownership (notes n p a c is) = grows_Notes old new n p a c is
+move-grows old new chain longer ownership (tells n is) = grows_Tells old new n is
+move-grows old new chain longer ownership (decides_again n g is inside) = grows_Decides old new chain ownership n g is
+move-grows old new chain longer ownership (decides_first n g is last) = grows_Decides old new chain ownership n g is
 
-pub reached-ordered : (o : Object) (chain : List Proposal) → IsReached o chain → Ordered o chain
-reached-ordered o chain (begins _ start) = start-ordered o start
-reached-ordered o chain (moves old _ before _ reached move) =
-    move-ordered old o before chain (reached-ordered old before reached) move
+pub reached-ownership : (o : Object) (chain : List Proposal) → IsReached o chain → OwnershipInvariant o chain
+reached-ownership o chain (begins _ start) = start-ownership o start
+reached-ownership o chain (moves old _ before _ reached move) =
+    move-ownership old o before chain (reached-ownership old before reached) move
 
 pub move-extends : (old new : Object) (chain longer : List Proposal) → IsMove old new chain longer → Extends chain longer
 move-extends old new chain longer (decides_first n g is last) = Extends-append chain (g.proposal ∷ [])
@@ -70,15 +70,15 @@ move-extends old new chain longer (decides_again n g is inside) = Extends-refl c
 -- ---- moves one after another
 
 module _ (old : Object) (chain : List Proposal) where
-  pub run-ordered : (new : Object) (longer : List Proposal) → Ordered old chain → IsRun old chain new longer → Ordered new longer
-  run-ordered new longer ordered none = ordered
-  run-ordered new longer ordered (further mid _ before _ run move) =
-      move-ordered mid new before longer (run-ordered mid before ordered run) move
+  pub run-ownership : (new : Object) (longer : List Proposal) → OwnershipInvariant old chain → IsRun old chain new longer → OwnershipInvariant new longer
+  run-ownership new longer ownership none = ownership
+  run-ownership new longer ownership (further mid _ before _ run move) =
+      move-ownership mid new before longer (run-ownership mid before ownership run) move
 
-  pub run-rises : (new : Object) (longer : List Proposal) → Ordered old chain → IsRun old chain new longer → Rises old new
-  run-rises new longer ordered none = Rises-refl old
-  run-rises new longer ordered (further mid _ before _ run move) =
-      Rises-further old mid new (run-rises mid before ordered run) (move-grows mid new before longer (run-ordered mid before ordered run) move)
+  pub run-rises : (new : Object) (longer : List Proposal) → OwnershipInvariant old chain → IsRun old chain new longer → Rises old new
+  run-rises new longer ownership none = Rises-refl old
+  run-rises new longer ownership (further mid _ before _ run move) =
+      Rises-further old mid new (run-rises mid before ownership run) (move-grows mid new before longer (run-ownership mid before ownership run) move)
 
   pub run-extends : (new : Object) (longer : List Proposal) → IsRun old chain new longer → Extends chain longer
   run-extends new longer none = Extends-refl chain

@@ -13,18 +13,18 @@ use Rattle.zeus_packet.specs.declared.write.Content.{Content}
 use Rattle.zeus_model.specs.Ownership.{settled_entry, gather_above}
 use Rattle.ownership_safety.specs.Object.{Object, Invalidates, Acknowledges, Validates, In, IsLive, IsMember, IsSource, IsArbiter, IsSaid, view, chain_stamp, place_at}
 use Rattle.ownership_safety.specs.Moves.{Acts, Sends, nothing, Settles}
-use Rattle.ownership_safety.specs.Ordered.{Ordered, IsDecided}
+use Rattle.ownership_safety.specs.OwnershipInvariant.{OwnershipInvariant, IsDecided}
 use Rattle.ownership_safety.proofs.Arbiters.{arbiters-either, new_place-owner}
 use Rattle.ownership_safety.proofs.Chain.{stamp_at-less}
 use Rattle.ownership_safety.proofs.Choice.{settled-base}
 use Rattle.ownership_safety.proofs.Owner.{owner-arbiter, own_place}
 
-module _ (o : Object) (chain : List Proposal) (ordered : Ordered o chain) where
+module _ (o : Object) (chain : List Proposal) (ownership : OwnershipInvariant o chain) where
   -- ---- an invalidation
 
   -- who receives an invalidation in its epoch is an arbiter of the base
   pub invalidation-arbiter : (from n : ℕ) (p : Proposal) → In (Invalidates from n (o.epoch n) p) o.letters → IsArbiter o (o.epoch n) p.base_place n
-  invalidation-arbiter from n p m = ordered.to_arbiters from n (o.epoch n) p m
+  invalidation-arbiter from n p m = ownership.to_arbiters from n (o.epoch n) p m
 
   -- so it is a directory node or the source
   pub invalidation-either : (from n : ℕ) (p : Proposal) → In (Invalidates from n (o.epoch n) p) o.letters → (has n o.directory ≡ true) ⊎ IsSource o (o.epoch n) p.base_place n
@@ -39,15 +39,15 @@ module _ (o : Object) (chain : List Proposal) (ordered : Ordered o chain) where
   -- the base of a proposal that was said is decided
   pub base-decided : (p : Proposal) (e : ℕ) → IsSaid o p e → IsDecided o chain p.base p.base_place
   base-decided p e said =
-      let is = ordered.proposals p e said in
+      let is = ownership.proposals p e said in
       record { ver = is.decided; stamp = is.base; place = is.base_place }
 
   -- a decided stamp above the settled one of a node is in the chain, and not its beginning
   pub decided-first : (n : ℕ) (t : Stamp) (place : Place) → IsDecided o chain t place → is_below (o.entry n).stamp t ≡ true → 1 ≤ t.ver
   decided-first n t place is above =
-      let settled = ordered.settled n in
+      let settled = ownership.settled n in
       let under : is_below (chain_stamp chain (o.entry n).stamp.ver) (chain_stamp chain t.ver) ≡ true = between (o.entry n).stamp t (chain_stamp chain (o.entry n).stamp.ver) (chain_stamp chain t.ver) settled.stamp is.stamp above in
-      omega (arith, stamp_at-less o chain ordered (o.entry n).stamp.ver t.ver settled.ver is.ver under)
+      omega (arith, stamp_at-less o chain ownership (o.entry n).stamp.ver t.ver settled.ver is.ver under)
     where
       between : (a b c d : Stamp) → a ≡ c → b ≡ d → is_below a b ≡ true → is_below c d ≡ true
       between a b c d e f h = rw (e, f) at h
@@ -71,7 +71,7 @@ module _ (o : Object) (chain : List Proposal) (ordered : Ordered o chain) where
   pub decided-own_place : (n : ℕ) (t : Stamp) (place : Place) → IsLive o n → IsDecided o chain t place → is_below (o.entry n).stamp t ≡ true → place.owner ≡ n → (o.entry n).place.owner ≡ n
   decided-own_place n t place live is above named =
       let not_below : is_below (chain_stamp chain t.ver) (o.entry n).stamp ≡ false = subst (λ (s : Stamp). is_below s (o.entry n).stamp ≡ false) is.stamp (is_below-asym (o.entry n).stamp t above) in
-      own_place o chain ordered n t.ver live is.ver not_below (sym (ap (λ (x : Place). x.owner) is.place) ∙ named)
+      own_place o chain ownership n t.ver live is.ver not_below (sym (ap (λ (x : Place). x.owner) is.place) ∙ named)
 
   -- so it is with the base of a proposal that was said
   pub base-own_place : (n e : ℕ) (p : Proposal) → IsLive o n → IsSaid o p e → is_below (o.entry n).stamp p.base ≡ true → p.base_place.owner ≡ n → (o.entry n).place.owner ≡ n
@@ -79,7 +79,7 @@ module _ (o : Object) (chain : List Proposal) (ordered : Ordered o chain) where
 
   -- and with what was told
   pub told-own_place : (n : ℕ) (t : Stamp) (place : Place) → IsLive o n → In (Validates t place) o.letters → is_below (o.entry n).stamp t ≡ true → place.owner ≡ n → (o.entry n).place.owner ≡ n
-  told-own_place n t place live told above named = decided-own_place n t place live (ordered.told t place told) above named
+  told-own_place n t place live told above named = decided-own_place n t place live (ownership.told t place told) above named
 
   -- ---- an acknowledgement
 
@@ -87,7 +87,7 @@ module _ (o : Object) (chain : List Proposal) (ordered : Ordered o chain) where
   pub ack-collector : (a n : ℕ) (p : Proposal) (c : Option Content) → In (Acknowledges a n (o.epoch n) p c) o.letters → (p.requester ≡ n) ⊎ (has p.requester (view o (o.epoch n)) ≡ false)
   ack-collector a n p c m =
       elim (cases_Bool (has p.requester (view o (o.epoch n)))) [
-        | inl member ↦ inl (sym ((ordered.acks a n (o.epoch n) p c m).to_requester member))
+        | inl member ↦ inl (sym ((ownership.acks a n (o.epoch n) p c m).to_requester member))
         | inr other ↦ inr other
       ]
 
@@ -99,7 +99,7 @@ module _ (o : Object) (chain : List Proposal) (ordered : Ordered o chain) where
         | inl requester ↦ absurd (other (sym requester ∙ named))
         | inr owner ↦
             let base : p.base_place.owner ≡ n = sym owner ∙ named in
-            let member : IsMember o (o.epoch n) n = ordered.viewed.live n (o.epoch n) live (ordered.viewed.epochs n live) in
-            let settled = settled-base o chain ordered n p live said (owner-arbiter o (o.epoch n) p.base_place n base member) not_below below in
+            let member : IsMember o (o.epoch n) n = ownership.viewed.live n (o.epoch n) live (ownership.viewed.epochs n live) in
+            let settled = settled-base o chain ownership n p live said (owner-arbiter o (o.epoch n) p.base_place n base member) not_below below in
             ap (λ (x : Place). x.owner) settled.1 ∙ base
       ]

@@ -11,12 +11,12 @@ use Rattle.zeus_model.specs.declared.state.Gather.{Gather}
 use Rattle.zeus_model.specs.Tables.{nth}
 use Rattle.ownership_safety.specs.Object.{Object, Invalidates, Acknowledges, Validates, In, IsView, IsMember, IsArbiter, IsSaid, IsBlocked, HasAcked, rank, no_proposal}
 use Rattle.ownership_safety.specs.Moves.{Acts, Sends, IsAboutProposal, IsAsSource, to_arbiter, to_collector}
-use Rattle.ownership_safety.specs.Ordered.{Ordered, IsViewed, IsProposal, IsAck, IsHeld, IsGather, IsDecided, IsLesser}
+use Rattle.ownership_safety.specs.OwnershipInvariant.{OwnershipInvariant, IsViewed, IsProposal, IsAck, IsHeld, IsGather, IsDecided, IsLesser}
 use Rattle.ownership_safety.proofs.Chain.{entry_rank-some}
 use Rattle.ownership_safety.specs.Kept.{Grows, IsSpeaker, IsVoter}
 use Rattle.ownership_safety.proofs.Grows.{Extends-refl, each_node, rank-not_below, settled-not_below, stopped-kept, epoch-kept, arbiter-grows, proposal-grows, ack-grows, link-grows, decided-grows, source-grows, source-back, member-back}
 use Rattle.ownership_safety.proofs.Letters.{ack_order-grows, viewed-grows, live-back}
-use Rattle.ownership_safety.proofs.Quiet.{blocks-kept, held-grows, gather-grows}
+use Rattle.ownership_safety.proofs.NothingSaid.{blocks-kept, held-grows, gather-grows}
 
 -- ---- the letters about a proposal
 
@@ -149,17 +149,17 @@ module _ (old new : Object) (n : ℕ) (p : Proposal) (says : Says old new n p) w
   says-gather : (m : ℕ) → new.gather m ≡ old.gather m
   says-gather = each_node (λ m. new.gather m ≡ old.gather m) n says.gather says.acts.others.gather
 
-  module _ (chain : List Proposal) (ordered : Ordered old chain) (speaks : Speaks old new chain n p) where
+  module _ (chain : List Proposal) (ownership : OwnershipInvariant old chain) (speaks : Speaks old new chain n p) where
     says-viewed : IsViewed new
     says-viewed =
-        viewed-grows old new says-grows ordered.viewed says.acts.setting.views
-        (λ m live. rw (says-epoch m) (says-grows.viewed (old.epoch m) (ordered.viewed.epochs m (live-back old new says-grows m live))))
+        viewed-grows old new says-grows ownership.viewed says.acts.setting.views
+        (λ m live. rw (says-epoch m) (says-grows.viewed (old.epoch m) (ownership.viewed.epochs m (live-back old new says-grows m live))))
 
     says-one_stamp : (q r : Proposal) (e f : ℕ) → IsSaid new q e → IsSaid new r f → q.stamp ≡ r.stamp → q ≡ r
     says-one_stamp q r e f s t same =
         elim (says-said q e s) [
           | inl q_before ↦ elim (says-said r f t) [
-            | inl r_before ↦ ordered.one_stamp q r e f q_before r_before same
+            | inl r_before ↦ ownership.one_stamp q r e f q_before r_before same
             | inr r_now ↦ speaks.one_stamp q e q_before (same ∙ ap (λ (x : Proposal). x.stamp) r_now.0) ∙ sym r_now.0
           ]
           | inr q_now ↦ elim (says-said r f t) [
@@ -171,14 +171,14 @@ module _ (old new : Object) (n : ℕ) (p : Proposal) (says : Says old new n p) w
     says-proposals : (q : Proposal) (e : ℕ) → IsSaid new q e → IsProposal new chain q
     says-proposals q e s =
         elim (says-said q e s) [
-          | inl before ↦ proposal-grows old new says-grows chain chain (Extends-refl chain) q (ordered.proposals q e before)
+          | inl before ↦ proposal-grows old new says-grows chain chain (Extends-refl chain) q (ownership.proposals q e before)
           | inr now ↦ subst (λ (x : Proposal). IsProposal new chain x) (sym now.0) speaks.proposal
         ]
 
     -- the node's own acknowledgement
     says-own : (to : ℕ) (c : Option Content) → (IsMember old (old.epoch n) p.requester → to ≡ p.requester) → IsAsSource old n p c → IsAck new n to (old.epoch n) p c
     says-own to c requester content =
-        let v : IsView old (old.epoch n) = ordered.viewed.epochs n says.acts.live in
+        let v : IsView old (old.epoch n) = ownership.viewed.epochs n says.acts.live in
         record {
           rank = rw says-rank (is_below-irrefl p.stamp);
           arbiter = arbiter-grows old new says-grows (old.epoch n) p.base_place n v speaks.arbiter;
@@ -193,7 +193,7 @@ module _ (old new : Object) (n : ℕ) (p : Proposal) (says : Says old new n p) w
     says-ack from to e q c m =
         elim (says-acks from to e q c m) [
           | inl before ↦
-              ack-grows old new says-grows from to e q c (ordered.viewed.acknowledgements from to e q c before).0 (ordered.acks from to e q c before)
+              ack-grows old new says-grows from to e q c (ownership.viewed.acknowledgements from to e q c before).0 (ownership.acks from to e q c before)
           | inr now ↦
               subst (λ (x : ℕ). IsAck new x to e q c) (sym now.from_node)
               (subst (λ (f : ℕ). IsAck new n to f q c) (sym now.epoch)
@@ -204,10 +204,10 @@ module _ (old new : Object) (n : ℕ) (p : Proposal) (says : Says old new n p) w
     says-to_arbiters from to e q m =
         elim (says-invalidations from to e q m) [
           | inl before ↦
-              arbiter-grows old new says-grows e q.base_place to (ordered.viewed.invalidations from to e q before).0 (ordered.to_arbiters from to e q before)
+              arbiter-grows old new says-grows e q.base_place to (ownership.viewed.invalidations from to e q before).0 (ownership.to_arbiters from to e q before)
           | inr now ↦
               let here : IsArbiter new (old.epoch n) p.base_place to =
-              arbiter-grows old new says-grows (old.epoch n) p.base_place to (ordered.viewed.epochs n says.acts.live) now.arbiter
+              arbiter-grows old new says-grows (old.epoch n) p.base_place to (ownership.viewed.epochs n says.acts.live) now.arbiter
               in
               subst (λ (f : ℕ). IsArbiter new f q.base_place to) (sym now.epoch)
               (subst (λ (r : Proposal). IsArbiter new (old.epoch n) r.base_place to) (sym now.proposal) here)
@@ -225,7 +225,7 @@ module _ (old new : Object) (n : ℕ) (p : Proposal) (says : Says old new n p) w
         })
         (λ m other q h.
         let same = says.acts.others.entry m other in
-        held-grows old new says-grows m same q (ordered.held m q (rw same at h)))
+        held-grows old new says-grows m same q (ownership.held m q (rw same at h)))
       where
         some_same : (x y : Proposal) → ◌≡◌ {A = Option Proposal} (Some x) (Some y) → x ≡ y
         some_same x y e = cc
@@ -233,7 +233,7 @@ module _ (old new : Object) (n : ℕ) (p : Proposal) (says : Says old new n p) w
     says-blocks : (q : Proposal) (e1 : ℕ) (t : Stamp) (e : ℕ) → IsSaid new q e1 → t.ver ≡ q.stamp.ver → t ≢ q.stamp → 1 ≤ e → IsLesser e t e1 q.stamp → IsBlocked new t q.base_place e
     says-blocks q e1 t e s =
         elim (says-said q e1 s) [
-          | inl before ↦ blocks-kept old new says-grows chain ordered q e1 t e before
+          | inl before ↦ blocks-kept old new says-grows chain ownership q e1 t e before
           | inr now ↦
               subst (λ (r : Proposal). t.ver ≡ r.stamp.ver → t ≢ r.stamp → 1 ≤ e → IsLesser e t e1 r.stamp → IsBlocked new t r.base_place e) (sym now.0)
               (subst (λ (f : ℕ). t.ver ≡ p.stamp.ver → t ≢ p.stamp → 1 ≤ e → IsLesser e t f p.stamp → IsBlocked new t p.base_place e) (sym now.1) (speaks.blocks t e))
@@ -241,29 +241,29 @@ module _ (old new : Object) (n : ℕ) (p : Proposal) (says : Says old new n p) w
 
     says-gathers : (m : ℕ) (g : Gather) → new.gather m ≡ Some g → IsGather new m g
     says-gathers m g h =
-        gather-grows old new says-grows m (says-stamp m) (says-epoch m) g (ordered.gathers m g (sym (says-gather m) ∙ h))
+        gather-grows old new says-grows m (says-stamp m) (says-epoch m) g (ownership.gathers m g (sym (says-gather m) ∙ h))
 
     says-settled : (m : ℕ) → IsDecided new chain (new.entry m).stamp (new.entry m).place
     says-settled m =
         rw (says-stamp m, says-place m)
-        (decided-grows old new says-grows chain chain (Extends-refl chain) (old.entry m).stamp (old.entry m).place (ordered.settled m))
+        (decided-grows old new says-grows chain chain (Extends-refl chain) (old.entry m).stamp (old.entry m).place (ownership.settled m))
 
     -- so all goes on to hold
-    pub speaks-ordered : Ordered new chain
-    speaks-ordered =
+    pub speaks-ownership : OwnershipInvariant new chain
+    speaks-ownership =
         record {
           viewed = says-viewed;
-          declared = rw says-grows.declared ordered.declared;
+          declared = rw says-grows.declared ownership.declared;
           one_stamp = says-one_stamp;
           proposals = says-proposals;
           acks = says-ack;
           to_arbiters = says-to_arbiters;
           held = says-held;
           blocks = says-blocks;
-          ack_order = ack_order-grows old new says-grows chain ordered;
+          ack_order = ack_order-grows old new says-grows chain ownership;
           gathers = says-gathers;
-          links = λ v inside. link-grows old new says-grows chain chain (Extends-refl chain) v (nth no_proposal chain v) inside (ordered.links v inside);
-          known = (ordered.known.0, says-stamp ordered.known.0 ∙ ordered.known.1);
+          links = λ v inside. link-grows old new says-grows chain chain (Extends-refl chain) v (nth no_proposal chain v) inside (ownership.links v inside);
+          known = (ownership.known.0, says-stamp ownership.known.0 ∙ ownership.known.1);
           settled = says-settled;
-          told = λ t place m. decided-grows old new says-grows chain chain (Extends-refl chain) t place (ordered.told t place (says-told t place m));
+          told = λ t place m. decided-grows old new says-grows chain chain (Extends-refl chain) t place (ownership.told t place (says-told t place m));
         }

@@ -8,7 +8,7 @@ use Rattle.zeus_model.specs.declared.state.Entry.{Entry}
 use Rattle.zeus_model.specs.declared.state.Gather.{Gather}
 use Rattle.zeus_model.specs.Tables.{nth}
 use Rattle.ownership_safety.specs.Object.{Object, Letter, In, IsSaid, first_stamp, chain_stamp, chain_place}
-use Rattle.ownership_safety.specs.Ordered.{Ordered, IsViewed}
+use Rattle.ownership_safety.specs.OwnershipInvariant.{OwnershipInvariant, IsViewed}
 use Rattle.ownership_safety.specs.Kept.{IsStart}
 
 one_rising : (members : List ℕ) → IsRising members → (i : ℕ) → IsRising (nth [] (members ∷ []) i)
@@ -49,8 +49,8 @@ module _ (o : Object) (start : IsStart o) where
         acknowledgements = λ from to e p c m. absurd (start-silent _ m);
       }
 
-  pub start-ordered : Ordered o []
-  start-ordered =
+  pub start-ownership : OwnershipInvariant o []
+  start-ownership =
       record {
         viewed = start-viewed;
         declared = start.declared;

@@ -8,7 +8,7 @@ use Rattle.zeus_packet.specs.declared.write.Content.{Content}
 use Rattle.zeus_model.specs.Tables.{nth}
 use Rattle.ownership_safety.specs.Object.{Object, Letter, Invalidates, Acknowledges, In, IsView, IsLive, view, rank, no_proposal, first_stamp, chain_stamp, latest}
 use Rattle.ownership_safety.specs.Moves.{Settles}
-use Rattle.ownership_safety.specs.Ordered.{Ordered, IsPlaced}
+use Rattle.ownership_safety.specs.OwnershipInvariant.{OwnershipInvariant, IsPlaced}
 
 -- an object in the beginning: one view, nothing said or gathered, and each node has settled the declared placement
 pub record IsStart (o : Object) : Type 0 where
@@ -68,7 +68,7 @@ pub record IsAgain (old new : Object) (chain : List Proposal) (n : ℕ) (p : Pro
   pub link : p ≡ nth no_proposal chain p.base.ver
   pub requester : p.requester ≢ n
   pub settles : Settles old new chain n p.stamp.ver
-  pub ordered : Ordered new chain
+  pub ownership : OwnershipInvariant new chain
 
 -- the first decision of a proposal: it stands on the latest placement, and makes the chain one longer
 pub record IsFirst (old new : Object) (chain : List Proposal) (n : ℕ) (p : Proposal) : Type 0 where
@@ -77,4 +77,4 @@ pub record IsFirst (old new : Object) (chain : List Proposal) (n : ℕ) (p : Pro
   pub base : p.base ≡ chain_stamp chain (length chain)
   pub base_place : p.base_place ≡ latest old chain
   pub requester : (p.requester ≡ n) ⊎ (old.stopped p.requester ≡ true)
-  pub ordered : Ordered new (chain ++ p ∷ [])
+  pub ownership : OwnershipInvariant new (chain ++ p ∷ [])

@@ -1,5 +1,5 @@
 pub mod Object
 pub mod Moves
-pub mod Ordered
+pub mod OwnershipInvariant
 pub mod Kept
 pub mod Run

@@ -24,7 +24,7 @@ use Rattle.zeus_model.specs.Receive.{receive}
 use Rattle.zeus_model.specs.Scripts.{FitsStep, FitsTx, FitsTxs, FitTxs}
 use Rattle.zeus_model.specs.State.{Node}
 use Rattle.zeus_model.specs.Tables.{below, nth, numbers_from, put}
-use Rattle.zeus_model.specs.World.{World, Event, acted, all_posted, begin_or_not, begin_refused, begun_at, book_begun, cut, deliver_or_not, happens, installed_at, link, no_node, no_tx, node, nth_letter, posted, received_at, refuse_step, run, start, start_node, step_begin, step_install, stepped, stopped_at, ticked_at, tried_at, tx_decl, view_or_not, view_refused}
+use Rattle.zeus_model.specs.World.{World, Event, acted, all_posted, begin_or_not, begin_refused, begun_at, book_begun, first_64, deliver_or_not, happens, installed_at, link, no_node, no_tx, node, nth_letter, posted, received_at, refuse_step, run, start, start_node, step_begin, step_install, stepped, stopped_at, ticked_at, tried_at, tx_decl, view_or_not, view_refused}
 use Rattle.zeus_model.specs.declared.answer.Answer.{Answer}
 use Rattle.zeus_model.specs.declared.answer.Answer.TheVariants.{Begin as BeginAnswer, Try as TryAnswer, Receive as ReceiveAnswer, Tick as TickAnswer, Stop as StopAnswer, View as ViewAnswer, Install as InstallAnswer, NoPacket, NoView}
 use Rattle.zeus_model.specs.declared.answer.Begin.{Begin as BeginOutcome}
@@ -191,7 +191,7 @@ ranged_try w n s r h k there =
     let by = try_slot-by n s (node w n) (r.numbers n h) in
     let tried = book_tried w.book record { node = n; slot = s } w.config.degree did.answer in
     let passed = book_passes tried.book n (in_stream_order did.passed) in
-    ranged_acted w n did.node (TryAnswer did.answer) (cut did.sent) (change_then tried (λ b. book_passes b n (in_stream_order did.passed))) r h keeps.node by.number (AllFit-take (limits_of w.config) 64 did.sent keeps.sent)
+    ranged_acted w n did.node (TryAnswer did.answer) (first_64 did.sent) (change_then tried (λ b. book_passes b n (in_stream_order did.passed))) r h keeps.node by.number (AllFit-take (limits_of w.config) 64 did.sent keeps.sent)
     (sized_on w.book tried.book passed.book (book_tried-sized w.book record { node = n; slot = s } w.config.degree did.answer there) (book_passes-sized tried.book n (in_stream_order did.passed)))
 
 all_at : (limits : Limits) (ls : List Letter) (i : ℕ) (l : Letter) → AllFit limits ls → nth_letter ls i ≡ Some l → fits l limits ≡ true
@@ -211,7 +211,7 @@ ranged_deliver w from to (Some l) r h fit =
     let did = receive (node w to) l in
     let keeps = receive-keeps (limits_of w.config) (node w to) l (fit l refl) (r.ranges to h) in
     let by = receive-by to l (node w to) (r.numbers to h) in
-    ranged_acted w to did.node (ReceiveAnswer did.answer) (cut did.sent) (book_passes w.book to (in_stream_order did.passed)) r h keeps.node by.number (AllFit-take (limits_of w.config) 64 did.sent keeps.sent)
+    ranged_acted w to did.node (ReceiveAnswer did.answer) (first_64 did.sent) (book_passes w.book to (in_stream_order did.passed)) r h keeps.node by.number (AllFit-take (limits_of w.config) 64 did.sent keeps.sent)
     (book_passes-sized w.book to (in_stream_order did.passed))
 
 ranged_tick : (w : World) (n : ℕ) → IsRanged w → n < w.config.nodes → IsRanged (ticked_at w n (tick (node w n))).world
@@ -220,7 +220,7 @@ ranged_tick w n r h =
     let did = tick (node w n) in
     let keeps = tick-keeps (limits_of w.config) (node w n) (r.ranges n h) in
     let by = tick-by n (node w n) (r.numbers n h) in
-    ranged_acted w n did.node (TickAnswer did.answer) (cut did.sent) (unchanged w.book) r h keeps.node by.number (AllFit-take (limits_of w.config) 64 did.sent keeps.sent) (sized_same w.book)
+    ranged_acted w n did.node (TickAnswer did.answer) (first_64 did.sent) (unchanged w.book) r h keeps.node by.number (AllFit-take (limits_of w.config) 64 did.sent keeps.sent) (sized_same w.book)
 
 ranged_stop : (w : World) (n : ℕ) → IsRanged w → n < w.config.nodes → IsRanged (stopped_at w n (stop (node w n))).world
 unfolding stopped_at
@@ -268,7 +268,7 @@ ranged_install w n e r h first =
     let keeps = install-keeps (limits_of w.config) (node w n) v first (r.members (e - 1)) (r.ranges n h) in
     let by = install-by n v (node w n) (r.numbers n h) in
     ranged_either (nat_lt (length w.views) e) (refuse_step w (NoView (length w.views))) (installed_at w n did) (ranged_refused w (NoView (length w.views)) r)
-    (ranged_acted w n did.node (InstallAnswer did.answer) (cut did.sent) (book_passes w.book n (in_stream_order did.passed)) r h keeps.node by.number (AllFit-take (limits_of w.config) 64 did.sent keeps.sent)
+    (ranged_acted w n did.node (InstallAnswer did.answer) (first_64 did.sent) (book_passes w.book n (in_stream_order did.passed)) r h keeps.node by.number (AllFit-take (limits_of w.config) 64 did.sent keeps.sent)
     (book_passes-sized w.book n (in_stream_order did.passed)))
 
 -- a step that fits keeps a world in its ranges; a try speaks of a transaction that there is

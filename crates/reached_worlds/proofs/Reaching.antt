@@ -12,11 +12,11 @@ use Rattle.machine_moves.specs.Fits.{StepFits}
 use Rattle.machine_moves.proofs.Runs.{usual_after}
 use Rattle.machine_moves.proofs.Start.{start-config}
 use Rattle.machine_moves.proofs.Steps.{IsStep, step_is_moves}
-use Rattle.data_safety.specs.Story.{story}
-use Rattle.data_safety.proofs.OwnershipPlain.{IsFaithful}
-use Rattle.data_safety.proofs.RowsRuns.{moves_txs, start-txs}
-use Rattle.data_safety.proofs.RowsSteps.{step_is_story_moves}
-use Rattle.data_safety.proofs.StoryKeeps.{moves-faithful}
+use Rattle.data_safety.specs.RunState.{run_state}
+use Rattle.data_safety.proofs.OwnershipPlain.{HasDataInvariant}
+use Rattle.data_safety.proofs.StepRuns.{moves_txs, start-txs}
+use Rattle.data_safety.proofs.StepMoves.{step_is_run_moves}
+use Rattle.data_safety.proofs.RunKeeps.{moves-invariant}
 use Rattle.soundness.proofs.Fitting.{fits-step}
 use Rattle.soundness.proofs.Limits.{step-counts}
 use Rattle.soundness.proofs.Runs.{IsReached as IsFaithfully, start-reached}
@@ -27,7 +27,7 @@ use Rattle.reached_worlds.proofs.Telling.{try_of_below}
 
 -- what is known of a world that steps lead to
 pub record IsKnown (w : World) : Type 0 where
-  pub faithful : IsFaithfully w
+  pub data_invariant : IsFaithfully w
   pub ranged : IsRanged w
 
 -- a step leaves the configuration and the transactions
@@ -38,22 +38,22 @@ pub record IsSame (w v : World) : Type 0 where
 step_known : (w : World) (s : Step) → IsKnown w → FitsStep w.config (length w.txs) s → IsKnown (stepped w s)
 step_known w s k fits =
     let here : StepFits w.config w.txs s = fits-step w.config w.txs s fits in
-    let next : IsFaithful (story (stepped w s)) = moves-faithful (story w) (story (stepped w s)) k.faithful.truth k.faithful.faithful (step_is_story_moves w s k.faithful.usual here) in
+    let next : HasDataInvariant (run_state (stepped w s)) = moves-invariant (run_state w) (run_state (stepped w s)) k.data_invariant.witness k.data_invariant.data_invariant (step_is_run_moves w s k.data_invariant.usual here) in
     record {
-      faithful = record {
-        usual = usual_after w (stepped w s) k.faithful.usual (step_is_moves w s w.txs k.faithful.usual here);
-        counts = step-counts w w.txs s k.faithful.counts here;
-        truth = next.0;
-        faithful = next.1;
+      data_invariant = record {
+        usual = usual_after w (stepped w s) k.data_invariant.usual (step_is_moves w s w.txs k.data_invariant.usual here);
+        counts = step-counts w w.txs s k.data_invariant.counts here;
+        witness = next.0;
+        data_invariant = next.1;
       };
-      ranged = ranged_step w s k.ranged fits (λ n slot. try_of_below w k.faithful.truth n slot k.faithful.faithful);
+      ranged = ranged_step w s k.ranged fits (λ n slot. try_of_below w k.data_invariant.witness n slot k.data_invariant.data_invariant);
     }
 
 step_same : (w : World) (s : Step) → IsKnown w → FitsStep w.config (length w.txs) s → IsSame w (stepped w s)
 step_same w s k fits =
     let here : StepFits w.config w.txs s = fits-step w.config w.txs s fits in
-    let moved : IsStep w (stepped w s) = step_is_moves w s w.txs k.faithful.usual here in
-    let kept : (stepped w s).txs ≡ w.txs = moves_txs (story w) (story (stepped w s)) (step_is_story_moves w s k.faithful.usual here) in
+    let moved : IsStep w (stepped w s) = step_is_moves w s w.txs k.data_invariant.usual here in
+    let kept : (stepped w s).txs ≡ w.txs = moves_txs (run_state w) (run_state (stepped w s)) (step_is_run_moves w s k.data_invariant.usual here) in
     record { config = moved.config; txs = kept }
 
 run_known : (c : Config) (txs : List TxDecl) (steps : List Step) (w : World) → w.config ≡ c → w.txs ≡ txs → IsKnown w → All (FitsStep c (length txs)) steps → IsKnown (run w steps)
@@ -65,7 +65,7 @@ run_known c txs (s ∷ ss) w config same k fits =
     run_known c txs ss (stepped w s) (stays.config ∙ config) (stays.txs ∙ same) (step_known w s k here) (All-tail (FitsStep c (length txs)) s ss fits)
 
 start_known : (c : Config) (txs : List TxDecl) → KeepsLimits c → FitsTxs c txs → IsKnown (start c txs)
-start_known c txs limits fit = record { faithful = start-reached c txs limits fit.each; ranged = ranged_start c txs limits fit }
+start_known c txs limits fit = record { data_invariant = start-reached c txs limits fit.each; ranged = ranged_start c txs limits fit }
 
 -- what is known of each reached world
 pub reached_known : (w : World) → IsReached w → IsKnown w

@@ -26,11 +26,11 @@ use Rattle.zeus_txn.specs.declared.reply.Ran.{Ran}
 use Rattle.zeus_model.specs.Tables.{nth, put, below}
 use Rattle.zeus_model.specs.Act.{Act, Did, letter, to_each, still, just, sends, and_then, did_then, in_turn}
 use Rattle.zeus_model.specs.State.{Node, entry, gather, slot, log, with_slot, with_log, with_gather, own_stream, next_number, is_open}
-use Rattle.zeus_model.specs.Commit.{as_kept, told, pass_own, pass_kept, advance_own, advance_own_by, advance_kept, advance_kept_by, passing, raise, after_passing, store, stored_rinv, on_rinv, on_own_rack, on_kept_rack, on_rack, on_rval, next_kept, is_within, no_pending, no_kept, acked_pending, acked_kept, outside, report, none_stored, finish, followers_of}
+use Rattle.zeus_model.specs.Commit.{as_kept, told, pass_own, pass_kept, advance_own, advance_own_by, advance_kept, advance_kept_by, passing, raise, after_passing, store, stored_rinv, on_rinv, on_own_rack, on_kept_rack, on_rack, on_rval, next_kept, is_within, no_pending, no_kept, acked_pending, acked_kept, outside, report_recovered, none_stored, finish, followers_of}
 use Rattle.zeus_model.specs.Ownership.{settle, settled_entry, gather_above, holding, is_source, own_content, unready_cause, driven, invalidations, acknowledgement, drive, answer_request, request_cause, on_oreq, answer_settled, takes_over, rebased, advice, refuse_proposal, refusal, collector, hold_cause, hold_or_refuse, is_held, oinv_on_base, on_oinv, is_decidable, bring, brought, decide_with, decide_on, decide_gathered, decide, gather_for, greater_gather, noted, is_noted, take_ack, gather_or_older, collect_cause, collect_or_refuse, oack_on_base, on_oack, on_oval}
 use Rattle.zeus_model.specs.Membership.{install, stop, dropped, letters_of, others, apart, repeat_report, repeat_entries, repeat_own, repeat_kept, repeat_requests, own_acknowledgement, repeat_proposal, repeat_proposals, repeat_done, leaves, repeat_leave, repeats, tick}
 use Rattle.zeus_model.specs.Local.{begin, begin_free, with_current, driver, ask, requests, not_owned, not_copied, read_missing, read_row, hindrance, Hindrance, Missing, Unready, run_here, write_row, write_cause, commit, commit_entry, committed, invalidation, new_writes, replicas_of, try_current, try_slot}
-use Rattle.zeus_model.specs.Receive.{on_recovered, row, untaken, receive_or_not, receive}
+use Rattle.zeus_model.specs.Receive.{on_recovered, row, rejection, receive_or_not, receive}
 use Rattle.zeus_model.specs.declared.answer.Begin.{Begin}
 use Rattle.zeus_model.specs.declared.answer.Begin.TheVariants.{Begun, Busy, Stopped as BeginStopped}
 use Rattle.zeus_model.specs.declared.answer.Outcome.{Outcome}
@@ -157,8 +157,8 @@ advance_kept-by : (me : ℕ) (s : Stream) → Acts me (λ n. advance_kept n s)
 unfolding advance_kept
 advance_kept-by me s n h = advance_kept_by-by me (passing n (log n s).kept) s n h
 
-report-by : (me : ℕ) → Acts me report
-unfolding report
+report-by : (me : ℕ) → Acts me report_recovered
+unfolding report_recovered
 report-by me n h =
     is_either_act me (not (has n.me n.reported) && none_stored n (outside n)) (record { node = record n { reported = with_node n.me n.reported }; sent = to_each n (without n.me n.members) Recovered; passed = [] }) (still n)
     (record { number = h; by = by_each me n (without n.me n.members) Recovered h }) (is_still me n h)
@@ -166,9 +166,9 @@ report-by me n h =
 finish-by : (me : ℕ) → Acts me finish
 unfolding finish
 finish-by me n h =
-    is_then me (in_turn advance_own n (below (length n.slots))) (λ m. and_then (in_turn advance_kept m (outside m)) report)
+    is_then me (in_turn advance_own n (below (length n.slots))) (λ m. and_then (in_turn advance_kept m (outside m)) report_recovered)
     (is_turns me advance_own (below (length n.slots)) (λ s. advance_own-by me s) n h)
-    (λ m k. is_then me (in_turn advance_kept m (outside m)) report (is_turns me advance_kept (outside m) (λ s. advance_kept-by me s) m k) (report-by me))
+    (λ m k. is_then me (in_turn advance_kept m (outside m)) report_recovered (is_turns me advance_kept (outside m) (λ s. advance_kept-by me s) m k) (report-by me))
 
 -- ---- letters of commit
 
@@ -323,7 +323,7 @@ receive_or_not-by me l None n h = is_did_then me (row n l.from l.body) finish (r
 
 pub receive-by : (me : ℕ) (l : Letter) (n : Node) → n.me ≡ me → IsBy me (receive n l).node (receive n l).sent
 unfolding receive
-receive-by me l n h = receive_or_not-by me l (untaken n l) n h
+receive-by me l n h = receive_or_not-by me l (rejection n l) n h
 
 -- ---- begins and tries
 

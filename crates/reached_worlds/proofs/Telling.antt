@@ -23,11 +23,11 @@ use Rattle.zeus_model.specs.declared.answer.Tried.TheVariants.{Stopped, Nothing,
 use Rattle.zeus_model.specs.declared.answer.TxState.TheVariants.{New, Current as CurrentState, Pending, Passed, Acked, Refused}
 use Rattle.zeus_model.specs.declared.state.Current.{Current}
 use Rattle.machine_moves.specs.Move.{own_kept}
-use Rattle.machine_moves.specs.Scene.{scene}
-use Rattle.replication_safety.specs.Line.{end}
-use Rattle.invariants.specs.Lines.{line, done_of, kept_of}
-use Rattle.data_safety.specs.Story.{Truth, story}
-use Rattle.data_safety.specs.Faithful.{Faithful, IsBooked}
+use Rattle.machine_moves.specs.SystemState.{system}
+use Rattle.replication_safety.specs.StreamState.{end}
+use Rattle.invariants.specs.Streams.{stream_state, done_of, kept_of}
+use Rattle.data_safety.specs.RunState.{Witness, run_state}
+use Rattle.data_safety.specs.DataInvariant.{DataInvariant, IsBooked}
 use Rattle.history_book.specs.Books.{BookState, IsNext}
 use Rattle.history_book.specs.Entries.{IsStream}
 use Rattle.history_book.specs.Tries.{CanNote, IsCurrent}
@@ -147,25 +147,25 @@ begun_there b id h = elim (cases_lt id (length b.records)) [
   | inr past ↦ let none : is_some (record_of b id).begun ≡ false = ap (λ (r : TxRecord). is_some r.begun) (nth-past no_record b.records id (omega arith)) in absurd cc
 ]
 
-scene_node : (w : World) (n : ℕ) → (scene w).node n ≡ node w n
-unfolding scene
-scene_node w n = refl
+system_node : (w : World) (n : ℕ) → (system w).node n ≡ node w n
+unfolding system
+system_node w n = refl
 
 -- the current transaction of a slot is one of the book, and current there
-current_there : (w : World) (u : Truth) (n s : ℕ) (c : Current) (b : BookState) → b.book ≡ w.book → Faithful (story w) u → (slot (node w n) s).current ≡ Some c → IsCurrent b c.id
+current_there : (w : World) (u : Witness) (n s : ℕ) (c : Current) (b : BookState) → b.book ≡ w.book → DataInvariant (run_state w) u → (slot (node w n) s).current ≡ Some c → IsCurrent b c.id
 current_there w u n s c b same f is =
-    let now : (slot ((scene w).node n) s).current ≡ Some c = ap (λ (m : Node). (slot m s).current) (scene_node w n) ∙ is in
+    let now : (slot ((system w).node n) s).current ≡ Some c = ap (λ (m : Node). (slot m s).current) (system_node w n) ∙ is in
     let h = f.booked.current n s c now in
     let not_acked : (record_of w.book c.id).acked ≡ None = none_of (record_of w.book c.id).acked (λ step e. clash (record_of w.book c.id).point step (f.booked.acked_at c.id step e) h.3) in
     rw same (record { there = begun_there w.book c.id h.1; current = state_current (record_of w.book c.id) h.4 not_acked h.3 h.2 h.1 })
 
-pub current_of : (w : World) (u : Truth) (n s id : ℕ) (b : BookState) → b.book ≡ w.book → Faithful (story w) u → IsCurrentOf (slot (node w n) s).current id → IsCurrent b id
+pub current_of : (w : World) (u : Witness) (n s id : ℕ) (b : BookState) → b.book ≡ w.book → DataInvariant (run_state w) u → IsCurrentOf (slot (node w n) s).current id → IsCurrent b id
 current_of w u n s id b same f is = rw (← is.number) (current_there w u n s is.current b same f is.is)
 
 -- ---- the next number of a stream
 
-end_is : (w : World) (n s : ℕ) → end (line (scene w) record { node = n; slot = s }) ≡ next_number (slot (node w n) s)
-unfolding line scene done_of kept_of own_kept
+end_is : (w : World) (n s : ℕ) → end (stream_state (system w) record { node = n; slot = s }) ≡ next_number (slot (node w n) s)
+unfolding stream_state system done_of kept_of own_kept
 end_is w n s =
     let self : (n == n) ≡ true = grind (arith, nat_tests) in
     let count = Rattle.std.proofs.lemmas.List.length-map (slot (node w n) s).pending Rattle.zeus_model.specs.Commit.as_kept in
@@ -206,10 +206,10 @@ found_some s number j (r ∷ rs) (suc i) h = elim (cases_Bool (is_entry s number
 ]
 
 -- the number of the next entry is the next of the stream in the book
-next_there : (w : World) (u : Truth) (n s : ℕ) → Faithful (story w) u → IsNext w.book (record { node = n; slot = s }) (next_number (slot (node w n) s))
+next_there : (w : World) (u : Witness) (n s : ℕ) → DataInvariant (run_state w) u → IsNext w.book (record { node = n; slot = s }) (next_number (slot (node w n) s))
 next_there w u n s f =
     let t : Stream = record { node = n; slot = s } in
-    let last : end (line (scene w) t) ≡ next_number (slot (node w n) s) = end_is w n s in
+    let last : end (stream_state (system w) t) ≡ next_number (slot (node w n) s) = end_is w n s in
     record {
       below = λ k less.
           let h = f.booked.entry t k (rw last less) in
@@ -222,7 +222,7 @@ next_there w u n s f =
           omega arith);
     }
 
-can_by : (w : World) (u : Truth) (n s : ℕ) (b : BookState) (t : Tried) → b.book ≡ w.book → n < b.nodes → s < b.slots → Faithful (story w) u
+can_by : (w : World) (u : Witness) (n s : ℕ) (b : BookState) (t : Tried) → b.book ≡ w.book → n < b.nodes → s < b.slots → DataInvariant (run_state w) u
     → Says (slot (node w n) s).current (next_number (slot (node w n) s)) t → CanNote b (record { node = n; slot = s }) t
 unfolding Says CanNote
 can_by w u n s b Stopped same h k f says = tt
@@ -238,7 +238,7 @@ can_by w u n s b (Committed id number reply) same h k f says =
     (current_of w u n s id b same f says.0, record { node = h; slot = k }, rw (same, says.1) (next_there w u n s f))
 
 -- the book can note what a try answers
-pub can_note : (w : World) (u : Truth) (n s : ℕ) (b : BookState) → b.book ≡ w.book → n < b.nodes → s < b.slots → Faithful (story w) u → CanNote b (record { node = n; slot = s }) (try_slot (node w n) s).answer
+pub can_note : (w : World) (u : Witness) (n s : ℕ) (b : BookState) → b.book ≡ w.book → n < b.nodes → s < b.slots → DataInvariant (run_state w) u → CanNote b (record { node = n; slot = s }) (try_slot (node w n) s).answer
 can_note w u n s b same h k f = can_by w u n s b (try_slot (node w n) s).answer same h k f (says_try (node w n) s)
 
 of_below : (b : BookState) (s : Stream) (t : Tried) → CanNote b s t → IsOfBelow (length b.book.records) t
@@ -255,7 +255,7 @@ of_below b s WornOut h = tt
 of_below b s (Committed id number reply) h = h.0.there
 
 -- and the transaction that it speaks of is there
-pub try_of_below : (w : World) (u : Truth) (n s : ℕ) → Faithful (story w) u → IsOfBelow (length w.book.records) (try_slot (node w n) s).answer
+pub try_of_below : (w : World) (u : Witness) (n s : ℕ) → DataInvariant (run_state w) u → IsOfBelow (length w.book.records) (try_slot (node w n) s).answer
 try_of_below w u n s f =
     let b : BookState = record { book = w.book; nodes = suc n; slots = suc s } in
     of_below b (record { node = n; slot = s }) (try_slot (node w n) s).answer (can_note w u n s b refl (omega arith) (omega arith) f)

@@ -12,3 +12,5 @@ pub use commit_pipeline::Pipe;
 pub use follow::{RInvAnswer, RValAnswer, on_rinv, on_rval};
 pub use follower_log::Stored;
 pub use object_table::Copies;
+pub use zeus_base::{NodeId, NodeSet, Stream};
+pub use zeus_packet::{Cause, RInv};

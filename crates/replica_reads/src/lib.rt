@@ -9,3 +9,6 @@ mod tests;
 pub use object_table::Copies;
 pub use reads::{ReadTry, try_read};
 pub use run::run_on;
+pub use zeus_base::ObjId;
+pub use zeus_packet::State;
+pub use zeus_txn::{Ran, Reply, Tx};

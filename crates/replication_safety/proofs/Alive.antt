@@ -2,11 +2,11 @@
 use Rattle.std.specs.Prelude.{ℕ, suc, ◌≡◌, ◌≢◌, ◌<◌, ◌≤◌, List, ◌⊎◌}
 use Rattle.std.proofs.Common.{arith, sym, inl, inr}
 use Rattle.std.proofs.lemmas.Bool.{cases_lt}
-use Rattle.replication_safety.specs.Line.{Line, Letter, Entry, Stores, In, IsLive, Has, IsInFlight, IsAlive, top, end}
+use Rattle.replication_safety.specs.StreamState.{StreamState, Letter, Entry, Stores, In, IsLive, Has, IsInFlight, IsAlive, top, end}
 use Rattle.replication_safety.specs.Moves.{Sends, nothing, NewView, Stops, Installs, ReportsItself, Hears, Tells, Commits, StoresNext, Raises, NotesAck, PassesFirst}
-use Rattle.replication_safety.specs.Replicated.{IsCopy, Replicated}
+use Rattle.replication_safety.specs.ReplicationInvariant.{IsCopy, ReplicationInvariant}
 use Rattle.replication_safety.proofs.Basics.{silent-only}
-use Rattle.replication_safety.proofs.Carries.{Grows}
+use Rattle.replication_safety.proofs.PreservesReplication.{Grows}
 use Rattle.replication_safety.proofs.Same.{SameKept, same-end, same-has_before}
 use Rattle.replication_safety.proofs.Views.{viewed-kept, stops-kept, installs-kept, grows_NewView, grows_Stops, grows_Installs}
 use Rattle.replication_safety.proofs.Reports.{reports-kept, hears-kept, grows_ReportsItself, grows_Hears}
@@ -17,11 +17,11 @@ use Rattle.replication_safety.proofs.Passing.{passes-drops, passes-top, grows_Pa
 use Rattle.replication_safety.proofs.Acks.{notes-has_before, notes-top, grows_NotesAck}
 
 -- who could pass the entry on: the stream's own node, a live node that keeps it, or one that can still get it
-Lives : Line → ℕ → Type 0
+Lives : StreamState → ℕ → Type 0
 Lives l k = IsLive l l.home ⊎ (((f : ℕ) × IsLive l f × Has l f k) ⊎ IsInFlight l k)
 
 -- what lives after a move lived before, where nothing but what lived is kept or sent by it
-alive-before : (old new : Line) (passed now k : ℕ) → Grows old new → passed ≤ now → (k < end new → k < end old)
+alive-before : (old new : StreamState) (passed now k : ℕ) → Grows old new → passed ≤ now → (k < end new → k < end old)
     → ((f : ℕ) → IsLive old f → Has new f k → Lives old k) → (IsInFlight new k → Lives old k) → IsAlive new now k → IsAlive old passed k
 unfolding IsAlive Lives
 alive-before old new passed now k g rises ends keeps sends alive =
@@ -37,39 +37,39 @@ alive-before old new passed now k g rises ends keeps sends alive =
     ]
 
 -- where no letter with an entry is new
-flight-silent : (old new : Line) (k : ℕ) → Grows old new → Sends old new nothing → IsInFlight new k → Lives old k
+flight-silent : (old new : StreamState) (k : ℕ) → Grows old new → Sends old new nothing → IsInFlight new k → Lives old k
 unfolding Lives
 flight-silent old new k g s flight =
     let m : In (Stores flight.1 flight.0 flight.2 k flight.3 flight.4) old.letters = silent-only old new (Stores flight.1 flight.0 flight.2 k flight.3 flight.4) s flight.7 in
     inr (inr (flight.0, flight.1, flight.2, flight.3, flight.4, g.live flight.0 flight.5, omega (arith, g.epoch flight.0, flight.6), m))
 
-kept-lives : (old : Line) (f k : ℕ) → IsLive old f → Has old f k → Lives old k
+kept-lives : (old : StreamState) (f k : ℕ) → IsLive old f → Has old f k → Lives old k
 unfolding Lives
 kept-lives old f k live h = inr (inl (f, live, h))
 
-alive-same : (old new : Line) (passed now k : ℕ) → SameKept old new → Grows old new → Sends old new nothing → passed ≤ now → IsAlive new now k → IsAlive old passed k
+alive-same : (old new : StreamState) (passed now k : ℕ) → SameKept old new → Grows old new → Sends old new nothing → passed ≤ now → IsAlive new now k → IsAlive old passed k
 alive-same old new passed now k s g silent rises alive =
     alive-before old new passed now k g rises (λ below. omega (arith, same-end old new s))
     (λ f live h. kept-lives old f k live (same-has_before old new f k s h))
     (flight-silent old new k g silent) alive
 
-pub alive_NewView : (old new : Line) (passed now k : ℕ) (set : List ℕ) → NewView old new set → passed ≤ now → IsAlive new now k → IsAlive old passed k
+pub alive_NewView : (old new : StreamState) (passed now k : ℕ) (set : List ℕ) → NewView old new set → passed ≤ now → IsAlive new now k → IsAlive old passed k
 alive_NewView old new passed now k set s = alive-same old new passed now k (viewed-kept old new set s) (grows_NewView old new set s) s.sends
 
-pub alive_Stops : (old new : Line) (passed now k n : ℕ) → Stops old new n → passed ≤ now → IsAlive new now k → IsAlive old passed k
+pub alive_Stops : (old new : StreamState) (passed now k n : ℕ) → Stops old new n → passed ≤ now → IsAlive new now k → IsAlive old passed k
 alive_Stops old new passed now k n s = alive-same old new passed now k (stops-kept old new n s) (grows_Stops old new n s) s.sends
 
-pub alive_Installs : (old new : Line) (passed now k n e : ℕ) → Installs old new n e → passed ≤ now → IsAlive new now k → IsAlive old passed k
+pub alive_Installs : (old new : StreamState) (passed now k n e : ℕ) → Installs old new n e → passed ≤ now → IsAlive new now k → IsAlive old passed k
 alive_Installs old new passed now k n e s = alive-same old new passed now k (installs-kept old new n e s) (grows_Installs old new n e s) s.sends
 
-pub alive_ReportsItself : (old new : Line) (passed now k n : ℕ) → ReportsItself old new n → passed ≤ now → IsAlive new now k → IsAlive old passed k
+pub alive_ReportsItself : (old new : StreamState) (passed now k n : ℕ) → ReportsItself old new n → passed ≤ now → IsAlive new now k → IsAlive old passed k
 alive_ReportsItself old new passed now k n s = alive-same old new passed now k (reports-kept old new n s) (grows_ReportsItself old new n s) s.sends
 
-pub alive_Hears : (old new : Line) (passed now k n a : ℕ) → Hears old new n a → passed ≤ now → IsAlive new now k → IsAlive old passed k
+pub alive_Hears : (old new : StreamState) (passed now k n a : ℕ) → Hears old new n a → passed ≤ now → IsAlive new now k → IsAlive old passed k
 alive_Hears old new passed now k n a s = alive-same old new passed now k (hears-kept old new n a s) (grows_Hears old new n a s) s.sends
 
 -- a letter that is sent now is sent by a live node that keeps the entry
-tells-flight : (old new : Line) (k n : ℕ) → Tells old new n → IsInFlight new k → Lives old k
+tells-flight : (old new : StreamState) (k n : ℕ) → Tells old new n → IsInFlight new k → Lives old k
 unfolding Lives
 tells-flight old new k n s flight =
     let g : Grows old new = grows_Tells old new n s in
@@ -82,14 +82,14 @@ tells-flight old new k n s flight =
           kept-lives old n k s.acts.live t.kept
     ]
 
-pub alive_Tells : (old new : Line) (passed now k n : ℕ) → Tells old new n → passed ≤ now → IsAlive new now k → IsAlive old passed k
+pub alive_Tells : (old new : StreamState) (passed now k n : ℕ) → Tells old new n → passed ≤ now → IsAlive new now k → IsAlive old passed k
 alive_Tells old new passed now k n s rises alive =
     let same : SameKept old new = tells-kept old new n s in
     alive-before old new passed now k (grows_Tells old new n s) rises (λ below. omega (arith, same-end old new same))
     (λ f live h. kept-lives old f k live (same-has_before old new f k same h))
     (tells-flight old new k n s) alive
 
-pub alive_Raises : (old new : Line) (passed now k n d : ℕ) → Raises old new passed n d → passed ≤ now → IsAlive new now k → IsAlive old passed k
+pub alive_Raises : (old new : StreamState) (passed now k n d : ℕ) → Raises old new passed n d → passed ≤ now → IsAlive new now k → IsAlive old passed k
 alive_Raises old new passed now k n d s rises alive =
     let g : Grows old new = grows_Raises old new passed n d s in
     alive-before old new passed now k g rises
@@ -97,7 +97,7 @@ alive_Raises old new passed now k n d s rises alive =
     (λ f live h. kept-lives old f k live (drops-has_before old new n d f k (raises-drops old new passed n d s) h))
     (flight-silent old new k g s.acts.sends) alive
 
-pub alive_PassesFirst : (old new : Line) (passed now k n : ℕ) → PassesFirst old new n → passed ≤ now → IsAlive new now k → IsAlive old passed k
+pub alive_PassesFirst : (old new : StreamState) (passed now k n : ℕ) → PassesFirst old new n → passed ≤ now → IsAlive new now k → IsAlive old passed k
 alive_PassesFirst old new passed now k n s rises alive =
     let g : Grows old new = grows_PassesFirst old new n s in
     alive-before old new passed now k g rises
@@ -105,7 +105,7 @@ alive_PassesFirst old new passed now k n s rises alive =
     (λ f live h. kept-lives old f k live (drops-has_before old new n (suc (old.done n)) f k (passes-drops old new n s) h))
     (flight-silent old new k g s.acts.sends) alive
 
-pub alive_NotesAck : (old new : Line) (passed now k n j a : ℕ) → NotesAck old new n j a → passed ≤ now → IsAlive new now k → IsAlive old passed k
+pub alive_NotesAck : (old new : StreamState) (passed now k n j a : ℕ) → NotesAck old new n j a → passed ≤ now → IsAlive new now k → IsAlive old passed k
 alive_NotesAck old new passed now k n j a s rises alive =
     let g : Grows old new = grows_NotesAck old new n j a s in
     alive-before old new passed now k g rises
@@ -114,7 +114,7 @@ alive_NotesAck old new passed now k n j a s rises alive =
     (flight-silent old new k g s.acts.sends) alive
 
 -- what is stored now was on its way to the node
-stores-lives : (old new : Line) (k n f : ℕ) (x : Entry) → StoresNext old new n x → IsLive old f → Has new f k → Lives old k
+stores-lives : (old new : StreamState) (k n f : ℕ) (x : Entry) → StoresNext old new n x → IsLive old f → Has new f k → Lives old k
 unfolding Lives
 stores-lives old new k n f x s live h =
     elim (appends-has_before old new n f k x (stores-appends old new n x s) h) [
@@ -124,7 +124,7 @@ stores-lives old new k n f x s live h =
           inr (inr (n, s.sent.0, old.epoch n, s.sent.1, x, s.acts.acts.live, omega arith, sent))
     ]
 
-pub alive_StoresNext : (old new : Line) (passed now k n : ℕ) (x : Entry) → Replicated old passed → StoresNext old new n x → passed ≤ now → IsAlive new now k → IsAlive old passed k
+pub alive_StoresNext : (old new : StreamState) (passed now k n : ℕ) (x : Entry) → ReplicationInvariant old passed → StoresNext old new n x → passed ≤ now → IsAlive new now k → IsAlive old passed k
 alive_StoresNext old new passed now k n x r s rises alive =
     let g : Grows old new = grows_StoresNext old new n x s in
     let c : IsCopy old passed n (top old n) s.sent.1 x = r.copies s.sent.0 n (old.epoch n) (top old n) s.sent.1 x s.sent.3 in
@@ -134,7 +134,7 @@ alive_StoresNext old new passed now k n x r s rises alive =
     (λ f live h. stores-lives old new k n f x s live h)
     (flight-silent old new k g s.acts.sends) alive
 
-pub alive_Commits : (old new : Line) (passed now k : ℕ) (x : Entry) → Commits old new x → passed ≤ now → IsAlive new now k → IsAlive old passed k ⊎ (k ≡ end old)
+pub alive_Commits : (old new : StreamState) (passed now k : ℕ) (x : Entry) → Commits old new x → passed ≤ now → IsAlive new now k → IsAlive old passed k ⊎ (k ≡ end old)
 unfolding IsAlive
 alive_Commits old new passed now k x s rises alive =
     let g : Grows old new = grows_Commits old new x s in

@@ -7,22 +7,22 @@ use Rattle.zeus_base.specs.Nodes.{has}
 use Rattle.zeus_base.specs.TableLaws.{nth-append_old, nth-append_new}
 use Rattle.zeus_model.specs.Commit.{no_kept}
 use Rattle.zeus_model.specs.declared.state.Kept.{Kept}
-use Rattle.replication_safety.specs.Line.{Line, Entry, Stores, In, IsView, IsLive, IsMember, IsOut, Has, HasReported, view, top, kept_at, entry_of}
+use Rattle.replication_safety.specs.StreamState.{StreamState, Entry, Stores, In, IsView, IsLive, IsMember, IsOut, Has, HasReported, view, top, kept_at, entry_of}
 use Rattle.replication_safety.specs.Moves.{ActsOnKept, Commits, StoresNext}
-use Rattle.replication_safety.specs.Replicated.{IsCopy, IsWitnessed, Replicated}
+use Rattle.replication_safety.specs.ReplicationInvariant.{IsCopy, IsWitnessed, ReplicationInvariant}
 use Rattle.replication_safety.proofs.Basics.{agree}
-use Rattle.replication_safety.proofs.Carries.{Grows, WasKept, IsAdded, CarriesKept, CarriesSaid, Carries, carried, witness-grows}
+use Rattle.replication_safety.proofs.PreservesReplication.{Grows, WasKept, IsAdded, PreservesKept, PreservesSaid, PreservesReplication, carried, witness-grows}
 use Rattle.replication_safety.proofs.Same.{IsView-same, view-same, quiet-reports, quiet-silent, silent-says, acts-live, acts-epoch, acts-viewed}
 
 -- ---- a node acts on what it keeps
 
-acting-reported : (old new : Line) (n m : ℕ) → ActsOnKept old new n → new.reported m ≡ old.reported m
+acting-reported : (old new : StreamState) (n m : ℕ) → ActsOnKept old new n → new.reported m ≡ old.reported m
 acting-reported old new n m a = agree new.reported old.reported n a.acts.others.reported a.reported m
 
-pub acting-silent : (old new : Line) (n m e : ℕ) → ActsOnKept old new n → HasReported new m e → HasReported old m e
+pub acting-silent : (old new : StreamState) (n m e : ℕ) → ActsOnKept old new n → HasReported new m e → HasReported old m e
 acting-silent old new n m e a = quiet-silent old new m e a.sends (acts-epoch old new n m a.acts) (acting-reported old new n m a)
 
-pub acting-says : (old new : Line) (passed now n : ℕ) → Replicated old passed → ActsOnKept old new n → CarriesSaid old new now
+pub acting-says : (old new : StreamState) (passed now n : ℕ) → ReplicationInvariant old passed → ActsOnKept old new n → PreservesSaid old new now
 acting-says old new passed now n r a =
     silent-says old new now a.acts.setting a.sends (acts-viewed old new n r.viewed a.acts a.sends)
     (λ m b. quiet-reports old new passed m b r a.sends.stay (acts-live old new n m a.acts) (acts-epoch old new n m a.acts) (acting-reported old new n m a))
@@ -33,32 +33,32 @@ acting-says old new passed now n r a =
 abbrev pub unacked : Entry → Kept
 unacked x = record { followers = x.followers; writes = x.writes; acks = [] }
 
-pub record Appends (old new : Line) (n : ℕ) (x : Entry) : Type 0 where
+pub record Appends (old new : StreamState) (n : ℕ) (x : Entry) : Type 0 where
   pub acts : ActsOnKept old new n
   pub done : new.done n ≡ old.done n
   pub kept : new.kept n ≡ old.kept n ++ unacked x ∷ []
 
-appends-done : (old new : Line) (n m : ℕ) (x : Entry) → Appends old new n x → new.done m ≡ old.done m
+appends-done : (old new : StreamState) (n m : ℕ) (x : Entry) → Appends old new n x → new.done m ≡ old.done m
 appends-done old new n m x a = agree new.done old.done n a.acts.acts.others.done a.done m
 
-pub appends-top : (old new : Line) (n : ℕ) (x : Entry) → Appends old new n x → top new n ≡ suc (top old n)
+pub appends-top : (old new : StreamState) (n : ℕ) (x : Entry) → Appends old new n x → top new n ≡ suc (top old n)
 appends-top old new n x a =
     omega (arith, a.done, ap length a.kept, length-append (old.kept n) (unacked x ∷ []))
 
-pub appends-top_other : (old new : Line) (n m : ℕ) (x : Entry) → Appends old new n x → m ≢ n → top new m ≡ top old m
+pub appends-top_other : (old new : StreamState) (n m : ℕ) (x : Entry) → Appends old new n x → m ≢ n → top new m ≡ top old m
 appends-top_other old new n m x a other = rw (a.acts.acts.others.done m other, a.acts.acts.others.kept m other)
 
-appends-rises : (old new : Line) (n m : ℕ) (x : Entry) → Appends old new n x → top old m ≤ top new m
+appends-rises : (old new : StreamState) (n m : ℕ) (x : Entry) → Appends old new n x → top old m ≤ top new m
 appends-rises old new n m x a =
     elim (cases_eq m n) [
       | inl same ↦ rw same (omega (arith, appends-top old new n x a))
       | inr other ↦ omega (arith, appends-top_other old new n m x a other)
     ]
 
-pub appends-has : (old new : Line) (n m k : ℕ) (x : Entry) → Appends old new n x → Has old m k → Has new m k
+pub appends-has : (old new : StreamState) (n m k : ℕ) (x : Entry) → Appends old new n x → Has old m k → Has new m k
 appends-has old new n m k x a h = omega (arith, h.0, h.1, appends-done old new n m x a, appends-rises old new n m x a)
 
-pub appends-has_before : (old new : Line) (n m k : ℕ) (x : Entry) → Appends old new n x → Has new m k → Has old m k ⊎ ((m ≡ n) × (k ≡ top old n))
+pub appends-has_before : (old new : StreamState) (n m k : ℕ) (x : Entry) → Appends old new n x → Has new m k → Has old m k ⊎ ((m ≡ n) × (k ≡ top old n))
 appends-has_before old new n m k x a h =
     let done : new.done m ≡ old.done m = appends-done old new n m x a in
     elim (cases_lt k (top old m)) [
@@ -74,23 +74,23 @@ appends-has_before old new n m k x a h =
     ]
 
 -- the entries of before stand where they stood
-appends-old_here : (old new : Line) (n k : ℕ) (x : Entry) → Appends old new n x → Has old n k → kept_at new n k ≡ kept_at old n k
+appends-old_here : (old new : StreamState) (n k : ℕ) (x : Entry) → Appends old new n x → Has old n k → kept_at new n k ≡ kept_at old n k
 appends-old_here old new n k x a h =
     rw (a.done, a.kept) (nth-append_old no_kept (old.kept n) (unacked x ∷ []) (k - old.done n) (omega (arith, h.0, h.1)))
 
-pub appends-old : (old new : Line) (n m k : ℕ) (x : Entry) → Appends old new n x → Has old m k → kept_at new m k ≡ kept_at old m k
+pub appends-old : (old new : StreamState) (n m k : ℕ) (x : Entry) → Appends old new n x → Has old m k → kept_at new m k ≡ kept_at old m k
 appends-old old new n m k x a h =
     elim (cases_eq m n) [
       | inl same ↦ rw same (appends-old_here old new n k x a (rw same at h))
       | inr other ↦ rw (a.acts.acts.others.done m other, a.acts.acts.others.kept m other)
     ]
 
-pub appends-new : (old new : Line) (n : ℕ) (x : Entry) → Appends old new n x → kept_at new n (top old n) ≡ unacked x
+pub appends-new : (old new : StreamState) (n : ℕ) (x : Entry) → Appends old new n x → kept_at new n (top old n) ≡ unacked x
 appends-new old new n x a =
     let place : top old n - old.done n ≡ length (old.kept n) = omega arith in
     rw (a.done, a.kept, place) (nth-append_new no_kept (old.kept n) (unacked x))
 
-appends-kept : (old new : Line) (passed n m k : ℕ) (x : Entry) → Appends old new n x → IsAdded new passed n (top old n) → Has new m k → WasKept old new m k ⊎ IsAdded new passed m k
+appends-kept : (old new : StreamState) (passed n m k : ℕ) (x : Entry) → Appends old new n x → IsAdded new passed n (top old n) → Has new m k → WasKept old new m k ⊎ IsAdded new passed m k
 appends-kept old new passed n m k x a added h =
     elim (appends-has_before old new n m k x a h) [
       | inl before ↦
@@ -102,14 +102,14 @@ appends-kept old new passed n m k x a added h =
       | inr now ↦ inr (rw (now.0, now.1) added)
     ]
 
-appends-sizes : (old new : Line) (passed n m : ℕ) (x : Entry) → Replicated old passed → Appends old new n x → length (old.kept n) < 16 → length (new.kept m) ≤ 16
+appends-sizes : (old new : StreamState) (passed n m : ℕ) (x : Entry) → ReplicationInvariant old passed → Appends old new n x → length (old.kept n) < 16 → length (new.kept m) ≤ 16
 appends-sizes old new passed n m x r a room =
     elim (cases_eq m n) [
       | inl same ↦ rw same (omega (arith, ap length a.kept, length-append (old.kept n) (unacked x ∷ [])))
       | inr other ↦ rw (a.acts.acts.others.kept m other) (r.sizes m)
     ]
 
-pub appends-grows : (old new : Line) (n : ℕ) (x : Entry) → Appends old new n x → Grows old new
+pub appends-grows : (old new : StreamState) (n : ℕ) (x : Entry) → Appends old new n x → Grows old new
 appends-grows old new n x a =
     let home : new.home ≡ old.home = a.acts.acts.setting.home in
     record {
@@ -127,8 +127,8 @@ appends-grows old new n x a =
       stay = a.acts.sends.stay;
     }
 
-pub appends-keeps : (old new : Line) (passed n : ℕ) (x : Entry) → Replicated old passed → Appends old new n x → length (old.kept n) < 16 → IsAdded new passed n (top old n)
-    → CarriesKept old new passed passed
+pub appends-keeps : (old new : StreamState) (passed n : ℕ) (x : Entry) → ReplicationInvariant old passed → Appends old new n x → length (old.kept n) < 16 → IsAdded new passed n (top old n)
+    → PreservesKept old new passed passed
 appends-keeps old new passed n x r a room added =
     let home : new.home ≡ old.home = a.acts.acts.setting.home in
     record {
@@ -146,10 +146,10 @@ appends-keeps old new passed n x r a room added =
 
 -- ---- the stream's own node adds an entry
 
-pub commits-appends : (old new : Line) (x : Entry) → Commits old new x → Appends old new old.home x
+pub commits-appends : (old new : StreamState) (x : Entry) → Commits old new x → Appends old new old.home x
 commits-appends old new x s = record { acts = s.acts; done = s.done; kept = s.kept }
 
-commits-added : (old new : Line) (passed : ℕ) (x : Entry) → Commits old new x → IsAdded new passed old.home (top old old.home)
+commits-added : (old new : StreamState) (passed : ℕ) (x : Entry) → Commits old new x → IsAdded new passed old.home (top old old.home)
 unfolding has
 commits-added old new passed x s =
     let home : new.home ≡ old.home = s.acts.acts.setting.home in
@@ -161,38 +161,38 @@ commits-added old new passed x s =
       witnessed = λ e v out above m foreign. absurd (foreign (sym home));
     }
 
-pub grows_Commits : (old new : Line) (x : Entry) → Commits old new x → Grows old new
+pub grows_Commits : (old new : StreamState) (x : Entry) → Commits old new x → Grows old new
 grows_Commits old new x s = appends-grows old new old.home x (commits-appends old new x s)
 
-commits-carries : (old new : Line) (passed : ℕ) (x : Entry) → Replicated old passed → Commits old new x → Carries old new passed passed
-commits-carries old new passed x r s =
+commits-preserves : (old new : StreamState) (passed : ℕ) (x : Entry) → ReplicationInvariant old passed → Commits old new x → PreservesReplication old new passed passed
+commits-preserves old new passed x r s =
     record {
       grows = grows_Commits old new x s;
       keeps = appends-keeps old new passed old.home x r (commits-appends old new x s) s.room (commits-added old new passed x s);
       says = acting-says old new passed passed old.home r s.acts;
     }
 
-pub keeps_Commits : (old new : Line) (passed : ℕ) (x : Entry) → Replicated old passed → Commits old new x → Replicated new passed
-keeps_Commits old new passed x r s = carried old new passed passed r (commits-carries old new passed x r s)
+pub keeps_Commits : (old new : StreamState) (passed : ℕ) (x : Entry) → ReplicationInvariant old passed → Commits old new x → ReplicationInvariant new passed
+keeps_Commits old new passed x r s = carried old new passed passed r (commits-preserves old new passed x r s)
 
 -- ---- a node stores the next entry
 
-pub stores-appends : (old new : Line) (n : ℕ) (x : Entry) → StoresNext old new n x → Appends old new n x
+pub stores-appends : (old new : StreamState) (n : ℕ) (x : Entry) → StoresNext old new n x → Appends old new n x
 stores-appends old new n x s = record { acts = s.acts; done = s.done; kept = s.kept }
 
 -- who gets a letter with an entry is not the stream's own node
-pub receiver-foreign : (old : Line) (passed to k d : ℕ) (x : Entry) → IsCopy old passed to k d x → to ≢ old.home
+pub receiver-foreign : (old : StreamState) (passed to k d : ℕ) (x : Entry) → IsCopy old passed to k d x → to ≢ old.home
 receiver-foreign old passed to k d x c here =
     let is : has to x.followers ≡ true = c.follower in
     let none : has to x.followers ≡ false = rw here c.foreign in
     absurd cc
 
 -- and has room for the entry, where it is the next one there and the node has reached its done
-pub receiver-room : (old : Line) (passed to k d : ℕ) (x : Entry) → IsCopy old passed to k d x → d ≤ old.done to → k ≡ top old to → length (old.kept to) < 16
+pub receiver-room : (old : StreamState) (passed to k d : ℕ) (x : Entry) → IsCopy old passed to k d x → d ≤ old.done to → k ≡ top old to → length (old.kept to) < 16
 receiver-room old passed to k d x c reached next = omega (arith, c.near)
 
 -- who kept the entry before keeps it still, or the node that stores it now does and has not reported in a later epoch
-stores-witnessed : (old new : Line) (passed n e from d : ℕ) (x : Entry) → Replicated old passed → StoresNext old new n x → In (Stores from n (old.epoch n) (top old n) d x) old.letters
+stores-witnessed : (old new : StreamState) (passed n e from d : ℕ) (x : Entry) → ReplicationInvariant old passed → StoresNext old new n x → In (Stores from n (old.epoch n) (top old n) d x) old.letters
     → n ≢ new.home → IsView new e → IsOut new e new.home → passed ≤ top old n → IsMember new e n → IsWitnessed new e (top old n)
 stores-witnessed old new passed n e from d x r s sent foreign v out above m =
     let a : Appends old new n x = stores-appends old new n x s in
@@ -220,7 +220,7 @@ stores-witnessed old new passed n e from d x r s sent foreign v out above m =
           (r.sent_barrier e (top old n) from n (old.epoch n) d x before left above earlier sent)
     ]
 
-stores-added : (old new : Line) (passed n from d : ℕ) (x : Entry) → Replicated old passed → StoresNext old new n x → In (Stores from n (old.epoch n) (top old n) d x) old.letters
+stores-added : (old new : StreamState) (passed n from d : ℕ) (x : Entry) → ReplicationInvariant old passed → StoresNext old new n x → In (Stores from n (old.epoch n) (top old n) d x) old.letters
     → IsCopy old passed n (top old n) d x → IsAdded new passed n (top old n)
 unfolding has
 stores-added old new passed n from d x r s sent c =
@@ -234,11 +234,11 @@ stores-added old new passed n from d x r s sent c =
       witnessed = λ e v out above m _. stores-witnessed old new passed n e from d x r s sent foreign v out above m;
     }
 
-pub grows_StoresNext : (old new : Line) (n : ℕ) (x : Entry) → StoresNext old new n x → Grows old new
+pub grows_StoresNext : (old new : StreamState) (n : ℕ) (x : Entry) → StoresNext old new n x → Grows old new
 grows_StoresNext old new n x s = appends-grows old new n x (stores-appends old new n x s)
 
-stores-carries : (old new : Line) (passed n : ℕ) (x : Entry) → Replicated old passed → StoresNext old new n x → Carries old new passed passed
-stores-carries old new passed n x r s =
+stores-preserves : (old new : StreamState) (passed n : ℕ) (x : Entry) → ReplicationInvariant old passed → StoresNext old new n x → PreservesReplication old new passed passed
+stores-preserves old new passed n x r s =
     let c : IsCopy old passed n (top old n) s.sent.1 x = r.copies s.sent.0 n (old.epoch n) (top old n) s.sent.1 x s.sent.3 in
     let room : length (old.kept n) < 16 = receiver-room old passed n (top old n) s.sent.1 x c s.sent.2 refl in
     record {
@@ -247,5 +247,5 @@ stores-carries old new passed n x r s =
       says = acting-says old new passed passed n r s.acts;
     }
 
-pub keeps_StoresNext : (old new : Line) (passed n : ℕ) (x : Entry) → Replicated old passed → StoresNext old new n x → Replicated new passed
-keeps_StoresNext old new passed n x r s = carried old new passed passed r (stores-carries old new passed n x r s)
+pub keeps_StoresNext : (old new : StreamState) (passed n : ℕ) (x : Entry) → ReplicationInvariant old passed → StoresNext old new n x → ReplicationInvariant new passed
+keeps_StoresNext old new passed n x r s = carried old new passed passed r (stores-preserves old new passed n x r s)

@@ -4,9 +4,9 @@ use Rattle.std.proofs.Common.{arith, sym, subst, inl, inr}
 use Rattle.std.proofs.lemmas.Bool.{cases_lt, cases_eq}
 use Rattle.zeus_base.specs.Nodes.{is_subset}
 use Rattle.zeus_base.specs.NodeLaws.{is_subset-refl, is_subset-trans, is_subset-has}
-use Rattle.replication_safety.specs.Line.{Line, Letter, In, here, there, IsView, IsLive, IsMember, IsOut, view, top}
+use Rattle.replication_safety.specs.StreamState.{StreamState, Letter, In, here, there, IsView, IsLive, IsMember, IsOut, view, top}
 use Rattle.replication_safety.specs.Moves.{Sends, nothing}
-use Rattle.replication_safety.specs.Replicated.{IsViewed, Holds}
+use Rattle.replication_safety.specs.ReplicationInvariant.{IsViewed, Holds}
 
 -- ---- members of lists
 
@@ -28,11 +28,11 @@ In-append a (x ∷ xs) ys (there _ _ m) =
 -- ---- letters
 
 -- who says nothing leaves the letters as they are
-pub silent-only : (old new : Line) (l : Letter) → Sends old new nothing → In l new.letters → In l old.letters
+pub silent-only : (old new : StreamState) (l : Letter) → Sends old new nothing → In l new.letters → In l old.letters
 silent-only old new l s m = elim (s.only l m) [ inl before ↦ before | inr none ↦ absurd none ]
 
 -- letters that are added at the end, each of them allowed
-pub Sends-append : (old new : Line) (allowed : Letter → Type 0) (ls : List Letter)
+pub Sends-append : (old new : StreamState) (allowed : Letter → Type 0) (ls : List Letter)
     → new.letters ≡ old.letters ++ ls → ((l : Letter) → In l ls → allowed l) → Sends old new allowed
 Sends-append old new allowed ls e h =
     record {
@@ -40,7 +40,7 @@ Sends-append old new allowed ls e h =
       only = λ l m. elim (In-append l old.letters ls (subst (λ (xs : List Letter). In l xs) e m)) [ inl before ↦ inl before | inr now ↦ inr (h l now) ];
     }
 
-pub Sends-same : (old new : Line) → new.letters ≡ old.letters → Sends old new nothing
+pub Sends-same : (old new : StreamState) → new.letters ≡ old.letters → Sends old new nothing
 Sends-same old new e =
     record {
       stay = λ l m. subst (λ (xs : List Letter). In l xs) (sym e) m;
@@ -55,16 +55,16 @@ agree f g n others one m =
 
 -- ---- what a node holds
 
-pub Holds-top : (l : Line) (n k : ℕ) → Holds l n k → k < top l n
+pub Holds-top : (l : StreamState) (n k : ℕ) → Holds l n k → k < top l n
 Holds-top l n k h = grind arith
 
-pub top-Holds : (l : Line) (n k : ℕ) → k < top l n → Holds l n k
+pub top-Holds : (l : StreamState) (n k : ℕ) → k < top l n → Holds l n k
 top-Holds l n k h =
     elim (cases_lt k (l.done n)) [ inl below ↦ inr below | inr above ↦ inl (above, h) ]
 
 -- ---- views
 
-pub view-shrinks : (l : Line) (e d : ℕ) → IsViewed l → 1 ≤ e → e + d ≤ length l.views → is_subset (view l (e + d)) (view l e) ≡ true
+pub view-shrinks : (l : StreamState) (e d : ℕ) → IsViewed l → 1 ≤ e → e + d ≤ length l.views → is_subset (view l (e + d)) (view l e) ≡ true
 view-shrinks l e zero v low high = let same : e + 0 ≡ e = omega arith in rw same (is_subset-refl (view l e))
 view-shrinks l e (suc d) v low high =
     let next : e + suc d ≡ suc (e + d) = omega arith in
@@ -73,14 +73,14 @@ view-shrinks l e (suc d) v low high =
     rw next (is_subset-trans (view l (suc (e + d))) (view l (e + d)) (view l e) step rest)
 
 -- a member of a view is a member of each earlier one
-pub IsMember-earlier : (l : Line) (e f n : ℕ) → IsViewed l → IsView l e → IsView l f → e ≤ f → IsMember l f n → IsMember l e n
+pub IsMember-earlier : (l : StreamState) (e f n : ℕ) → IsViewed l → IsView l e → IsView l f → e ≤ f → IsMember l f n → IsMember l e n
 IsMember-earlier l e f n v is_e is_f le m =
     let same : e + (f - e) ≡ f = omega arith in
     let shrinks : is_subset (view l (e + (f - e))) (view l e) ≡ true = view-shrinks l e (f - e) v is_e.0 (omega arith) in
     is_subset-has n (view l f) (view l e) (rw same at shrinks) m
 
 -- who is out of an epoch has stopped
-pub IsOut-stopped : (l : Line) (e n : ℕ) → IsViewed l → IsView l e → IsOut l e n → IsLive l n → ⊥
+pub IsOut-stopped : (l : StreamState) (e n : ℕ) → IsViewed l → IsView l e → IsOut l e n → IsLive l n → ⊥
 IsOut-stopped l e n v is_e out live =
     let inside : IsMember l e n = v.live n e live is_e in
     absurd cc

@@ -4,12 +4,12 @@ use Rattle.std.proofs.Common.{arith, refl, ap, inl, inr}
 use Rattle.std.proofs.lemmas.Bool.{cases_eq}
 use Rattle.zeus_base.specs.Nodes.{has, is_subset}
 use Rattle.zeus_base.specs.NodeLaws.{is_subset-has}
-use Rattle.replication_safety.specs.Line.{Line, Entry, Stores, In, IsView, IsLive, IsMember, IsOut, Has, HasReported, IsAlive, view, end, kept_at, entry_of, entry}
-use Rattle.replication_safety.specs.Replicated.{Holds, IsCopy, IsWitnessed, Replicated}
+use Rattle.replication_safety.specs.StreamState.{StreamState, Entry, Stores, In, IsView, IsLive, IsMember, IsOut, Has, HasReported, IsAlive, view, end, kept_at, entry_of, entry}
+use Rattle.replication_safety.specs.ReplicationInvariant.{Holds, IsCopy, IsWitnessed, ReplicationInvariant}
 use Rattle.replication_safety.proofs.Basics.{IsOut-stopped}
 
 -- what a node keeps was committed
-pub kept-committed : (l : Line) (passed n k : ℕ) → Replicated l passed → Has l n k → k < end l
+pub kept-committed : (l : StreamState) (passed n k : ℕ) → ReplicationInvariant l passed → Has l n k → k < end l
 kept-committed l passed n k r h =
     elim (cases_eq n l.home) [
       | inl own ↦ let here : Has l l.home k = rw own at h in here.1
@@ -19,7 +19,7 @@ kept-committed l passed n k r h =
     ]
 
 -- an unpassed entry is the same wherever it is kept
-pub content-agrees : (l : Line) (passed n k : ℕ) → Replicated l passed → Has l n k → passed ≤ k → entry_of (kept_at l n k) ≡ entry l k
+pub content-agrees : (l : StreamState) (passed n k : ℕ) → ReplicationInvariant l passed → Has l n k → passed ≤ k → entry_of (kept_at l n k) ≡ entry l k
 content-agrees l passed n k r h above =
     elim (cases_eq n l.home) [
       | inl own ↦ rw own refl
@@ -28,36 +28,36 @@ content-agrees l passed n k r h above =
           (r.copies o.0 n o.1 k o.2 (entry_of (kept_at l n k)) o.3).same (omega (arith, r.most l.home))
     ]
 
-pub kept-alive : (l : Line) (passed n k : ℕ) → Replicated l passed → IsLive l n → Has l n k → passed ≤ k → IsAlive l passed k
+pub kept-alive : (l : StreamState) (passed n k : ℕ) → ReplicationInvariant l passed → IsLive l n → Has l n k → passed ≤ k → IsAlive l passed k
 unfolding IsAlive
 kept-alive l passed n k r live h above = (above, kept-committed l passed n k r h, inr (inl (n, live, h)))
 
 -- while the stream's own node lives, the entries that live are those that it keeps
-pub own-alive : (l : Line) (passed k : ℕ) → Replicated l passed → IsLive l l.home → IsAlive l passed k ↔ Has l l.home k
+pub own-alive : (l : StreamState) (passed k : ℕ) → ReplicationInvariant l passed → IsLive l l.home → IsAlive l passed k ↔ Has l l.home k
 unfolding IsAlive
 own-alive l passed k r live =
     let first : passed ≡ l.done l.home = r.own_first live in
     (λ alive. (omega (arith, alive.0), alive.1), λ h. (omega (arith, h.0), h.1, inl live))
 
 -- a live node that keeps an entry keeps each unpassed one before it
-pub stored-down : (l : Line) (passed n k j : ℕ) → Replicated l passed → IsLive l n → Has l n k → passed ≤ j → j ≤ k → Has l n j × IsAlive l passed j
+pub stored-down : (l : StreamState) (passed n k j : ℕ) → ReplicationInvariant l passed → IsLive l n → Has l n k → passed ≤ j → j ≤ k → Has l n j × IsAlive l passed j
 stored-down l passed n k j r live h above below =
     let here : Has l n j = (omega (arith, r.most n), omega (arith, h.1)) in
     (here, kept-alive l passed n j r live here above)
 
 -- an entry that has passed is not stored again
-pub no-restore : (l : Line) (passed from f e k d : ℕ) (x : Entry) → Replicated l passed → In (Stores from f e k d x) l.letters → IsLive l f → k < passed → Holds l f k
+pub no-restore : (l : StreamState) (passed from f e k d : ℕ) (x : Entry) → ReplicationInvariant l passed → In (Stores from f e k d x) l.letters → IsLive l f → k < passed → Holds l f k
 no-restore l passed from f e k d x r m live below =
     let c : IsCopy l passed f k d x = r.copies from f e k d x m in
     c.safe below f live c.follower
 
 -- a live node that has reported in an epoch is in it or in a later one
-reported-later : (l : Line) (passed n e : ℕ) → Replicated l passed → HasReported l n e → e ≤ l.epoch n
+reported-later : (l : StreamState) (passed n e : ℕ) → ReplicationInvariant l passed → HasReported l n e → e ≤ l.epoch n
 reported-later l passed n e r h =
     elim h [ inl sent ↦ (r.viewed.reports n e sent).1 | inr knows ↦ omega (arith, knows.0) ]
 
 -- where all members have reported, an unpassed entry of a non-member's stream is neither kept by a live node nor on its way to one
-pub replay-over : (l : Line) (passed e k : ℕ) → Replicated l passed → IsView l e → IsOut l e l.home → ((n : ℕ) → IsMember l e n → HasReported l n e) → IsAlive l passed k → ⊥
+pub replay-over : (l : StreamState) (passed e k : ℕ) → ReplicationInvariant l passed → IsView l e → IsOut l e l.home → ((n : ℕ) → IsMember l e n → HasReported l n e) → IsAlive l passed k → ⊥
 unfolding IsAlive
 replay-over l passed e k r v out all alive =
     elim alive.2 [
@@ -76,7 +76,7 @@ replay-over l passed e k r v out all alive =
     ]
 
 -- where a live node of a later epoch knows of all members that they have reported, they have
-pub open-reported : (l : Line) (passed n m : ℕ) → Replicated l passed → IsLive l n → 2 ≤ l.epoch n → is_subset (view l (l.epoch n)) (l.reported n) ≡ true
+pub open-reported : (l : StreamState) (passed n m : ℕ) → ReplicationInvariant l passed → IsLive l n → 2 ≤ l.epoch n → is_subset (view l (l.epoch n)) (l.reported n) ≡ true
     → IsMember l (l.epoch n) m → HasReported l m (l.epoch n)
 open-reported l passed n m r live later all member =
     let knows : has m (l.reported n) ≡ true = is_subset-has m (view l (l.epoch n)) (l.reported n) all member in

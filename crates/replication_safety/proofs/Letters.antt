@@ -3,17 +3,17 @@ use Rattle.std.specs.Prelude.{ℕ, ◌≡◌, ◌≢◌, ◌<◌, ◌≤◌, tru
 use Rattle.std.proofs.Common.{arith, refl, sym, ap, ◌∙◌, inl, inr}
 use Rattle.std.proofs.lemmas.Bool.{cases_eq}
 use Rattle.zeus_base.specs.Nodes.{has}
-use Rattle.replication_safety.specs.Line.{Line, Entry, Stores, Stored, Passes, Reports, In, IsView, IsLive, IsOut, Has, HasReported, view, top, kept_at, entry_of, entry}
+use Rattle.replication_safety.specs.StreamState.{StreamState, Entry, Stores, Stored, Passes, Reports, In, IsView, IsLive, IsOut, Has, HasReported, view, top, kept_at, entry_of, entry}
 use Rattle.replication_safety.specs.Moves.{Tells, IsTellable, entry as entry_told, stored as stored_told, passed as passed_told, reported as reported_told}
-use Rattle.replication_safety.specs.Replicated.{IsViewed, IsCopy, IsWitnessed, Replicated}
+use Rattle.replication_safety.specs.ReplicationInvariant.{IsViewed, IsCopy, IsWitnessed, ReplicationInvariant}
 use Rattle.replication_safety.proofs.Basics.{agree, IsOut-stopped}
-use Rattle.replication_safety.proofs.Carries.{Grows, IsTold, CarriesSaid, Carries, carried, IsCopy-grows, witness-grows}
+use Rattle.replication_safety.proofs.PreservesReplication.{Grows, IsTold, PreservesSaid, PreservesReplication, carried, IsCopy-grows, witness-grows}
 use Rattle.replication_safety.proofs.Same.{SameKept, acts-grows, same-kept, same-has, same-top, IsView-same, view-same, quiet-reports, acts-live, acts-epoch, acts-speaks}
 
 -- ---- what may be told
 
 -- a letter with an entry that the node keeps
-pub record IsItsEntry (old : Line) (n from to e k d : ℕ) (x : Entry) : Type 0 where
+pub record IsItsEntry (old : StreamState) (n from to e k d : ℕ) (x : Entry) : Type 0 where
   pub sender : from ≡ n
   pub epoch : e ≡ old.epoch n
   pub done : d ≡ old.done n
@@ -22,23 +22,23 @@ pub record IsItsEntry (old : Line) (n from to e k d : ℕ) (x : Entry) : Type 0 
   pub may : (n ≡ old.home) ⊎ IsOut old (old.epoch n) old.home
   pub follower : has to x.followers ≡ true
 
-pub tellable-entry : (old : Line) (n from to e k d : ℕ) (x : Entry) → IsTellable old n (Stores from to e k d x) → IsItsEntry old n from to e k d x
+pub tellable-entry : (old : StreamState) (n from to e k d : ℕ) (x : Entry) → IsTellable old n (Stores from to e k d x) → IsItsEntry old n from to e k d x
 tellable-entry old n from to e k d x (entry_told _ _ h may f m other) =
     record { sender = refl; epoch = refl; done = refl; entry = refl; kept = h; may = may; follower = f }
 
-tellable-stored : (old : Line) (n from k : ℕ) → IsTellable old n (Stored from k) → (from ≡ n) × (k < top old n)
+tellable-stored : (old : StreamState) (n from k : ℕ) → IsTellable old n (Stored from k) → (from ≡ n) × (k < top old n)
 tellable-stored old n from k (stored_told _ foreign below) = (refl, below)
 
-tellable-passed : (old : Line) (n to d : ℕ) → IsTellable old n (Passes to d) → (d ≤ old.done n) × (to ≢ old.home)
+tellable-passed : (old : StreamState) (n to d : ℕ) → IsTellable old n (Passes to d) → (d ≤ old.done n) × (to ≢ old.home)
 tellable-passed old n to d (passed_told _ _ below foreign) = (below, foreign)
 
-tellable-reported : (old : Line) (n from e : ℕ) → IsTellable old n (Reports from e) → (from ≡ n) × (e ≡ old.epoch n) × (has n (old.reported n) ≡ true)
+tellable-reported : (old : StreamState) (n from e : ℕ) → IsTellable old n (Reports from e) → (from ≡ n) × (e ≡ old.epoch n) × (has n (old.reported n) ≡ true)
 tellable-reported old n from e (reported_told is) = (refl, refl, is)
 
 -- ---- a told entry
 
 -- the stream's own node sends what it keeps, none of which has passed
-own-copy : (old : Line) (passed to k : ℕ) → Replicated old passed → IsLive old old.home → Has old old.home k → has to (entry old k).followers ≡ true
+own-copy : (old : StreamState) (passed to k : ℕ) → ReplicationInvariant old passed → IsLive old old.home → Has old old.home k → has to (entry old k).followers ≡ true
     → IsCopy old passed to k (old.done old.home) (entry old k)
 own-copy old passed to k r live h f =
     let first : passed ≡ old.done old.home = r.own_first live in
@@ -55,7 +55,7 @@ own-copy old passed to k r live h f =
     }
 
 -- another node sends what it stored from such a letter
-replay-copy : (old : Line) (passed n to k : ℕ) → Replicated old passed → n ≢ old.home → Has old n k → has to (kept_at old n k).followers ≡ true
+replay-copy : (old : StreamState) (passed n to k : ℕ) → ReplicationInvariant old passed → n ≢ old.home → Has old n k → has to (kept_at old n k).followers ≡ true
     → IsCopy old passed to k (old.done n) (entry_of (kept_at old n k))
 replay-copy old passed n to k r foreign h f =
     let size : length (old.kept n) ≤ 16 = r.sizes n in
@@ -72,7 +72,7 @@ replay-copy old passed n to k r foreign h f =
       safe = c.safe;
     }
 
-told-copy : (old : Line) (passed n to k d : ℕ) (x : Entry) → Replicated old passed → IsLive old n → Has old n k → x ≡ entry_of (kept_at old n k) → d ≡ old.done n
+told-copy : (old : StreamState) (passed n to k d : ℕ) (x : Entry) → ReplicationInvariant old passed → IsLive old n → Has old n k → x ≡ entry_of (kept_at old n k) → d ≡ old.done n
     → has to x.followers ≡ true → IsCopy old passed to k d x
 told-copy old passed n to k d x r live h is done f =
     let g : has to (kept_at old n k).followers ≡ true = rw (ap (λ (y : Entry). y.followers) is) at f in
@@ -86,7 +86,7 @@ told-copy old passed n to k d x r live h is done f =
 
 -- ---- a node says what it may
 
-pub tells-kept : (old new : Line) (n : ℕ) → Tells old new n → SameKept old new
+pub tells-kept : (old new : StreamState) (n : ℕ) → Tells old new n → SameKept old new
 tells-kept old new n s =
     record {
       home = s.acts.setting.home;
@@ -94,14 +94,14 @@ tells-kept old new n s =
       kept = agree new.kept old.kept n s.acts.others.kept s.kept;
     }
 
-pub grows_Tells : (old new : Line) (n : ℕ) → Tells old new n → Grows old new
+pub grows_Tells : (old new : StreamState) (n : ℕ) → Tells old new n → Grows old new
 grows_Tells old new n s = acts-grows old new n (tells-kept old new n s) s.acts s.sends.stay
 
-tells-reported : (old new : Line) (n m : ℕ) → Tells old new n → new.reported m ≡ old.reported m
+tells-reported : (old new : StreamState) (n m : ℕ) → Tells old new n → new.reported m ≡ old.reported m
 tells-reported old new n m s = agree new.reported old.reported n s.acts.others.reported s.reported m
 
 -- who says that it has reported knows it
-tells-silent : (old new : Line) (n m e : ℕ) → Tells old new n → HasReported new m e → HasReported old m e
+tells-silent : (old new : StreamState) (n m e : ℕ) → Tells old new n → HasReported new m e → HasReported old m e
 tells-silent old new n m e s is =
     elim is [
       | inl sent ↦
@@ -115,7 +115,7 @@ tells-silent old new n m e s is =
       | inr knows ↦ inr (sym (acts-epoch old new n m s.acts) ∙ knows.0, rw (tells-reported old new n m s) at knows.1)
     ]
 
-tells-witnessed : (old new : Line) (passed n e k : ℕ) → Replicated old passed → Tells old new n → Has old n k → IsView new e → IsOut new e new.home → passed ≤ k → IsWitnessed new e k
+tells-witnessed : (old new : StreamState) (passed n e k : ℕ) → ReplicationInvariant old passed → Tells old new n → Has old n k → IsView new e → IsOut new e new.home → passed ≤ k → IsWitnessed new e k
 tells-witnessed old new passed n e k r s h v out above =
     let before : IsView old e = IsView-same old new e s.acts.setting v in
     let views : view new e ≡ view old e = view-same old new e s.acts.setting in
@@ -127,7 +127,7 @@ tells-witnessed old new passed n e k r s h v out above =
     (λ m _. tells-silent old new n m e s)
     (r.kept_barrier e k n before left above (r.viewed.live n e s.acts.live before) foreign h)
 
-tells-told : (old new : Line) (passed n from to e k d : ℕ) (x : Entry) → Replicated old passed → Tells old new n → IsItsEntry old n from to e k d x → IsTold new passed to e k d x
+tells-told : (old new : StreamState) (passed n from to e k d : ℕ) (x : Entry) → ReplicationInvariant old passed → Tells old new n → IsItsEntry old n from to e k d x → IsTold new passed to e k d x
 tells-told old new passed n from to e k d x r s t =
     record {
       copy = IsCopy-grows old new passed passed to k d x (grows_Tells old new n s) (omega arith) (λ above below. absurd (omega arith))
@@ -135,7 +135,7 @@ tells-told old new passed n from to e k d x r s t =
       witnessed = λ f v out above le. tells-witnessed old new passed n f k r s t.kept v out above;
     }
 
-tells-entries : (old new : Line) (passed n from to e k d : ℕ) (x : Entry) → Replicated old passed → Tells old new n → In (Stores from to e k d x) new.letters
+tells-entries : (old new : StreamState) (passed n from to e k d : ℕ) (x : Entry) → ReplicationInvariant old passed → Tells old new n → In (Stores from to e k d x) new.letters
     → In (Stores from to e k d x) old.letters ⊎ IsTold new passed to e k d x
 tells-entries old new passed n from to e k d x r s m =
     elim (s.sends.only (Stores from to e k d x) m) [
@@ -143,7 +143,7 @@ tells-entries old new passed n from to e k d x r s m =
       | inr now ↦ inr (tells-told old new passed n from to e k d x r s (tellable-entry old n from to e k d x now))
     ]
 
-tells-stored : (old new : Line) (n m k : ℕ) → Tells old new n → In (Stored m k) new.letters → In (Stored m k) old.letters ⊎ (k < top new m)
+tells-stored : (old new : StreamState) (n m k : ℕ) → Tells old new n → In (Stored m k) new.letters → In (Stored m k) old.letters ⊎ (k < top new m)
 tells-stored old new n m k s is =
     elim (s.sends.only (Stored m k) is) [
       | inl before ↦ inl before
@@ -153,7 +153,7 @@ tells-stored old new n m k s is =
           inr (omega (arith, same-top old new m (tells-kept old new n s)))
     ]
 
-tells-passed : (old new : Line) (passed n to d : ℕ) → Replicated old passed → Tells old new n → In (Passes to d) new.letters → In (Passes to d) old.letters ⊎ ((d ≤ passed) × (to ≢ new.home))
+tells-passed : (old new : StreamState) (passed n to d : ℕ) → ReplicationInvariant old passed → Tells old new n → In (Passes to d) new.letters → In (Passes to d) old.letters ⊎ ((d ≤ passed) × (to ≢ new.home))
 tells-passed old new passed n to d r s is =
     elim (s.sends.only (Passes to d) is) [
       | inl before ↦ inl before
@@ -162,7 +162,7 @@ tells-passed old new passed n to d r s is =
           inr (omega (arith, t.0, r.most n), λ here. t.1 (here ∙ s.acts.setting.home))
     ]
 
-tells-viewed : (old new : Line) (n : ℕ) → IsViewed old → Tells old new n → IsViewed new
+tells-viewed : (old new : StreamState) (n : ℕ) → IsViewed old → Tells old new n → IsViewed new
 tells-viewed old new n v s =
     acts-speaks old new n v s.acts
     (λ from to e k d x m.
@@ -176,7 +176,7 @@ tells-viewed old new n v s =
       | inr now ↦ let t = tellable-reported old n from e now in inr (rw t.0 s.acts.live, t.1 ∙ sym (ap old.epoch t.0))
     ])
 
-tells-says : (old new : Line) (passed n : ℕ) → Replicated old passed → Tells old new n → CarriesSaid old new passed
+tells-says : (old new : StreamState) (passed n : ℕ) → ReplicationInvariant old passed → Tells old new n → PreservesSaid old new passed
 tells-says old new passed n r s =
     record {
       viewed = tells-viewed old new n r.viewed s;
@@ -188,13 +188,13 @@ tells-says old new passed n r s =
       views = λ e v. inl (IsView-same old new e s.acts.setting v);
     }
 
-tells-carries : (old new : Line) (passed n : ℕ) → Replicated old passed → Tells old new n → Carries old new passed passed
-tells-carries old new passed n r s =
+tells-preserves : (old new : StreamState) (passed n : ℕ) → ReplicationInvariant old passed → Tells old new n → PreservesReplication old new passed passed
+tells-preserves old new passed n r s =
     record {
       grows = grows_Tells old new n s;
       keeps = same-kept old new passed r (tells-kept old new n s) (λ m. acts-live old new n m s.acts);
       says = tells-says old new passed n r s;
     }
 
-pub keeps_Tells : (old new : Line) (passed n : ℕ) → Replicated old passed → Tells old new n → Replicated new passed
-keeps_Tells old new passed n r s = carried old new passed passed r (tells-carries old new passed n r s)
+pub keeps_Tells : (old new : StreamState) (passed n : ℕ) → ReplicationInvariant old passed → Tells old new n → ReplicationInvariant new passed
+keeps_Tells old new passed n r s = carried old new passed passed r (tells-preserves old new passed n r s)

@@ -1,5 +1,5 @@
 pub mod Basics
-pub mod Carries
+pub mod PreservesReplication
 pub mod Same
 pub mod Views
 pub mod Reports

@@ -6,40 +6,40 @@ use Rattle.std.proofs.lemmas.List.{length-drop}
 use Rattle.zeus_base.specs.Nodes.{has, without, meet}
 use Rattle.zeus_base.specs.NodeLaws.{has-without_other, has-meet, is_subset-has}
 use Rattle.zeus_model.specs.declared.state.Kept.{Kept}
-use Rattle.replication_safety.specs.Line.{Line, Entry, Stores, Stored, In, IsView, IsLive, Has, view, top, end, kept_at, entry_of, entry}
+use Rattle.replication_safety.specs.StreamState.{StreamState, Entry, Stores, Stored, In, IsView, IsLive, Has, view, top, end, kept_at, entry_of, entry}
 use Rattle.replication_safety.specs.Moves.{Raises, PassesFirst}
-use Rattle.replication_safety.specs.Replicated.{Replicated}
+use Rattle.replication_safety.specs.ReplicationInvariant.{ReplicationInvariant}
 use Rattle.replication_safety.proofs.Basics.{IsOut-stopped, Holds-top}
-use Rattle.replication_safety.proofs.Carries.{Grows, CarriesKept, Carries, carried}
+use Rattle.replication_safety.proofs.PreservesReplication.{Grows, PreservesKept, PreservesReplication, carried}
 use Rattle.replication_safety.proofs.Same.{acts-live}
 use Rattle.replication_safety.proofs.Appends.{acting-says}
 use Rattle.replication_safety.proofs.Drops.{Drops, drops-top, drops-top_other, drops-grows, drops-kept, drops-sizes, keeps_Raises}
 use Rattle.replication_safety.proofs.Consequences.{kept-committed, content-agrees}
 
-pub passes-drops : (old new : Line) (n : ℕ) → PassesFirst old new n → Drops old new n (suc (old.done n))
+pub passes-drops : (old new : StreamState) (n : ℕ) → PassesFirst old new n → Drops old new n (suc (old.done n))
 passes-drops old new n s =
     let one : suc (old.done n) - old.done n ≡ 1 = omega arith in
     record { acts = s.acts; above = omega arith; done = s.done; kept = rw one s.kept }
 
-pub grows_PassesFirst : (old new : Line) (n : ℕ) → PassesFirst old new n → Grows old new
+pub grows_PassesFirst : (old new : StreamState) (n : ℕ) → PassesFirst old new n → Grows old new
 grows_PassesFirst old new n s = drops-grows old new n (suc (old.done n)) (passes-drops old new n s)
 
 -- the number of the next entry stays
-passes-top_here : (old new : Line) (n : ℕ) → PassesFirst old new n → top new n ≡ top old n
+passes-top_here : (old new : StreamState) (n : ℕ) → PassesFirst old new n → top new n ≡ top old n
 passes-top_here old new n s = omega (arith, s.done, s.some, ap length s.kept, length-drop 1 (old.kept n))
 
-pub passes-top : (old new : Line) (n m : ℕ) → PassesFirst old new n → top new m ≡ top old m
+pub passes-top : (old new : StreamState) (n m : ℕ) → PassesFirst old new n → top new m ≡ top old m
 passes-top old new n m s =
     elim (cases_eq m n) [
       | inl same ↦ rw same (passes-top_here old new n s)
       | inr other ↦ drops-top_other old new n (suc (old.done n)) m (passes-drops old new n s) other
     ]
 
-pub passes-kept : (old new : Line) (n : ℕ) → PassesFirst old new n → Has old n (old.done n)
+pub passes-kept : (old new : StreamState) (n : ℕ) → PassesFirst old new n → Has old n (old.done n)
 passes-kept old new n s = (omega arith, omega (arith, s.some))
 
 -- while the stream's own node lives, no other passes
-pub passes-own : (old new : Line) (passed n : ℕ) → Replicated old passed → PassesFirst old new n → IsLive old old.home → n ≡ old.home
+pub passes-own : (old new : StreamState) (passed n : ℕ) → ReplicationInvariant old passed → PassesFirst old new n → IsLive old old.home → n ≡ old.home
 passes-own old new passed n r s live =
     elim s.may [
       | inl own ↦ own
@@ -49,7 +49,7 @@ passes-own old new passed n r s live =
 -- ---- an entry that has passed elsewhere
 
 -- is passed as it is known to have passed
-pub passes-raises : (old new : Line) (passed n : ℕ) → Replicated old passed → PassesFirst old new n → old.done n < passed → Raises old new passed n (suc (old.done n))
+pub passes-raises : (old new : StreamState) (passed n : ℕ) → ReplicationInvariant old passed → PassesFirst old new n → old.done n < passed → Raises old new passed n (suc (old.done n))
 passes-raises old new passed n r s below =
     let d : Drops old new n (suc (old.done n)) = passes-drops old new n s in
     record {
@@ -61,13 +61,13 @@ passes-raises old new passed n r s below =
       kept = d.kept;
     }
 
-pub keeps_PassesFirst_again : (old new : Line) (passed n : ℕ) → Replicated old passed → PassesFirst old new n → old.done n < passed → Replicated new passed
+pub keeps_PassesFirst_again : (old new : StreamState) (passed n : ℕ) → ReplicationInvariant old passed → PassesFirst old new n → old.done n < passed → ReplicationInvariant new passed
 keeps_PassesFirst_again old new passed n r s below = keeps_Raises old new passed n (suc (old.done n)) r (passes-raises old new passed n r s below)
 
 -- ---- the first pass of an entry
 
 -- each live follower has acknowledged it
-passes-acknowledged : (old new : Line) (passed n g : ℕ) → Replicated old passed → PassesFirst old new n → IsLive old g → has g (kept_at old n (old.done n)).followers ≡ true → g ≢ n
+passes-acknowledged : (old new : StreamState) (passed n g : ℕ) → ReplicationInvariant old passed → PassesFirst old new n → IsLive old g → has g (kept_at old n (old.done n)).followers ≡ true → g ≢ n
     → In (Stored g (old.done n)) old.letters
 passes-acknowledged old new passed n g r s live f other =
     let k : Kept = kept_at old n (old.done n) in
@@ -79,7 +79,7 @@ passes-acknowledged old new passed n g r s live f other =
     r.acks n (old.done n) g (passes-kept old new n s) (is_subset-has g (without n (meet k.followers members)) k.acks s.complete asked)
 
 -- what passes first is stored at each live follower
-pub first_pass-stored : (old new : Line) (passed n g : ℕ) → Replicated old passed → PassesFirst old new n → old.done n ≡ passed
+pub first_pass-stored : (old new : StreamState) (passed n g : ℕ) → ReplicationInvariant old passed → PassesFirst old new n → old.done n ≡ passed
     → IsLive old g → has g (kept_at old n passed).followers ≡ true → Has old g passed
 first_pass-stored old new passed n g r s first live f =
     elim (cases_eq g n) [
@@ -90,14 +90,14 @@ first_pass-stored old new passed n g r s first live f =
           (r.most g, omega arith)
     ]
 
-first_pass-most : (old new : Line) (passed n m : ℕ) → Replicated old passed → PassesFirst old new n → old.done n ≡ passed → new.done m ≤ suc passed
+first_pass-most : (old new : StreamState) (passed n m : ℕ) → ReplicationInvariant old passed → PassesFirst old new n → old.done n ≡ passed → new.done m ≤ suc passed
 first_pass-most old new passed n m r s first =
     elim (cases_eq m n) [
       | inl same ↦ rw same (omega (arith, s.done))
       | inr other ↦ omega (arith, s.acts.acts.others.done m other, r.most m)
     ]
 
-first_pass-own_first : (old new : Line) (passed n : ℕ) → Replicated old passed → PassesFirst old new n → old.done n ≡ passed → IsLive new new.home → suc passed ≡ new.done new.home
+first_pass-own_first : (old new : StreamState) (passed n : ℕ) → ReplicationInvariant old passed → PassesFirst old new n → old.done n ≡ passed → IsLive new new.home → suc passed ≡ new.done new.home
 first_pass-own_first old new passed n r s first live =
     let home : new.home ≡ old.home = s.acts.acts.setting.home in
     let before : IsLive old old.home = acts-live old new n old.home s.acts.acts (rw home at live) in
@@ -106,7 +106,7 @@ first_pass-own_first old new passed n r s first live =
     omega (arith, s.done)
 
 -- each letter with the entry has the followers that it was passed with
-first_pass-first : (old new : Line) (passed n from to e k d g : ℕ) (x : Entry) → Replicated old passed → PassesFirst old new n → old.done n ≡ passed
+first_pass-first : (old new : StreamState) (passed n from to e k d g : ℕ) (x : Entry) → ReplicationInvariant old passed → PassesFirst old new n → old.done n ≡ passed
     → In (Stores from to e k d x) old.letters → passed ≤ k → k < suc passed → IsLive new g → has g x.followers ≡ true → k < top new g
 first_pass-first old new passed n from to e k d g x r s first m above below live f =
     let here : k ≡ passed = omega arith in
@@ -118,7 +118,7 @@ first_pass-first old new passed n from to e k d g x r s first m above below live
     let held : Has old g passed = first_pass-stored old new passed n g r s first (acts-live old new n g s.acts.acts live) asked in
     omega (arith, held.1, drops-top old new n (suc (old.done n)) g (passes-drops old new n s))
 
-first_pass-keeps : (old new : Line) (passed n : ℕ) → Replicated old passed → PassesFirst old new n → old.done n ≡ passed → CarriesKept old new passed (suc passed)
+first_pass-keeps : (old new : StreamState) (passed n : ℕ) → ReplicationInvariant old passed → PassesFirst old new n → old.done n ≡ passed → PreservesKept old new passed (suc passed)
 first_pass-keeps old new passed n r s first =
     let d : Drops old new n (suc (old.done n)) = passes-drops old new n s in
     let committed : old.done n < end old = kept-committed old passed n (old.done n) r (passes-kept old new n s) in
@@ -133,13 +133,13 @@ first_pass-keeps old new passed n r s first =
       first = λ from to e k f g x. first_pass-first old new passed n from to e k f g x r s first;
     }
 
-first_pass-carries : (old new : Line) (passed n : ℕ) → Replicated old passed → PassesFirst old new n → old.done n ≡ passed → Carries old new passed (suc passed)
-first_pass-carries old new passed n r s first =
+first_pass-preserves : (old new : StreamState) (passed n : ℕ) → ReplicationInvariant old passed → PassesFirst old new n → old.done n ≡ passed → PreservesReplication old new passed (suc passed)
+first_pass-preserves old new passed n r s first =
     record {
       grows = grows_PassesFirst old new n s;
       keeps = first_pass-keeps old new passed n r s first;
       says = acting-says old new passed (suc passed) n r s.acts;
     }
 
-pub keeps_PassesFirst_first : (old new : Line) (passed n : ℕ) → Replicated old passed → PassesFirst old new n → old.done n ≡ passed → Replicated new (suc passed)
-keeps_PassesFirst_first old new passed n r s first = carried old new passed (suc passed) r (first_pass-carries old new passed n r s first)
+pub keeps_PassesFirst_first : (old new : StreamState) (passed n : ℕ) → ReplicationInvariant old passed → PassesFirst old new n → old.done n ≡ passed → ReplicationInvariant new (suc passed)
+keeps_PassesFirst_first old new passed n r s first = carried old new passed (suc passed) r (first_pass-preserves old new passed n r s first)

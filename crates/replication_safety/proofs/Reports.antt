@@ -4,11 +4,11 @@ use Rattle.std.proofs.Common.{arith, sym, ap, ◌∙◌, inl, inr}
 use Rattle.std.proofs.lemmas.Bool.{cases_eq}
 use Rattle.zeus_base.specs.Nodes.{has, with_node}
 use Rattle.zeus_base.specs.NodeLaws.{has-with_other}
-use Rattle.replication_safety.specs.Line.{Line, Reports, In, IsLive, IsOut, Has, HasReported}
+use Rattle.replication_safety.specs.StreamState.{StreamState, Reports, In, IsLive, IsOut, Has, HasReported}
 use Rattle.replication_safety.specs.Moves.{ReportsItself, Hears}
-use Rattle.replication_safety.specs.Replicated.{Replicated}
+use Rattle.replication_safety.specs.ReplicationInvariant.{ReplicationInvariant}
 use Rattle.replication_safety.proofs.Basics.{silent-only, agree}
-use Rattle.replication_safety.proofs.Carries.{Grows, Carries, carried}
+use Rattle.replication_safety.proofs.PreservesReplication.{Grows, PreservesReplication, carried}
 use Rattle.replication_safety.proofs.Same.{SameKept, acts-grows, same-kept, silent-says, quiet-silent, quiet-reports, acts-live, acts-epoch, acts-viewed}
 
 -- who is in a set with one more node is that node or was in the set
@@ -18,7 +18,7 @@ has-with_either m n ms h =
 
 -- ---- a node reports
 
-pub reports-kept : (old new : Line) (n : ℕ) → ReportsItself old new n → SameKept old new
+pub reports-kept : (old new : StreamState) (n : ℕ) → ReportsItself old new n → SameKept old new
 reports-kept old new n s =
     record {
       home = s.acts.setting.home;
@@ -27,7 +27,7 @@ reports-kept old new n s =
     }
 
 -- a node that keeps an entry of a non-member's stream does not report
-reports-silent : (old new : Line) (n m e k : ℕ) → ReportsItself old new n → IsOut old e old.home → Has old m k → HasReported new m e → HasReported old m e
+reports-silent : (old new : StreamState) (n m e k : ℕ) → ReportsItself old new n → IsOut old e old.home → Has old m k → HasReported new m e → HasReported old m e
 reports-silent old new n m e k s out h is =
     elim is [
       | inl sent ↦ inl (silent-only old new (Reports m e) s.sends sent)
@@ -42,7 +42,7 @@ reports-silent old new n m e k s out h is =
           ]
     ]
 
-reports-reports : (old new : Line) (passed n m a : ℕ) → Replicated old passed → ReportsItself old new n → IsLive new m → has a (new.reported m) ≡ true
+reports-reports : (old new : StreamState) (passed n m a : ℕ) → ReplicationInvariant old passed → ReportsItself old new n → IsLive new m → has a (new.reported m) ≡ true
     → (new.epoch m ≡ 1) ⊎ ((a ≡ m) ⊎ In (Reports a (new.epoch m)) new.letters)
 reports-reports old new passed n m a r s live h =
     elim (cases_eq m n) [
@@ -64,11 +64,11 @@ reports-reports old new passed n m a r s live h =
           quiet-reports old new passed m a r s.sends.stay (acts-live old new n m s.acts) (s.acts.others.epoch m other) (s.acts.others.reported m other) live h
     ]
 
-pub grows_ReportsItself : (old new : Line) (n : ℕ) → ReportsItself old new n → Grows old new
+pub grows_ReportsItself : (old new : StreamState) (n : ℕ) → ReportsItself old new n → Grows old new
 grows_ReportsItself old new n s = acts-grows old new n (reports-kept old new n s) s.acts s.sends.stay
 
-reports-carries : (old new : Line) (passed n : ℕ) → Replicated old passed → ReportsItself old new n → Carries old new passed passed
-reports-carries old new passed n r s =
+reports-preserves : (old new : StreamState) (passed n : ℕ) → ReplicationInvariant old passed → ReportsItself old new n → PreservesReplication old new passed passed
+reports-preserves old new passed n r s =
     record {
       grows = grows_ReportsItself old new n s;
       keeps = same-kept old new passed r (reports-kept old new n s) (λ m. acts-live old new n m s.acts);
@@ -77,12 +77,12 @@ reports-carries old new passed n r s =
           (λ m e k is out h. reports-silent old new n m e k s out h);
     }
 
-pub keeps_ReportsItself : (old new : Line) (passed n : ℕ) → Replicated old passed → ReportsItself old new n → Replicated new passed
-keeps_ReportsItself old new passed n r s = carried old new passed passed r (reports-carries old new passed n r s)
+pub keeps_ReportsItself : (old new : StreamState) (passed n : ℕ) → ReplicationInvariant old passed → ReportsItself old new n → ReplicationInvariant new passed
+keeps_ReportsItself old new passed n r s = carried old new passed passed r (reports-preserves old new passed n r s)
 
 -- ---- a node hears of a report
 
-pub hears-kept : (old new : Line) (n a : ℕ) → Hears old new n a → SameKept old new
+pub hears-kept : (old new : StreamState) (n a : ℕ) → Hears old new n a → SameKept old new
 hears-kept old new n a s =
     record {
       home = s.acts.setting.home;
@@ -91,7 +91,7 @@ hears-kept old new n a s =
     }
 
 -- what a node hears of itself it has said
-hears-silent : (old new : Line) (n a m e : ℕ) → Hears old new n a → HasReported new m e → HasReported old m e
+hears-silent : (old new : StreamState) (n a m e : ℕ) → Hears old new n a → HasReported new m e → HasReported old m e
 hears-silent old new n a m e s is =
     elim is [
       | inl sent ↦ inl (silent-only old new (Reports m e) s.sends sent)
@@ -110,7 +110,7 @@ hears-silent old new n a m e s is =
           ]
     ]
 
-hears-reports : (old new : Line) (passed n b m a : ℕ) → Replicated old passed → Hears old new n b → IsLive new m → has a (new.reported m) ≡ true
+hears-reports : (old new : StreamState) (passed n b m a : ℕ) → ReplicationInvariant old passed → Hears old new n b → IsLive new m → has a (new.reported m) ≡ true
     → (new.epoch m ≡ 1) ⊎ ((a ≡ m) ⊎ In (Reports a (new.epoch m)) new.letters)
 hears-reports old new passed n b m a r s live h =
     let epoch : new.epoch m ≡ old.epoch m = acts-epoch old new n m s.acts in
@@ -135,11 +135,11 @@ hears-reports old new passed n b m a r s live h =
           quiet-reports old new passed m a r s.sends.stay (acts-live old new n m s.acts) (s.acts.others.epoch m other) (s.acts.others.reported m other) live h
     ]
 
-pub grows_Hears : (old new : Line) (n a : ℕ) → Hears old new n a → Grows old new
+pub grows_Hears : (old new : StreamState) (n a : ℕ) → Hears old new n a → Grows old new
 grows_Hears old new n a s = acts-grows old new n (hears-kept old new n a s) s.acts s.sends.stay
 
-hears-carries : (old new : Line) (passed n a : ℕ) → Replicated old passed → Hears old new n a → Carries old new passed passed
-hears-carries old new passed n a r s =
+hears-preserves : (old new : StreamState) (passed n a : ℕ) → ReplicationInvariant old passed → Hears old new n a → PreservesReplication old new passed passed
+hears-preserves old new passed n a r s =
     record {
       grows = grows_Hears old new n a s;
       keeps = same-kept old new passed r (hears-kept old new n a s) (λ m. acts-live old new n m s.acts);
@@ -148,5 +148,5 @@ hears-carries old new passed n a r s =
           (λ m e k is out h. hears-silent old new n a m e s);
     }
 
-pub keeps_Hears : (old new : Line) (passed n a : ℕ) → Replicated old passed → Hears old new n a → Replicated new passed
-keeps_Hears old new passed n a r s = carried old new passed passed r (hears-carries old new passed n a r s)
+pub keeps_Hears : (old new : StreamState) (passed n a : ℕ) → ReplicationInvariant old passed → Hears old new n a → ReplicationInvariant new passed
+keeps_Hears old new passed n a r s = carried old new passed passed r (hears-preserves old new passed n a r s)

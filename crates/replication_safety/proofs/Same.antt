@@ -2,37 +2,37 @@
 use Rattle.std.specs.Prelude.{ℕ, suc, ◌≡◌, ◌≤◌, true, length, ◌⊎◌}
 use Rattle.std.proofs.Common.{arith, sym, ◌∙◌, inl, inr}
 use Rattle.zeus_base.specs.Nodes.{has}
-use Rattle.replication_safety.specs.Line.{Line, Letter, Entry, Stores, Stored, Passes, Reports, In, IsView, IsLive, IsMember, IsOut, Has, HasReported, view, top, end, kept_at, entry}
+use Rattle.replication_safety.specs.StreamState.{StreamState, Letter, Entry, Stores, Stored, Passes, Reports, In, IsView, IsLive, IsMember, IsOut, Has, HasReported, view, top, end, kept_at, entry}
 use Rattle.replication_safety.specs.Moves.{SameSetting, Sends, nothing, Acts}
-use Rattle.replication_safety.specs.Replicated.{IsViewed, Replicated}
+use Rattle.replication_safety.specs.ReplicationInvariant.{IsViewed, ReplicationInvariant}
 use Rattle.replication_safety.proofs.Basics.{silent-only, agree}
-use Rattle.replication_safety.proofs.Carries.{Grows, CarriesKept, CarriesSaid}
+use Rattle.replication_safety.proofs.PreservesReplication.{Grows, PreservesKept, PreservesSaid}
 
 -- what the nodes keep stays
-pub record SameKept (old new : Line) : Type 0 where
+pub record SameKept (old new : StreamState) : Type 0 where
   pub home : new.home ≡ old.home
   pub done : (n : ℕ) → new.done n ≡ old.done n
   pub kept : (n : ℕ) → new.kept n ≡ old.kept n
 
-pub same-top : (old new : Line) (n : ℕ) → SameKept old new → top new n ≡ top old n
+pub same-top : (old new : StreamState) (n : ℕ) → SameKept old new → top new n ≡ top old n
 same-top old new n s = rw (s.done n, s.kept n)
 
-pub same-end : (old new : Line) → SameKept old new → end new ≡ end old
+pub same-end : (old new : StreamState) → SameKept old new → end new ≡ end old
 same-end old new s = rw s.home (same-top old new old.home s)
 
-pub same-has_before : (old new : Line) (n k : ℕ) → SameKept old new → Has new n k → Has old n k
+pub same-has_before : (old new : StreamState) (n k : ℕ) → SameKept old new → Has new n k → Has old n k
 same-has_before old new n k s h = let t : top new n ≡ top old n = same-top old new n s in omega (arith, s.done n)
 
-pub same-has : (old new : Line) (n k : ℕ) → SameKept old new → Has old n k → Has new n k
+pub same-has : (old new : StreamState) (n k : ℕ) → SameKept old new → Has old n k → Has new n k
 same-has old new n k s h = let t : top new n ≡ top old n = same-top old new n s in omega (arith, s.done n)
 
-pub same-kept_at : (old new : Line) (n k : ℕ) → SameKept old new → kept_at new n k ≡ kept_at old n k
+pub same-kept_at : (old new : StreamState) (n k : ℕ) → SameKept old new → kept_at new n k ≡ kept_at old n k
 same-kept_at old new n k s = rw (s.done n, s.kept n)
 
-pub same-entry : (old new : Line) (k : ℕ) → SameKept old new → entry new k ≡ entry old k
+pub same-entry : (old new : StreamState) (k : ℕ) → SameKept old new → entry new k ≡ entry old k
 same-entry old new k s = rw (same-kept_at old new new.home k s, s.home)
 
-pub same-grows : (old new : Line) → SameKept old new → ((e : ℕ) → IsView old e → view new e ≡ view old e)
+pub same-grows : (old new : StreamState) → SameKept old new → ((e : ℕ) → IsView old e → view new e ≡ view old e)
     → ((n : ℕ) → IsLive new n → IsLive old n) → ((n : ℕ) → old.epoch n ≤ new.epoch n) → ((l : Letter) → In l old.letters → In l new.letters) → Grows old new
 same-grows old new s views live later stay =
     record {
@@ -46,7 +46,7 @@ same-grows old new s views live later stay =
       stay = stay;
     }
 
-same-own_first : (old new : Line) (passed : ℕ) → Replicated old passed → SameKept old new → (IsLive new new.home → IsLive old new.home) → IsLive new new.home → passed ≡ new.done new.home
+same-own_first : (old new : StreamState) (passed : ℕ) → ReplicationInvariant old passed → SameKept old new → (IsLive new new.home → IsLive old new.home) → IsLive new new.home → passed ≡ new.done new.home
 same-own_first old new passed r s live h =
     let home : new.home ≡ old.home = s.home in
     let alive : IsLive old old.home = rw home at (live h) in
@@ -54,7 +54,7 @@ same-own_first old new passed r s live h =
     let same : new.done new.home ≡ old.done new.home = s.done new.home in
     cc
 
-pub same-kept : (old new : Line) (passed : ℕ) → Replicated old passed → SameKept old new → ((n : ℕ) → IsLive new n → IsLive old n) → CarriesKept old new passed passed
+pub same-kept : (old new : StreamState) (passed : ℕ) → ReplicationInvariant old passed → SameKept old new → ((n : ℕ) → IsLive new n → IsLive old n) → PreservesKept old new passed passed
 same-kept old new passed r s live =
     record {
       rises = omega arith;
@@ -70,7 +70,7 @@ same-kept old new passed r s live =
 -- ---- who is in which epoch, and which letters there are
 
 -- views and letters of a stream whose views stay, where no epoch falls
-pub record Speaks (old new : Line) : Type 0 where
+pub record Speaks (old new : StreamState) : Type 0 where
   pub setting : SameSetting old new
   pub live : (n : ℕ) → IsLive new n → IsLive old n
   pub later : (n : ℕ) → old.epoch n ≤ new.epoch n
@@ -79,22 +79,22 @@ pub record Speaks (old new : Line) : Type 0 where
       → In (Stores from to e k d x) old.letters ⊎ (IsLive old from × (e ≡ old.epoch from))
   pub reports : (from e : ℕ) → In (Reports from e) new.letters → In (Reports from e) old.letters ⊎ (IsLive old from × (e ≡ old.epoch from))
 
-pub IsView-same : (old new : Line) (e : ℕ) → SameSetting old new → IsView new e → IsView old e
+pub IsView-same : (old new : StreamState) (e : ℕ) → SameSetting old new → IsView new e → IsView old e
 IsView-same old new e s v = rw s.views at v
 
-pub IsView-stays : (old new : Line) (e : ℕ) → SameSetting old new → IsView old e → IsView new e
+pub IsView-stays : (old new : StreamState) (e : ℕ) → SameSetting old new → IsView old e → IsView new e
 IsView-stays old new e s v = rw s.views v
 
-pub view-same : (old new : Line) (e : ℕ) → SameSetting old new → view new e ≡ view old e
+pub view-same : (old new : StreamState) (e : ℕ) → SameSetting old new → view new e ≡ view old e
 view-same old new e s = rw s.views
 
 -- a live node is a member of its epoch, and of each other view
-speaker : (old new : Line) (n e : ℕ) → IsViewed old → Speaks old new → IsLive old n → e ≡ old.epoch n → IsView new e × (e ≤ new.epoch n) × IsMember new e n
+speaker : (old new : StreamState) (n e : ℕ) → IsViewed old → Speaks old new → IsLive old n → e ≡ old.epoch n → IsView new e × (e ≤ new.epoch n) × IsMember new e n
 speaker old new n e v s live is =
     let own : IsView old e = rw is (v.epochs n live) in
     (IsView-stays old new e s.setting own, omega (arith, s.later n), rw (view-same old new e s.setting) (v.live n e live own))
 
-speaks-entries : (old new : Line) (from to e k d : ℕ) (x : Entry) → IsViewed old → Speaks old new → In (Stores from to e k d x) new.letters → IsView new e × (e ≤ new.epoch from) × IsMember new e from
+speaks-entries : (old new : StreamState) (from to e k d : ℕ) (x : Entry) → IsViewed old → Speaks old new → In (Stores from to e k d x) new.letters → IsView new e × (e ≤ new.epoch from) × IsMember new e from
 speaks-entries old new from to e k d x v s m =
     elim (s.entries from to e k d x m) [
       | inl before ↦
@@ -103,7 +103,7 @@ speaks-entries old new from to e k d x v s m =
       | inr now ↦ speaker old new from e v s now.0 now.1
     ]
 
-speaks-reports : (old new : Line) (from e : ℕ) → IsViewed old → Speaks old new → In (Reports from e) new.letters → IsView new e × (e ≤ new.epoch from) × IsMember new e from
+speaks-reports : (old new : StreamState) (from e : ℕ) → IsViewed old → Speaks old new → In (Reports from e) new.letters → IsView new e × (e ≤ new.epoch from) × IsMember new e from
 speaks-reports old new from e v s m =
     elim (s.reports from e m) [
       | inl before ↦
@@ -112,7 +112,7 @@ speaks-reports old new from e v s m =
       | inr now ↦ speaker old new from e v s now.0 now.1
     ]
 
-pub speaks-viewed : (old new : Line) → IsViewed old → Speaks old new → IsViewed new
+pub speaks-viewed : (old new : StreamState) → IsViewed old → Speaks old new → IsViewed new
 speaks-viewed old new v s =
     record {
       shrinking = λ e low high. rw (view-same old new e s.setting, view-same old new (suc e) s.setting) (v.shrinking e (IsView-same old new e s.setting low) (IsView-same old new (suc e) s.setting high));
@@ -126,10 +126,10 @@ speaks-viewed old new v s =
 -- ---- moves that send nothing
 
 -- what is said stays, where only views and reports are left to account for
-pub silent-says : (old new : Line) (now : ℕ) → SameSetting old new → Sends old new nothing → IsViewed new
+pub silent-says : (old new : StreamState) (now : ℕ) → SameSetting old new → Sends old new nothing → IsViewed new
     → ((n m : ℕ) → IsLive new n → has m (new.reported n) ≡ true → (new.epoch n ≡ 1) ⊎ ((m ≡ n) ⊎ In (Reports m (new.epoch n)) new.letters))
     → ((n e k : ℕ) → IsView old e → IsOut old e old.home → Has old n k → HasReported new n e → HasReported old n e)
-    → CarriesSaid old new now
+    → PreservesSaid old new now
 silent-says old new now s sends v reports silent =
     record {
       viewed = v;
@@ -142,14 +142,14 @@ silent-says old new now s sends v reports silent =
     }
 
 -- a node that knows of the same reports in the same epoch
-pub quiet-silent : (old new : Line) (n e : ℕ) → Sends old new nothing → new.epoch n ≡ old.epoch n → new.reported n ≡ old.reported n → HasReported new n e → HasReported old n e
+pub quiet-silent : (old new : StreamState) (n e : ℕ) → Sends old new nothing → new.epoch n ≡ old.epoch n → new.reported n ≡ old.reported n → HasReported new n e → HasReported old n e
 quiet-silent old new n e sends epoch reported h =
     elim h [
       | inl sent ↦ inl (silent-only old new (Reports n e) sends sent)
       | inr knows ↦ inr (sym epoch ∙ knows.0, rw reported at knows.1)
     ]
 
-pub quiet-reports : (old new : Line) (passed n m : ℕ) → Replicated old passed → ((l : Letter) → In l old.letters → In l new.letters)
+pub quiet-reports : (old new : StreamState) (passed n m : ℕ) → ReplicationInvariant old passed → ((l : Letter) → In l old.letters → In l new.letters)
     → (IsLive new n → IsLive old n) → new.epoch n ≡ old.epoch n → new.reported n ≡ old.reported n
     → IsLive new n → has m (new.reported n) ≡ true → (new.epoch n ≡ 1) ⊎ ((m ≡ n) ⊎ In (Reports m (new.epoch n)) new.letters)
 quiet-reports old new passed n m r stay live epoch reported is h =
@@ -160,16 +160,16 @@ quiet-reports old new passed n m r stay live epoch reported is h =
 
 -- ---- moves of a live node in its epoch
 
-pub acts-stopped : (old new : Line) (n m : ℕ) → Acts old new n → new.stopped m ≡ old.stopped m
+pub acts-stopped : (old new : StreamState) (n m : ℕ) → Acts old new n → new.stopped m ≡ old.stopped m
 acts-stopped old new n m a = agree new.stopped old.stopped n a.others.stopped a.stopped m
 
-pub acts-epoch : (old new : Line) (n m : ℕ) → Acts old new n → new.epoch m ≡ old.epoch m
+pub acts-epoch : (old new : StreamState) (n m : ℕ) → Acts old new n → new.epoch m ≡ old.epoch m
 acts-epoch old new n m a = agree new.epoch old.epoch n a.others.epoch a.epoch m
 
-pub acts-live : (old new : Line) (n m : ℕ) → Acts old new n → IsLive new m → IsLive old m
+pub acts-live : (old new : StreamState) (n m : ℕ) → Acts old new n → IsLive new m → IsLive old m
 acts-live old new n m a h = let same : new.stopped m ≡ old.stopped m = acts-stopped old new n m a in cc
 
-pub acts-speaks : (old new : Line) (n : ℕ) → IsViewed old → Acts old new n
+pub acts-speaks : (old new : StreamState) (n : ℕ) → IsViewed old → Acts old new n
     → ((from to e k d : ℕ) (x : Entry) → In (Stores from to e k d x) new.letters → In (Stores from to e k d x) old.letters ⊎ (IsLive old from × (e ≡ old.epoch from)))
     → ((from e : ℕ) → In (Reports from e) new.letters → In (Reports from e) old.letters ⊎ (IsLive old from × (e ≡ old.epoch from)))
     → IsViewed new
@@ -184,12 +184,12 @@ acts-speaks old new n v a entries reports =
       reports = reports;
     }
 
-pub acts-viewed : (old new : Line) (n : ℕ) → IsViewed old → Acts old new n → Sends old new nothing → IsViewed new
+pub acts-viewed : (old new : StreamState) (n : ℕ) → IsViewed old → Acts old new n → Sends old new nothing → IsViewed new
 acts-viewed old new n v a s =
     acts-speaks old new n v a
     (λ from to e k d x m. inl (silent-only old new (Stores from to e k d x) s m))
     (λ from e m. inl (silent-only old new (Reports from e) s m))
 
-pub acts-grows : (old new : Line) (n : ℕ) → SameKept old new → Acts old new n → ((l : Letter) → In l old.letters → In l new.letters) → Grows old new
+pub acts-grows : (old new : StreamState) (n : ℕ) → SameKept old new → Acts old new n → ((l : Letter) → In l old.letters → In l new.letters) → Grows old new
 acts-grows old new n s a stay =
     same-grows old new s (λ e _. view-same old new e a.setting) (λ m. acts-live old new n m a) (λ m. omega (arith, acts-epoch old new n m a)) stay

@@ -1,16 +1,16 @@
 -- How a stream begins, and what of it never falls.
 use Rattle.std.specs.Prelude.{ℕ, ◌≡◌, length}
 use Rattle.std.proofs.Common.{arith, sym, ap, inl}
-use Rattle.replication_safety.specs.Line.{Line, Stores, Stored, Passes, Reports, Has}
-use Rattle.replication_safety.specs.Replicated.{IsViewed, Replicated}
+use Rattle.replication_safety.specs.StreamState.{StreamState, Stores, Stored, Passes, Reports, Has}
+use Rattle.replication_safety.specs.ReplicationInvariant.{IsViewed, ReplicationInvariant}
 use Rattle.replication_safety.specs.Rises.{Rises}
 use Rattle.replication_safety.specs.Start.{IsStart}
-use Rattle.replication_safety.proofs.Carries.{Grows}
+use Rattle.replication_safety.proofs.PreservesReplication.{Grows}
 
-start-empty : (l : Line) (n k : ℕ) → IsStart l → Has l n k → ⊥
+start-empty : (l : StreamState) (n k : ℕ) → IsStart l → Has l n k → ⊥
 start-empty l n k s h = omega (arith, h.0, h.1, s.done n, ap length (s.kept n))
 
-start-viewed : (l : Line) → IsStart l → IsViewed l
+start-viewed : (l : StreamState) → IsStart l → IsViewed l
 start-viewed l s =
     record {
       shrinking = λ e low high. absurd (omega (arith, low.0, high.1, s.one_view));
@@ -22,8 +22,8 @@ start-viewed l s =
     }
 
 -- what holds of every stream holds at its start
-pub start-Replicated : (l : Line) → IsStart l → Replicated l 0
-start-Replicated l s =
+pub start-Replication : (l : StreamState) → IsStart l → ReplicationInvariant l 0
+start-Replication l s =
     record {
       viewed = start-viewed l s;
       most = λ n. omega (arith, s.done n);
@@ -43,7 +43,7 @@ start-Replicated l s =
     }
 
 -- what grows rises
-pub grows-rises : (old new : Line) → Grows old new → Rises old new
+pub grows-rises : (old new : StreamState) → Grows old new → Rises old new
 grows-rises old new g =
     record {
       home = g.home;

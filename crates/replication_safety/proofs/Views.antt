@@ -5,16 +5,16 @@ use Rattle.std.proofs.lemmas.Bool.{cases_lt, cases_eq}
 use Rattle.std.proofs.lemmas.List.{length-append}
 use Rattle.zeus_base.specs.Nodes.{has, is_subset}
 use Rattle.zeus_base.specs.TableLaws.{nth-append_old, nth-append_new}
-use Rattle.replication_safety.specs.Line.{Line, Stores, Stored, Passes, Reports, In, IsView, IsLive, IsMember, HasReported, view}
+use Rattle.replication_safety.specs.StreamState.{StreamState, Stores, Stored, Passes, Reports, In, IsView, IsLive, IsMember, HasReported, view}
 use Rattle.replication_safety.specs.Moves.{NewView, Stops, Installs}
-use Rattle.replication_safety.specs.Replicated.{IsViewed, Replicated}
+use Rattle.replication_safety.specs.ReplicationInvariant.{IsViewed, ReplicationInvariant}
 use Rattle.replication_safety.proofs.Basics.{silent-only, agree}
-use Rattle.replication_safety.proofs.Carries.{Grows, IsFresh, CarriesSaid, Carries, carried}
+use Rattle.replication_safety.proofs.PreservesReplication.{Grows, IsFresh, PreservesSaid, PreservesReplication, carried}
 use Rattle.replication_safety.proofs.Same.{SameKept, same-grows, same-kept, speaks-viewed, view-same, silent-says, quiet-silent, quiet-reports}
 
 -- ---- a node stops
 
-pub stops-kept : (old new : Line) (n : ℕ) → Stops old new n → SameKept old new
+pub stops-kept : (old new : StreamState) (n : ℕ) → Stops old new n → SameKept old new
 stops-kept old new n s =
     record {
       home = s.setting.home;
@@ -22,20 +22,20 @@ stops-kept old new n s =
       kept = agree new.kept old.kept n s.others.kept s.kept;
     }
 
-pub stops-live : (old new : Line) (n m : ℕ) → Stops old new n → IsLive new m → IsLive old m
+pub stops-live : (old new : StreamState) (n m : ℕ) → Stops old new n → IsLive new m → IsLive old m
 stops-live old new n m s h =
     elim (cases_eq m n) [
       | inl same ↦ let none : new.stopped m ≡ true = rw same s.stopped in absurd cc
       | inr other ↦ let same : new.stopped m ≡ old.stopped m = s.others.stopped m other in cc
     ]
 
-stops-epoch : (old new : Line) (n m : ℕ) → Stops old new n → new.epoch m ≡ old.epoch m
+stops-epoch : (old new : StreamState) (n m : ℕ) → Stops old new n → new.epoch m ≡ old.epoch m
 stops-epoch old new n m s = agree new.epoch old.epoch n s.others.epoch s.epoch m
 
-stops-reported : (old new : Line) (n m : ℕ) → Stops old new n → new.reported m ≡ old.reported m
+stops-reported : (old new : StreamState) (n m : ℕ) → Stops old new n → new.reported m ≡ old.reported m
 stops-reported old new n m s = agree new.reported old.reported n s.others.reported s.reported m
 
-stops-viewed : (old new : Line) (n : ℕ) → IsViewed old → Stops old new n → IsViewed new
+stops-viewed : (old new : StreamState) (n : ℕ) → IsViewed old → Stops old new n → IsViewed new
 stops-viewed old new n v s =
     speaks-viewed old new v
     record {
@@ -47,12 +47,12 @@ stops-viewed old new n v s =
       reports = λ from e m. inl (silent-only old new (Reports from e) s.sends m);
     }
 
-pub grows_Stops : (old new : Line) (n : ℕ) → Stops old new n → Grows old new
+pub grows_Stops : (old new : StreamState) (n : ℕ) → Stops old new n → Grows old new
 grows_Stops old new n s =
     same-grows old new (stops-kept old new n s) (λ e _. view-same old new e s.setting) (λ m. stops-live old new n m s) (λ m. omega (arith, stops-epoch old new n m s)) s.sends.stay
 
-stops-carries : (old new : Line) (passed n : ℕ) → Replicated old passed → Stops old new n → Carries old new passed passed
-stops-carries old new passed n r s =
+stops-preserves : (old new : StreamState) (passed n : ℕ) → ReplicationInvariant old passed → Stops old new n → PreservesReplication old new passed passed
+stops-preserves old new passed n r s =
     record {
       grows = grows_Stops old new n s;
       keeps = same-kept old new passed r (stops-kept old new n s) (λ m. stops-live old new n m s);
@@ -61,12 +61,12 @@ stops-carries old new passed n r s =
           (λ m e k is out h. quiet-silent old new m e s.sends (stops-epoch old new n m s) (stops-reported old new n m s));
     }
 
-pub keeps_Stops : (old new : Line) (passed n : ℕ) → Replicated old passed → Stops old new n → Replicated new passed
-keeps_Stops old new passed n r s = carried old new passed passed r (stops-carries old new passed n r s)
+pub keeps_Stops : (old new : StreamState) (passed n : ℕ) → ReplicationInvariant old passed → Stops old new n → ReplicationInvariant new passed
+keeps_Stops old new passed n r s = carried old new passed passed r (stops-preserves old new passed n r s)
 
 -- ---- a node installs a later view
 
-pub installs-kept : (old new : Line) (n e : ℕ) → Installs old new n e → SameKept old new
+pub installs-kept : (old new : StreamState) (n e : ℕ) → Installs old new n e → SameKept old new
 installs-kept old new n e s =
     record {
       home = s.setting.home;
@@ -74,12 +74,12 @@ installs-kept old new n e s =
       kept = agree new.kept old.kept n s.others.kept s.kept;
     }
 
-pub installs-live : (old new : Line) (n e m : ℕ) → Installs old new n e → IsLive new m → IsLive old m
+pub installs-live : (old new : StreamState) (n e m : ℕ) → Installs old new n e → IsLive new m → IsLive old m
 installs-live old new n e m s h =
     let same : new.stopped m ≡ old.stopped m = agree new.stopped old.stopped n s.others.stopped s.stopped m in
     cc
 
-installs-epoch : (old new : Line) (n e m : ℕ) → Installs old new n e → (old.epoch m ≤ new.epoch m) × (old.epoch m ≤ length old.views → new.epoch m ≤ length old.views)
+installs-epoch : (old new : StreamState) (n e m : ℕ) → Installs old new n e → (old.epoch m ≤ new.epoch m) × (old.epoch m ≤ length old.views → new.epoch m ≤ length old.views)
 installs-epoch old new n e m s =
     elim (cases_eq m n) [
       | inl same ↦ rw same (omega (arith, s.epoch, s.later), λ _. omega (arith, s.epoch, s.viewed))
@@ -87,13 +87,13 @@ installs-epoch old new n e m s =
     ]
 
 -- the node knows of no report
-installs-knows_none : (old new : Line) (n e m : ℕ) → Installs old new n e → has m (new.reported n) ≡ true → ⊥
+installs-knows_none : (old new : StreamState) (n e m : ℕ) → Installs old new n e → has m (new.reported n) ≡ true → ⊥
 unfolding has
 installs-knows_none old new n e m s h =
     let none : has m (new.reported n) ≡ false = rw s.reported in
     absurd cc
 
-installs-viewed : (old new : Line) (n e : ℕ) → IsViewed old → Installs old new n e → IsViewed new
+installs-viewed : (old new : StreamState) (n e : ℕ) → IsViewed old → Installs old new n e → IsViewed new
 installs-viewed old new n e v s =
     speaks-viewed old new v
     record {
@@ -105,7 +105,7 @@ installs-viewed old new n e v s =
       reports = λ from f m. inl (silent-only old new (Reports from f) s.sends m);
     }
 
-installs-silent : (old new : Line) (n e m f : ℕ) → Installs old new n e → HasReported new m f → HasReported old m f
+installs-silent : (old new : StreamState) (n e m f : ℕ) → Installs old new n e → HasReported new m f → HasReported old m f
 installs-silent old new n e m f s h =
     elim (cases_eq m n) [
       | inl same ↦
@@ -116,7 +116,7 @@ installs-silent old new n e m f s h =
       | inr other ↦ quiet-silent old new m f s.sends (s.others.epoch m other) (s.others.reported m other) h
     ]
 
-installs-reports : (old new : Line) (passed n e m a : ℕ) → Replicated old passed → Installs old new n e → IsLive new m → has a (new.reported m) ≡ true
+installs-reports : (old new : StreamState) (passed n e m a : ℕ) → ReplicationInvariant old passed → Installs old new n e → IsLive new m → has a (new.reported m) ≡ true
     → (new.epoch m ≡ 1) ⊎ ((a ≡ m) ⊎ In (Reports a (new.epoch m)) new.letters)
 installs-reports old new passed n e m a r s live h =
     elim (cases_eq m n) [
@@ -125,12 +125,12 @@ installs-reports old new passed n e m a r s live h =
           quiet-reports old new passed m a r s.sends.stay (installs-live old new n e m s) (s.others.epoch m other) (s.others.reported m other) live h
     ]
 
-pub grows_Installs : (old new : Line) (n e : ℕ) → Installs old new n e → Grows old new
+pub grows_Installs : (old new : StreamState) (n e : ℕ) → Installs old new n e → Grows old new
 grows_Installs old new n e s =
     same-grows old new (installs-kept old new n e s) (λ f _. view-same old new f s.setting) (λ m. installs-live old new n e m s) (λ m. (installs-epoch old new n e m s).0) s.sends.stay
 
-installs-carries : (old new : Line) (passed n e : ℕ) → Replicated old passed → Installs old new n e → Carries old new passed passed
-installs-carries old new passed n e r s =
+installs-preserves : (old new : StreamState) (passed n e : ℕ) → ReplicationInvariant old passed → Installs old new n e → PreservesReplication old new passed passed
+installs-preserves old new passed n e r s =
     record {
       grows = grows_Installs old new n e s;
       keeps = same-kept old new passed r (installs-kept old new n e s) (λ m. installs-live old new n e m s);
@@ -139,26 +139,26 @@ installs-carries old new passed n e r s =
           (λ m f k is out h. installs-silent old new n e m f s);
     }
 
-pub keeps_Installs : (old new : Line) (passed n e : ℕ) → Replicated old passed → Installs old new n e → Replicated new passed
-keeps_Installs old new passed n e r s = carried old new passed passed r (installs-carries old new passed n e r s)
+pub keeps_Installs : (old new : StreamState) (passed n e : ℕ) → ReplicationInvariant old passed → Installs old new n e → ReplicationInvariant new passed
+keeps_Installs old new passed n e r s = carried old new passed passed r (installs-preserves old new passed n e r s)
 
 -- ---- a new view
 
-pub viewed-kept : (old new : Line) (set : List ℕ) → NewView old new set → SameKept old new
+pub viewed-kept : (old new : StreamState) (set : List ℕ) → NewView old new set → SameKept old new
 viewed-kept old new set s = record { home = s.home; done = s.done; kept = s.kept }
 
-view-length : (old new : Line) (set : List ℕ) → NewView old new set → length new.views ≡ suc (length old.views)
+view-length : (old new : StreamState) (set : List ℕ) → NewView old new set → length new.views ≡ suc (length old.views)
 view-length old new set s = omega (arith, ap length s.views, length-append old.views (set ∷ []))
 
-view-old : (old new : Line) (set : List ℕ) (e : ℕ) → NewView old new set → IsView old e → view new e ≡ view old e
+view-old : (old new : StreamState) (set : List ℕ) (e : ℕ) → NewView old new set → IsView old e → view new e ≡ view old e
 view-old old new set e s v = rw s.views (nth-append_old [] old.views (set ∷ []) (e - 1) (omega (arith, v.0, v.1)))
 
-view-last : (old new : Line) (set : List ℕ) (e : ℕ) → NewView old new set → e ≡ suc (length old.views) → view new e ≡ set
+view-last : (old new : StreamState) (set : List ℕ) (e : ℕ) → NewView old new set → e ≡ suc (length old.views) → view new e ≡ set
 view-last old new set e s last =
     let place : e - 1 ≡ length old.views = omega arith in
     rw (s.views, place) (nth-append_new [] old.views set)
 
-view-cases : (old new : Line) (set : List ℕ) (e : ℕ) → NewView old new set → IsView new e → IsView old e ⊎ (e ≡ suc (length old.views))
+view-cases : (old new : StreamState) (set : List ℕ) (e : ℕ) → NewView old new set → IsView new e → IsView old e ⊎ (e ≡ suc (length old.views))
 view-cases old new set e s v =
     let more : length new.views ≡ suc (length old.views) = view-length old new set s in
     elim (cases_lt e (suc (length old.views))) [
@@ -166,13 +166,13 @@ view-cases old new set e s v =
       | inr after ↦ inr (omega arith)
     ]
 
-view-stays : (old new : Line) (set : List ℕ) (e : ℕ) → NewView old new set → IsView old e → IsView new e
+view-stays : (old new : StreamState) (set : List ℕ) (e : ℕ) → NewView old new set → IsView old e → IsView new e
 view-stays old new set e s v = (v.0, omega (arith, v.1, view-length old new set s))
 
-pub view-live : (old new : Line) (set : List ℕ) (n : ℕ) → NewView old new set → IsLive new n → IsLive old n
+pub view-live : (old new : StreamState) (set : List ℕ) (n : ℕ) → NewView old new set → IsLive new n → IsLive old n
 view-live old new set n s h = let same : new.stopped n ≡ old.stopped n = s.stopped n in cc
 
-view-shrinking : (old new : Line) (set : List ℕ) (e : ℕ) → IsViewed old → NewView old new set → IsView new e → IsView new (suc e) → is_subset (view new (suc e)) (view new e) ≡ true
+view-shrinking : (old new : StreamState) (set : List ℕ) (e : ℕ) → IsViewed old → NewView old new set → IsView new e → IsView new (suc e) → is_subset (view new (suc e)) (view new e) ≡ true
 view-shrinking old new set e v s low high =
     elim (view-cases old new set (suc e) s high) [
       | inl before ↦
@@ -185,7 +185,7 @@ view-shrinking old new set e v s low high =
           rw (view-last old new set (suc e) s last, view-old old new set e s first) below
     ]
 
-view-members : (old new : Line) (set : List ℕ) (n e : ℕ) → IsViewed old → NewView old new set → IsLive new n → IsView new e → IsMember new e n
+view-members : (old new : StreamState) (set : List ℕ) (n e : ℕ) → IsViewed old → NewView old new set → IsLive new n → IsView new e → IsMember new e n
 view-members old new set n e v s live is =
     elim (view-cases old new set e s is) [
       | inl before ↦ rw (view-old old new set e s before) (v.live n e (view-live old new set n s live) before)
@@ -193,11 +193,11 @@ view-members old new set n e v s live is =
     ]
 
 -- who spoke in an epoch of before spoke in one of now
-view-speaker : (old new : Line) (set : List ℕ) (n e : ℕ) → NewView old new set → IsView old e × (e ≤ old.epoch n) × IsMember old e n → IsView new e × (e ≤ new.epoch n) × IsMember new e n
+view-speaker : (old new : StreamState) (set : List ℕ) (n e : ℕ) → NewView old new set → IsView old e × (e ≤ old.epoch n) × IsMember old e n → IsView new e × (e ≤ new.epoch n) × IsMember new e n
 view-speaker old new set n e s o =
     (view-stays old new set e s o.0, omega (arith, s.epoch n, o.1), rw (view-old old new set e s o.0) o.2)
 
-view-viewed : (old new : Line) (set : List ℕ) → IsViewed old → NewView old new set → IsViewed new
+view-viewed : (old new : StreamState) (set : List ℕ) → IsViewed old → NewView old new set → IsViewed new
 view-viewed old new set v s =
     record {
       shrinking = λ e. view-shrinking old new set e v s;
@@ -209,7 +209,7 @@ view-viewed old new set v s =
     }
 
 -- nothing was said in the new epoch
-view-fresh : (old new : Line) (set : List ℕ) (e : ℕ) → IsViewed old → NewView old new set → e ≡ suc (length old.views) → IsFresh new e
+view-fresh : (old new : StreamState) (set : List ℕ) (e : ℕ) → IsViewed old → NewView old new set → e ≡ suc (length old.views) → IsFresh new e
 view-fresh old new set e v s last =
     record {
       unreported = λ n h.
@@ -224,11 +224,11 @@ view-fresh old new set e v s last =
           omega (arith, is.1);
     }
 
-view-views : (old new : Line) (set : List ℕ) (e : ℕ) → IsViewed old → NewView old new set → IsView new e → IsView old e ⊎ IsFresh new e
+view-views : (old new : StreamState) (set : List ℕ) (e : ℕ) → IsViewed old → NewView old new set → IsView new e → IsView old e ⊎ IsFresh new e
 view-views old new set e v s is =
     elim (view-cases old new set e s is) [ inl before ↦ inl before | inr last ↦ inr (view-fresh old new set e v s last) ]
 
-view-says : (old new : Line) (passed : ℕ) (set : List ℕ) → Replicated old passed → NewView old new set → CarriesSaid old new passed
+view-says : (old new : StreamState) (passed : ℕ) (set : List ℕ) → ReplicationInvariant old passed → NewView old new set → PreservesSaid old new passed
 view-says old new passed set r s =
     record {
       viewed = view-viewed old new set r.viewed s;
@@ -240,17 +240,17 @@ view-says old new passed set r s =
       views = λ e. view-views old new set e r.viewed s;
     }
 
-pub grows_NewView : (old new : Line) (set : List ℕ) → NewView old new set → Grows old new
+pub grows_NewView : (old new : StreamState) (set : List ℕ) → NewView old new set → Grows old new
 grows_NewView old new set s =
     same-grows old new (viewed-kept old new set s) (λ e. view-old old new set e s) (λ n. view-live old new set n s) (λ n. omega (arith, s.epoch n)) s.sends.stay
 
-view-carries : (old new : Line) (passed : ℕ) (set : List ℕ) → Replicated old passed → NewView old new set → Carries old new passed passed
-view-carries old new passed set r s =
+view-preserves : (old new : StreamState) (passed : ℕ) (set : List ℕ) → ReplicationInvariant old passed → NewView old new set → PreservesReplication old new passed passed
+view-preserves old new passed set r s =
     record {
       grows = grows_NewView old new set s;
       keeps = same-kept old new passed r (viewed-kept old new set s) (λ n. view-live old new set n s);
       says = view-says old new passed set r s;
     }
 
-pub keeps_NewView : (old new : Line) (passed : ℕ) (set : List ℕ) → Replicated old passed → NewView old new set → Replicated new passed
-keeps_NewView old new passed set r s = carried old new passed passed r (view-carries old new passed set r s)
+pub keeps_NewView : (old new : StreamState) (passed : ℕ) (set : List ℕ) → ReplicationInvariant old passed → NewView old new set → ReplicationInvariant new passed
+keeps_NewView old new passed set r s = carried old new passed passed r (view-preserves old new passed set r s)

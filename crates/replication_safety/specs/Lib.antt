@@ -1,5 +1,5 @@
-pub mod Line
+pub mod StreamState
 pub mod Moves
-pub mod Replicated
+pub mod ReplicationInvariant
 pub mod Start
 pub mod Rises

@@ -3,15 +3,15 @@ use Rattle.std.specs.Prelude.{ℕ, suc, ◌≡◌, ◌≢◌, ◌-◌, ◌<◌, 
 use Rattle.zeus_base.specs.Nodes.{has, with_node, without, meet, is_subset}
 use Rattle.zeus_model.specs.Tables.{put}
 use Rattle.zeus_model.specs.Commit.{no_kept, acked_kept}
-use Rattle.replication_safety.specs.Line.{Line, Letter, Entry, Stores, Stored, Passes, Reports, In, IsLive, IsMember, IsOut, Has, view, top, kept_at, entry_of}
+use Rattle.replication_safety.specs.StreamState.{StreamState, Letter, Entry, Stores, Stored, Passes, Reports, In, IsLive, IsMember, IsOut, Has, view, top, kept_at, entry_of}
 
 -- what does not depend on the nodes stays
-pub record SameSetting (old new : Line) : Type 0 where
+pub record SameSetting (old new : StreamState) : Type 0 where
   pub home : new.home ≡ old.home
   pub views : new.views ≡ old.views
 
 -- all nodes but one stay as they are
-pub record SameOthers (old new : Line) (n : ℕ) : Type 0 where
+pub record SameOthers (old new : StreamState) (n : ℕ) : Type 0 where
   pub stopped : (m : ℕ) → m ≢ n → new.stopped m ≡ old.stopped m
   pub epoch : (m : ℕ) → m ≢ n → new.epoch m ≡ old.epoch m
   pub reported : (m : ℕ) → m ≢ n → new.reported m ≡ old.reported m
@@ -19,7 +19,7 @@ pub record SameOthers (old new : Line) (n : ℕ) : Type 0 where
   pub kept : (m : ℕ) → m ≢ n → new.kept m ≡ old.kept m
 
 -- the letters stay, and each new one is allowed
-pub record Sends (old new : Line) (allowed : Letter → Type 0) : Type 0 where
+pub record Sends (old new : StreamState) (allowed : Letter → Type 0) : Type 0 where
   pub stay : (l : Letter) → In l old.letters → In l new.letters
   pub only : (l : Letter) → In l new.letters → In l old.letters ⊎ allowed l
 
@@ -27,7 +27,7 @@ abbrev pub nothing : Letter → Type 0
 nothing l = ⊥
 
 -- a live node acts in its epoch
-pub record Acts (old new : Line) (n : ℕ) : Type 0 where
+pub record Acts (old new : StreamState) (n : ℕ) : Type 0 where
   pub setting : SameSetting old new
   pub others : SameOthers old new n
   pub live : IsLive old n
@@ -35,13 +35,13 @@ pub record Acts (old new : Line) (n : ℕ) : Type 0 where
   pub epoch : new.epoch n ≡ old.epoch n
 
 -- a live node acts on what it keeps, and knows of reports as before
-pub record ActsOnKept (old new : Line) (n : ℕ) : Type 0 where
+pub record ActsOnKept (old new : StreamState) (n : ℕ) : Type 0 where
   pub acts : Acts old new n
   pub reported : new.reported n ≡ old.reported n
   pub sends : Sends old new nothing
 
 -- a view with at least one member, all of the last view, that leaves out no live node
-pub record NewView (old new : Line) (set : List ℕ) : Type 0 where
+pub record NewView (old new : StreamState) (set : List ℕ) : Type 0 where
   pub home : new.home ≡ old.home
   pub views : new.views ≡ old.views ++ set ∷ []
   pub subset : is_subset set (view old (length old.views)) ≡ true
@@ -54,7 +54,7 @@ pub record NewView (old new : Line) (set : List ℕ) : Type 0 where
   pub sends : Sends old new nothing
 
 -- a node stops
-pub record Stops (old new : Line) (n : ℕ) : Type 0 where
+pub record Stops (old new : StreamState) (n : ℕ) : Type 0 where
   pub setting : SameSetting old new
   pub others : SameOthers old new n
   pub stopped : new.stopped n ≡ true
@@ -65,7 +65,7 @@ pub record Stops (old new : Line) (n : ℕ) : Type 0 where
   pub sends : Sends old new nothing
 
 -- a live node goes on to a later view, and forgets who reported
-pub record Installs (old new : Line) (n e : ℕ) : Type 0 where
+pub record Installs (old new : StreamState) (n e : ℕ) : Type 0 where
   pub setting : SameSetting old new
   pub others : SameOthers old new n
   pub live : IsLive old n
@@ -79,7 +79,7 @@ pub record Installs (old new : Line) (n e : ℕ) : Type 0 where
   pub sends : Sends old new nothing
 
 -- a live node reports, where it keeps no entry of a stream whose node is no member
-pub record ReportsItself (old new : Line) (n : ℕ) : Type 0 where
+pub record ReportsItself (old new : StreamState) (n : ℕ) : Type 0 where
   pub acts : Acts old new n
   pub empty : IsOut old (old.epoch n) old.home → old.kept n ≡ []
   pub reported : new.reported n ≡ with_node n (old.reported n)
@@ -88,7 +88,7 @@ pub record ReportsItself (old new : Line) (n : ℕ) : Type 0 where
   pub sends : Sends old new nothing
 
 -- a live node hears that another has reported in its epoch
-pub record Hears (old new : Line) (n m : ℕ) : Type 0 where
+pub record Hears (old new : StreamState) (n m : ℕ) : Type 0 where
   pub acts : Acts old new n
   pub sent : In (Reports m (old.epoch n)) old.letters
   pub reported : new.reported n ≡ with_node m (old.reported n)
@@ -97,7 +97,7 @@ pub record Hears (old new : Line) (n m : ℕ) : Type 0 where
   pub sends : Sends old new nothing
 
 -- the letters that a live node may send without a change of what it keeps
-pub data IsTellable (old : Line) (n : ℕ) : Letter → Type 0 where
+pub data IsTellable (old : StreamState) (n : ℕ) : Letter → Type 0 where
   -- its own entries, and those of a stream whose node is no member, to member followers
   entry : (to k : ℕ) → Has old n k → (n ≡ old.home) ⊎ IsOut old (old.epoch n) old.home
       → has to (kept_at old n k).followers ≡ true → IsMember old (old.epoch n) to → to ≢ n
@@ -110,7 +110,7 @@ pub data IsTellable (old : Line) (n : ℕ) : Letter → Type 0 where
   reported : has n (old.reported n) ≡ true → IsTellable old n (Reports n (old.epoch n))
 
 -- a live node says what it may
-pub record Tells (old new : Line) (n : ℕ) : Type 0 where
+pub record Tells (old new : StreamState) (n : ℕ) : Type 0 where
   pub acts : Acts old new n
   pub reported : new.reported n ≡ old.reported n
   pub done : new.done n ≡ old.done n
@@ -118,7 +118,7 @@ pub record Tells (old new : Line) (n : ℕ) : Type 0 where
   pub sends : Sends old new (IsTellable old n)
 
 -- the stream's own node adds an entry, which it does not follow itself
-pub record Commits (old new : Line) (x : Entry) : Type 0 where
+pub record Commits (old new : StreamState) (x : Entry) : Type 0 where
   pub acts : ActsOnKept old new old.home
   pub room : length (old.kept old.home) < 16
   pub foreign : has old.home x.followers ≡ false
@@ -126,14 +126,14 @@ pub record Commits (old new : Line) (x : Entry) : Type 0 where
   pub kept : new.kept old.home ≡ old.kept old.home ++ record { followers = x.followers; writes = x.writes; acks = [] } ∷ []
 
 -- a live node stores the next entry from a letter of its epoch, whose done it has reached
-pub record StoresNext (old new : Line) (n : ℕ) (x : Entry) : Type 0 where
+pub record StoresNext (old new : StreamState) (n : ℕ) (x : Entry) : Type 0 where
   pub acts : ActsOnKept old new n
   pub sent : (from d : ℕ) × (d ≤ old.done n) × In (Stores from n (old.epoch n) (top old n) d x) old.letters
   pub done : new.done n ≡ old.done n
   pub kept : new.kept n ≡ old.kept n ++ record { followers = x.followers; writes = x.writes; acks = [] } ∷ []
 
 -- a live node learns that all entries below d have passed
-pub record Raises (old new : Line) (passed n d : ℕ) : Type 0 where
+pub record Raises (old new : StreamState) (passed n d : ℕ) : Type 0 where
   pub acts : ActsOnKept old new n
   pub foreign : n ≢ old.home
   pub above : old.done n < d
@@ -142,7 +142,7 @@ pub record Raises (old new : Line) (passed n d : ℕ) : Type 0 where
   pub kept : new.kept n ≡ drop (d - old.done n) (old.kept n)
 
 -- a live node notes an acknowledgement of an entry that it keeps
-pub record NotesAck (old new : Line) (n k a : ℕ) : Type 0 where
+pub record NotesAck (old new : StreamState) (n k a : ℕ) : Type 0 where
   pub acts : ActsOnKept old new n
   pub sent : In (Stored a k) old.letters
   pub has : Has old n k
@@ -150,7 +150,7 @@ pub record NotesAck (old new : Line) (n k a : ℕ) : Type 0 where
   pub kept : new.kept n ≡ put no_kept (old.kept n) (k - old.done n) (acked_kept (kept_at old n k) a)
 
 -- a live node passes its first entry: the stream's own node, or any where that is no member
-pub record PassesFirst (old new : Line) (n : ℕ) : Type 0 where
+pub record PassesFirst (old new : StreamState) (n : ℕ) : Type 0 where
   pub acts : ActsOnKept old new n
   pub some : 0 < length (old.kept n)
   pub may : (n ≡ old.home) ⊎ IsOut old (old.epoch n) old.home

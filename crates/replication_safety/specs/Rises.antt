@@ -1,10 +1,10 @@
 -- What no move takes back.
 use Rattle.std.specs.Prelude.{ℕ, ◌≡◌, ◌<◌, ◌≤◌}
-use Rattle.replication_safety.specs.Line.{Line, IsLive, top, end, entry}
+use Rattle.replication_safety.specs.StreamState.{StreamState, IsLive, top, end, entry}
 
 -- no stopped node lives again; no node's epoch falls, nor what it knows to have passed, nor its next number; nor does the
 -- number of committed entries, and an entry that its own node keeps stays what it is
-pub record Rises (old new : Line) : Type 0 where
+pub record Rises (old new : StreamState) : Type 0 where
   pub home : new.home ≡ old.home
   pub live : (n : ℕ) → IsLive new n → IsLive old n
   pub epoch : (n : ℕ) → old.epoch n ≤ new.epoch n

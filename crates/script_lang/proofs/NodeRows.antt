@@ -6,7 +6,7 @@ use Rattle.std.proofs.lemmas.Bool.Decides.{nat_tests}
 use Rattle.zeus_base.specs.Nodes.{with_node}
 use Rattle.zeus_base.specs.NodeLaws.{IsBelow, IsBelow-with_node}
 use Rattle.zeus_model.specs.Faults.{is_owner, row_met}
-use Rattle.zeus_model.specs.Places.{Node, Place, ends, above, some_words}
+use Rattle.zeus_model.specs.Places.{Node, WordPlace, ends, above, some_words}
 use Rattle.zeus_model.specs.Tables.{or_else, where_true}
 use Rattle.zeus_model.specs.Words.{number_in}
 use Rattle.zeus_model.specs.declared.fault.Kind.{Kind}
@@ -19,7 +19,7 @@ use Rattle.script_lang.proofs.NodeLaws.{with_node-last, IsBelow-more, or_false}
 use Rattle.script_lang.proofs.RowLaws.{table, number_said, none_said}
 use Rattle.script_lang.proofs.Sound.{IfRead, read_bind, read_ok, read_err, read_cond, read_or, read_is}
 
-abbrev a_node : ℕ → ℕ → Option ℕ → Bool → Place
+abbrev a_node : ℕ → ℕ → Option ℕ → Bool → WordPlace
 a_node nodes lowest owner may_end = record { want = Node nodes lowest owner; may_end = may_end }
 
 -- in the range or not, and then listed before or not
@@ -86,7 +86,7 @@ members_told T nodes owner listed lowest (w ∷ ws) so =
 
 -- ---- the directory
 
-abbrev pub counted : ℕ → ℕ → ℕ → Bool → List (List ℕ) → Place
+abbrev pub counted : ℕ → ℕ → ℕ → Bool → List (List ℕ) → WordPlace
 counted nodes count lowest some ws =
     cond ((count + length ws) == nodes) ends record { want = Node nodes (above lowest ws) None; may_end = some || some_words ws }
 

@@ -10,7 +10,7 @@ use Rattle.zeus_base.specs.declared.value.Value.TheVariants as values
 use Rattle.zeus_txn.specs.Ops.{object_of, mentions, mentioned, named_after, named}
 use Rattle.zeus_txn.specs.declared.ops.Op.{Op}
 use Rattle.zeus_model.specs.Faults.{row_met}
-use Rattle.zeus_model.specs.Places.{Said, Declared, Place, must, second_word, under, op_keywords, op_forms, behind, OpParts, with_word, with_words, noted, noted_after, named_in, separator, op_place, ops_place}
+use Rattle.zeus_model.specs.Places.{Said, Declared, WordPlace, must, second_word, under, op_keywords, op_forms, behind, OpParts, with_word, with_words, with_name, noted_after, named_in, separator, op_place, ops_place}
 use Rattle.zeus_model.specs.Tables.{or_else, where_true}
 use Rattle.zeus_model.specs.Words.{is_among, is_name}
 use Rattle.zeus_model.specs.declared.fault.Kind.{Kind}
@@ -74,8 +74,8 @@ same_more names [] (y ∷ xs) w x h e = absurd h
 same_more names (v ∷ ws) [] w x h e = absurd h
 same_more names (v ∷ ws) (y ∷ xs) w x h e = (h.0, same_more names ws xs w x h.1 e)
 
-same_noted : (names ws : List (List ℕ)) (xs : List ℕ) (w : List ℕ) (x : ℕ) → SameNames names ws xs → find names w ≡ Some x → SameNames names (noted ws w) (mentioned xs x)
-unfolding noted mentioned
+same_noted : (names ws : List (List ℕ)) (xs : List ℕ) (w : List ℕ) (x : ℕ) → SameNames names ws xs → find names w ≡ Some x → SameNames names (with_name ws w) (mentioned xs x)
+unfolding with_name mentioned
 same_noted names ws xs w x h e = rw (among_same names ws xs w x h e) (go (mentions x xs))
   where
     go : (b : Bool) → SameNames names (cond b ws (ws ++ w ∷ [])) (cond b xs (xs ++ x ∷ []))
@@ -109,7 +109,7 @@ same_after names ws xs [] [] h g = g
 same_after names ws xs [] (o ∷ before) h g = absurd h
 same_after names ws xs (q ∷ finished) [] h g = absurd h
 same_after names ws xs (q ∷ finished) (o ∷ before) h g =
-    same_after names (noted ws (second_word q)) (mentioned xs (object_of o)) finished before h.1 (same_noted names ws xs (second_word q) (object_of o) g h.0)
+    same_after names (with_name ws (second_word q)) (mentioned xs (object_of o)) finished before h.1 (same_noted names ws xs (second_word q) (object_of o) g h.0)
 
 same_named : (names : List (List ℕ)) (finished : List (List (List ℕ))) (before : List Op) → AreRead names finished before → SameNames names (named_in finished) (named before)
 unfolding SameNames named
@@ -257,8 +257,8 @@ module _ (d : Said) (T : Option Kind) (finished : List (List (List ℕ))) (befor
   unfolding op_rest_at table
   op_rest_told k rest so =
       let R = ops_rows d finished (op_text k ∷ []) in
-      tells_bind T _ _ _ (word_first R T rest so (ap (λ (p : Place). row_met p None) (object_place k))) (λ w p.
-      tells_bind T _ _ _ (reads R T w.0 w.1 p (object_of_word d.names before w.0) (ap (λ (p : Place). row_met p (Some w.0)) (object_place k) ∙ declared_row d finished before are w.0)) (λ x q.
+      tells_bind T _ _ _ (word_first R T rest so (ap (λ (p : WordPlace). row_met p None) (object_place k))) (λ w p.
+      tells_bind T _ _ _ (reads R T w.0 w.1 p (object_of_word d.names before w.0) (ap (λ (p : WordPlace). row_met p (Some w.0)) (object_place k) ∙ declared_row d finished before are w.0)) (λ x q.
       let there = read_is _ x _ q.0 (object_found d.names before w.0) in
       operand_told k w.0 x w.1 there.1 (ops_next d finished (op_text k ∷ []) T w.0 w.1 (name_apart w.0 there.0) q.1)))
 

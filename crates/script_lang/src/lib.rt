@@ -26,4 +26,5 @@ pub use reader::{MOST_BYTES, is_last, read_script, unended};
 pub use reading::ReadScript;
 pub use stage::Failure;
 pub use words::NodeRule;
+pub use zeus_base::{NoMemory, NodeId, NodeSet};
 pub use zeus_model::{Kind, Name, Names, Script, ScriptFault};

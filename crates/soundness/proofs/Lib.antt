@@ -1,12 +1,12 @@
 pub mod BookAnswers
 pub mod BookChanges
 pub mod BookPasses
-pub mod Faithfulness
+pub mod DataSound
 pub mod Fitting
 pub mod HistoryOrder
 pub mod Limits
 pub mod NeverAnswers
-pub mod NeverBare
+pub mod UndeclaredUntouched
 pub mod NeverCauses
 pub mod NeverLetters
 pub mod NeverReceive

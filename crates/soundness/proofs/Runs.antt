@@ -13,14 +13,14 @@ use Rattle.machine_moves.specs.Fits.{StepFits}
 use Rattle.machine_moves.proofs.Runs.{usual_after, reached_usual}
 use Rattle.machine_moves.proofs.Start.{start_usual, start-config}
 use Rattle.machine_moves.proofs.Steps.{IsStep, IsUsual, step_is_moves}
-use Rattle.data_safety.specs.Story.{Truth, story}
-use Rattle.data_safety.specs.Faithful.{Faithful}
-use Rattle.data_safety.proofs.Beginning.{untold, start-faithful}
-use Rattle.data_safety.proofs.OwnershipPlain.{IsFaithful}
-use Rattle.data_safety.proofs.RowsRuns.{moves_txs, start-txs}
-use Rattle.data_safety.proofs.RowsSteps.{step_is_story_moves}
-use Rattle.data_safety.proofs.StoryKeeps.{moves-faithful}
-use Rattle.soundness.proofs.Faithfulness.{faithful-sound}
+use Rattle.data_safety.specs.RunState.{Witness, run_state}
+use Rattle.data_safety.specs.DataInvariant.{DataInvariant}
+use Rattle.data_safety.proofs.Beginning.{untold, start-invariant}
+use Rattle.data_safety.proofs.OwnershipPlain.{HasDataInvariant}
+use Rattle.data_safety.proofs.StepRuns.{moves_txs, start-txs}
+use Rattle.data_safety.proofs.StepMoves.{step_is_run_moves}
+use Rattle.data_safety.proofs.RunKeeps.{moves-invariant}
+use Rattle.soundness.proofs.DataSound.{invariant-sound}
 use Rattle.soundness.proofs.Fitting.{fits-steps}
 use Rattle.soundness.proofs.Limits.{names-declared, start-counts, step-counts}
 
@@ -28,19 +28,19 @@ use Rattle.soundness.proofs.Limits.{names-declared, start-counts, step-counts}
 pub record IsReached (w : World) : Type 0 where
   pub usual : IsUsual w
   pub counts : length w.nodes ≡ w.config.nodes
-  pub truth : Truth
-  pub faithful : Faithful (story w) truth
+  pub witness : Witness
+  pub data_invariant : DataInvariant (run_state w) witness
 
 -- a reached world is sound
 pub reached-sound : (w : World) → IsReached w → Sound w
-reached-sound w r = faithful-sound w r.truth r.faithful r.counts
+reached-sound w r = invariant-sound w r.witness r.data_invariant r.counts
 
 pub start-reached : (c : Config) (txs : List TxDecl) → KeepsLimits c → FitTxs c 0 txs → IsReached (start c txs)
 start-reached c txs keeps fits = record {
   usual = start_usual c txs keeps;
   counts = start-counts c txs;
-  truth = untold;
-  faithful = start-faithful c txs keeps (names-declared c txs fits);
+  witness = untold;
+  data_invariant = start-invariant c txs keeps (names-declared c txs fits);
 }
 
 -- ---- steps
@@ -49,12 +49,12 @@ start-reached c txs keeps fits = record {
 pub step-reached : (c : Config) (txs : List TxDecl) (w : World) (s : Step) → w.config ≡ c → w.txs ≡ txs → IsReached w → StepFits c txs s → IsReached (stepped w s)
 step-reached c txs w s config same r fits =
     let here : StepFits w.config w.txs s = rw (config, same) fits in
-    let next : IsFaithful (story (stepped w s)) = moves-faithful (story w) (story (stepped w s)) r.truth r.faithful (step_is_story_moves w s r.usual here) in
+    let next : HasDataInvariant (run_state (stepped w s)) = moves-invariant (run_state w) (run_state (stepped w s)) r.witness r.data_invariant (step_is_run_moves w s r.usual here) in
     record {
       usual = usual_after w (stepped w s) r.usual (step_is_moves w s w.txs r.usual here);
       counts = step-counts w w.txs s r.counts here;
-      truth = next.0;
-      faithful = next.1;
+      witness = next.0;
+      data_invariant = next.1;
     }
 
 pub run-reached : (c : Config) (txs : List TxDecl) (steps : List Step) (w : World) → w.config ≡ c → w.txs ≡ txs → IsReached w → All (StepFits c txs) steps → IsReached (run w steps)
@@ -63,7 +63,7 @@ run-reached c txs [] w config same r fits = r
 run-reached c txs (s ∷ ss) w config same r fits =
     let first : StepFits c txs s = All-head (StepFits c txs) s ss fits in
     let moved : IsStep w (stepped w s) = step_is_moves w s txs r.usual (rw config first) in
-    let kept : (stepped w s).txs ≡ w.txs = moves_txs (story w) (story (stepped w s)) (step_is_story_moves w s r.usual (rw (config, same) first)) in
+    let kept : (stepped w s).txs ≡ w.txs = moves_txs (run_state w) (run_state (stepped w s)) (step_is_run_moves w s r.usual (rw (config, same) first)) in
     run-reached c txs ss (stepped w s) (moved.config ∙ config) (kept ∙ same) (step-reached c txs w s config same r first) (All-tail (StepFits c txs) s ss fits)
 
 -- every run is sound

@@ -14,9 +14,9 @@ use Rattle.machine_moves.specs.Fits.{StepFits}
 use Rattle.machine_moves.proofs.Lists.{In-append_left, In-append_right}
 use Rattle.machine_moves.proofs.Start.{start-config}
 use Rattle.machine_moves.proofs.Steps.{IsStep, step_is_moves}
-use Rattle.data_safety.specs.Story.{story}
-use Rattle.data_safety.proofs.RowsRuns.{moves_txs, start-txs}
-use Rattle.data_safety.proofs.RowsSteps.{step_is_story_moves}
+use Rattle.data_safety.specs.RunState.{run_state}
+use Rattle.data_safety.proofs.StepRuns.{moves_txs, start-txs}
+use Rattle.data_safety.proofs.StepMoves.{step_is_run_moves}
 use Rattle.soundness.specs.History.{IsInOrder}
 use Rattle.soundness.specs.Placements.{IsPlaced}
 use Rattle.soundness.specs.Telling.{Answers, Does, IsOnce, IsTold, ids_of, told_points}
@@ -24,7 +24,7 @@ use Rattle.soundness.proofs.BookChanges.{ids_of-append}
 use Rattle.soundness.proofs.BookPasses.{HasReplies}
 use Rattle.soundness.proofs.Fitting.{fits-steps}
 use Rattle.soundness.proofs.HistoryOrder.{is_in_order}
-use Rattle.soundness.proofs.Placements.{faithful-placed}
+use Rattle.soundness.proofs.Placements.{invariant-placed}
 use Rattle.soundness.proofs.Runs.{IsReached, start-reached, step-reached, run-reached, run-sound}
 use Rattle.soundness.proofs.StepChanges.{StepTells, step_tells}
 use Rattle.soundness.proofs.Telling.{along, reply_at, RunTells, RunTells-none, RunTells-more}
@@ -37,8 +37,8 @@ run_tells c txs [] w config same r replies fits = RunTells-none w replies
 run_tells c txs (s ∷ ss) w config same r replies fits =
     let first : StepFits c txs s = All-head (StepFits c txs) s ss fits in
     let moved : IsStep w (stepped w s) = step_is_moves w s txs r.usual (rw config first) in
-    let kept : (stepped w s).txs ≡ w.txs = moves_txs (story w) (story (stepped w s)) (step_is_story_moves w s r.usual (rw (config, same) first)) in
-    let one : StepTells w s (happens w s) = step_tells w r.truth s r.faithful replies in
+    let kept : (stepped w s).txs ≡ w.txs = moves_txs (run_state w) (run_state (stepped w s)) (step_is_run_moves w s r.usual (rw (config, same) first)) in
+    let one : StepTells w s (happens w s) = step_tells w r.witness s r.data_invariant replies in
     RunTells-more w s ss one
     (run_tells c txs ss (stepped w s) (moved.config ∙ config) (kept ∙ same) (step-reached c txs w s config same r first) one.replies (All-tail (StepFits c txs) s ss fits))
 
@@ -77,9 +77,9 @@ run_moment c txs (s ∷ ss) zero w e config same r replies fits h =
     let first : StepFits c txs s = All-head (StepFits c txs) s ss fits in
     let rest : All (StepFits c txs) ss = All-tail (StepFits c txs) s ss fits in
     let moved : IsStep w (stepped w s) = step_is_moves w s txs r.usual (rw config first) in
-    let kept : (stepped w s).txs ≡ w.txs = moves_txs (story w) (story (stepped w s)) (step_is_story_moves w s r.usual (rw (config, same) first)) in
+    let kept : (stepped w s).txs ≡ w.txs = moves_txs (run_state w) (run_state (stepped w s)) (step_is_run_moves w s r.usual (rw (config, same) first)) in
     let next : IsReached (stepped w s) = step-reached c txs w s config same r first in
-    let one : StepTells w s (happens w s) = step_tells w r.truth s r.faithful replies in
+    let one : StepTells w s (happens w s) = step_tells w r.witness s r.data_invariant replies in
     let this : happens w s ≡ e = cc in
     subst (λ (x : Event). IsMoment w (s ∷ ss) x) this
     (step_moment w s ss one (run_tells c txs ss (stepped w s) (moved.config ∙ config) (kept ∙ same) next one.replies rest))
@@ -87,9 +87,9 @@ run_moment c txs (s ∷ ss) (suc k) w e config same r replies fits h =
     let first : StepFits c txs s = All-head (StepFits c txs) s ss fits in
     let rest : All (StepFits c txs) ss = All-tail (StepFits c txs) s ss fits in
     let moved : IsStep w (stepped w s) = step_is_moves w s txs r.usual (rw config first) in
-    let kept : (stepped w s).txs ≡ w.txs = moves_txs (story w) (story (stepped w s)) (step_is_story_moves w s r.usual (rw (config, same) first)) in
+    let kept : (stepped w s).txs ≡ w.txs = moves_txs (run_state w) (run_state (stepped w s)) (step_is_run_moves w s r.usual (rw (config, same) first)) in
     let next : IsReached (stepped w s) = step-reached c txs w s config same r first in
-    let one : StepTells w s (happens w s) = step_tells w r.truth s r.faithful replies in
+    let one : StepTells w s (happens w s) = step_tells w r.witness s r.data_invariant replies in
     later_moment w s ss e (run_moment c txs ss k (stepped w s) e (moved.config ∙ config) (kept ∙ same) next one.replies rest h)
 
 -- a transaction that stands in a list of transactions of points has one of the points
@@ -117,7 +117,7 @@ module _ (c : Config) (txs : List TxDecl) (steps : List Step) (keeps : KeepsLimi
     entries = λ t number k l a b one other.
         let told = run-told in
         let r = reached in
-        r.faithful.booked.one_entry a b record { stream = t; number = number } ((told.entry a number t).1 (k, one)) ((told.entry b number t).1 (l, other));
+        r.data_invariant.booked.one_entry a b record { stream = t; number = number } ((told.entry a number t).1 (k, one)) ((told.entry b number t).1 (l, other));
   }
 
   -- the history of a run is in the order in which things happened
@@ -129,7 +129,7 @@ module _ (c : Config) (txs : List TxDecl) (steps : List Step) (keeps : KeepsLimi
 
   -- the objects of a run have one latest placement each, and copies where it places them
   pub run-placed : IsPlaced (run (start c txs) steps)
-  run-placed = let r = reached in faithful-placed (run (start c txs) steps) r.truth r.faithful r.counts
+  run-placed = let r = reached in invariant-placed (run (start c txs) steps) r.witness r.data_invariant r.counts
 
   -- each transaction of the history has the reply that it was answered
   pub run-replies : (p : Point) → In p (run (start c txs) steps).book.points

@@ -25,14 +25,14 @@ use Rattle.zeus_model.specs.Local.{begin, Hindrance, Missing, Unready, hindrance
 use Rattle.zeus_model.specs.Membership.{install}
 use Rattle.zeus_model.specs.World.{World, Event, node, tx_decl, link, refuse_step, acted, book_begun, begun_at, begin_refused, begin_or_not, step_begin, waits_for, tried_at, nth_letter, received_at, deliver_or_not, ticked_at, stopped_at, installed_at, view_refused, view_or_not, step_install, happens}
 use Rattle.machine_moves.proofs.Causes.{or_else-none, where_true-none}
-use Rattle.data_safety.specs.Story.{Truth, story}
-use Rattle.data_safety.specs.Faithful.{Faithful}
-use Rattle.data_safety.proofs.RowsQuiet.{IsObstacle, write_cause-obstructs}
+use Rattle.data_safety.specs.RunState.{Witness, run_state}
+use Rattle.data_safety.specs.DataInvariant.{DataInvariant}
+use Rattle.data_safety.proofs.StepFrames.{IsObstacle, write_cause-obstructs}
 use Rattle.soundness.specs.Telling.{how_often, ids_of}
 use Rattle.soundness.proofs.BookChanges.{Said, nothing_said, how_often-append, IsRewritten, IsRewritten-same, IsChange, IsChange-then}
 use Rattle.soundness.proofs.BookPasses.{HasReplies, HasReplies-after, SaysReplies, book_passes-change, how_often-none}
 use Rattle.soundness.proofs.BookAnswers.{silence, said, said_begin, said_tried, ended_id, IsOpen, begun-change, tried-change, said_begin-replies, said_tried-replies}
-use Rattle.soundness.proofs.Faithfulness.{scene_node, some_value}
+use Rattle.soundness.proofs.DataSound.{system_node, some_value}
 
 -- a step writes what it answers and tells, behind what the book had, and counts itself
 pub record StepTells (w : World) (s : Step) (e : Event) : Type 0 where
@@ -100,9 +100,9 @@ not_some : {A : Type 0} (o : Option A) → o ≡ None → is_some o ≡ true →
 not_some None none some = absurd cc
 not_some (Some a) none some = absurd cc
 
-is_open : (w : World) (u : Truth) (n s : ℕ) (c : Current) → Faithful (story w) u → HasReplies w.book → (slot (node w n) s).current ≡ Some c → IsOpen (record_of w.book c.id)
+is_open : (w : World) (u : Witness) (n s : ℕ) (c : Current) → DataInvariant (run_state w) u → HasReplies w.book → (slot (node w n) s).current ≡ Some c → IsOpen (record_of w.book c.id)
 is_open w u n s c f r is =
-    let now = f.booked.current n s c (ap (λ (k : Node). (slot k s).current) (scene_node w n) ∙ is) in
+    let now = f.booked.current n s c (ap (λ (k : Node). (slot k s).current) (system_node w n) ∙ is) in
     record {
       entry = now.2;
       reply = none_of (record_of w.book c.id).reply (λ some. elim (r.ended c.id some) [
@@ -201,7 +201,7 @@ begin_tells None w k r is =
 
 -- ---- try
 
-tried_tells : (w : World) (u : Truth) (n s : ℕ) → Faithful (story w) u → HasReplies w.book → StepTells w (Try n s) (tried_at w n s (try_slot (node w n) s))
+tried_tells : (w : World) (u : Witness) (n s : ℕ) → DataInvariant (run_state w) u → HasReplies w.book → StepTells w (Try n s) (tried_at w n s (try_slot (node w n) s))
 unfolding tried_at said EndsCurrent
 tried_tells w u n s f r =
     let t : Stream = record { node = n; slot = s } in
@@ -252,7 +252,7 @@ still_tells : (w : World) (s : Step) (n : ℕ) (after : Node) (a : Answer) (lett
 still_tells w s n after a letters r silent = counted_tells w s (acted w n after a letters (unchanged w.book)) r refl refl refl silent
 
 -- each step tells what it writes
-pub step_tells : (w : World) (u : Truth) (s : Step) → Faithful (story w) u → HasReplies w.book → StepTells w s (happens w s)
+pub step_tells : (w : World) (u : Witness) (s : Step) → DataInvariant (run_state w) u → HasReplies w.book → StepTells w s (happens w s)
 unfolding happens step_begin ticked_at stopped_at said
 step_tells w u (Begin k) f r = begin_tells (begin_refused w k) w k r refl
 step_tells w u (Try n s) f r = tried_tells w u n s f r

@@ -48,7 +48,8 @@ pub fn every_run_is_sound()
 
     // A transaction that was acknowledged before another was begun stands before it, if that one is in the history.
     ensures real_time { (c : Config) (txs : List TxDecl) (steps : List Step) → KeepsLimits c → FitsTxs c txs → All (FitsStep c (length txs)) steps
-        → let w = run (start c txs) steps in (a b acked begun : ℕ) → (record_of w.book a).acked ≡ Some acked → (record_of w.book b).begun ≡ Some begun → acked < begun
+        → let w = run (start c txs) steps in (a b acked begun : ℕ) → (record_of w.book a).acked ≡ Some acked
+        → (record_of w.book b).begun ≡ Some begun → acked < begun
         → 1 ≤ times b w.book.points → StandsBefore a b w.book.points }
 
     // Each transaction of the history has there the reply that a step answered it, as committed or as read, and that its
@@ -117,7 +118,8 @@ pub fn every_run_tells_its_history()
     // A transaction has the entry as which a step commits it.
     ensures entries { (c : Config) (txs : List TxDecl) (steps : List Step) → KeepsLimits c → FitsTxs c txs → All (FitsStep c (length txs)) steps
         → (id number : ℕ) (t : Stream)
-        → ((record_of (run (start c txs) steps).book id).entry ≡ Some record { stream = t; number = number }) ↔ ((k : ℕ) × Commits (start c txs) steps k t number id) }
+        → ((record_of (run (start c txs) steps).book id).entry ≡ Some record { stream = t; number = number }) ↔ ((k : ℕ)
+        × Commits (start c txs) steps k t number id) }
 
     // A transaction has the reply that a step answers it.
     ensures replies { (c : Config) (txs : List TxDecl) (steps : List Step) → KeepsLimits c → FitsTxs c txs → All (FitsStep c (length txs)) steps

@@ -8,4 +8,6 @@ mod proposals;
 mod tests;
 mod timer;
 
+pub use node_state::{Effect, NodeState};
 pub use timer::tick;
+pub use zeus_model::Ticked;

@@ -1,7 +1,7 @@
 -- What may stand at each place of a line of a script of leases, by the lines before it and the words before the place.
 use Rattle.std.specs.Prelude.{ℕ, suc, ◌^◌, ◌&&◌, ◌==◌, List, [], ◌∷◌, codes, length, replicate, Option, Some, None}
 use Rattle.zeus_model.specs.Faults.{row_met}
-use Rattle.zeus_model.specs.Places.{Want, Keyword, Number, Place, must, ends, under, first_word, second_word, last_line, beginning, behind, node_place, Tail, Ends, Members, Form, no_form}
+use Rattle.zeus_model.specs.Places.{Wanted, Keyword, Number, WordPlace, must, ends, under, first_word, second_word, last_line, beginning, behind, node_place, Tail, Ends, Members, Form, no_form}
 use Rattle.zeus_model.specs.Tables.{nth, or_else, where_true}
 use Rattle.zeus_model.specs.Words.{is_among, number_in}
 use Rattle.zeus_model.specs.declared.fault.Kind.{Kind}
@@ -34,7 +34,7 @@ said ls = record {
   steps = length (beginning step_keywords ls);
 }
 
-abbrev form : List ℕ → List Want → Tail → List ℕ × Form
+abbrev form : List ℕ → List Wanted → Tail → List ℕ × Form
 form keyword wants tail = (keyword, record { wants = wants; tail = tail })
 
 -- the forms of all lines
@@ -54,16 +54,16 @@ forms nodes =
     ∷ []
 
 -- in the tail of a line: nodes, or its end
-unfoldable pub tail_place : ℕ → Tail → List (List ℕ) → Place
+unfoldable pub tail_place : ℕ → Tail → List (List ℕ) → WordPlace
 tail_place nodes Members ws = node_place nodes None ws
 tail_place nodes _ ws = ends
 
 -- behind these words of a line of this form, its first word aside
-abbrev pub form_place : ℕ → Form → List (List ℕ) → Place
+abbrev pub form_place : ℕ → Form → List (List ℕ) → WordPlace
 form_place nodes f ws = behind f.wants (tail_place nodes f.tail) ws
 
 -- the place behind these words of a line
-unfoldable pub place : Said → List (List ℕ) → Place
+unfoldable pub place : Said → List (List ℕ) → WordPlace
 place d [] = must (Keyword d.next)
 place d (w ∷ ws) = form_place d.nodes (under no_form w (forms d.nodes)) ws
 

@@ -27,4 +27,5 @@ pub use reader::read_leases;
 pub use script::{LeaseScript, LeaseSteps};
 pub use script_lang::ReadScript;
 pub use step::{LeaseStep, Ticks};
+pub use zeus_base::{NoMemory, NodeId, NodeSet};
 pub use zeus_model::{Kind, Made, ScriptFault};

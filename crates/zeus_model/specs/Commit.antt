@@ -195,8 +195,8 @@ none_stored n [] = true
 none_stored n (s ∷ ss) = (length (log n s).kept == 0) && none_stored n ss
 
 -- a node that stores no entry of a non-member's stream joins the reported nodes, and says so to the other members
-unfoldable pub report : Node → Act
-report n =
+unfoldable pub report_recovered : Node → Act
+report_recovered n =
     if not (has n.me n.reported) && none_stored n (outside n)
     then record {
       node = record n { reported = with_node n.me n.reported };
@@ -207,4 +207,4 @@ report n =
 
 -- after each letter that a rule answered and after each install: own streams advance, then those of non-members, then the node reports
 unfoldable pub finish : Node → Act
-finish n = and_then (in_turn advance_own n (below (length n.slots))) (λ m. and_then (in_turn advance_kept m (outside m)) report)
+finish n = and_then (in_turn advance_own n (below (length n.slots))) (λ m. and_then (in_turn advance_kept m (outside m)) report_recovered)

@@ -11,37 +11,37 @@ pub record Opening : Type 0 where
   pub live : Bool
 
 -- what is wanted at a place
-pub data Want : Type 0 where
+pub data Wanted : Type 0 where
   -- the first word of a line, one of these; so many objects, transactions and steps stand before, and the run may be live
-  First : (words : List (List ℕ)) → (objects txs steps : ℕ) → (live : Bool) → Want
+  First : (words : List (List ℕ)) → (objects txs steps : ℕ) → (live : Bool) → Wanted
   -- one of these words
-  Keyword : (words : List (List ℕ)) → Want
+  Keyword : (words : List (List ℕ)) → Wanted
   -- the word of an operation, one of these; so many operations stand before
-  Operation : (words : List (List ℕ)) → (before : ℕ) → Want
+  Operation : (words : List (List ℕ)) → (before : ℕ) → Wanted
   -- a number from the lowest on and below the limit
-  Number : (lowest limit : ℕ) → Want
+  Number : (lowest limit : ℕ) → Wanted
   -- a node of a list: one of so many, from the lowest on, and not the owner
-  Node : (nodes lowest : ℕ) → (owner : Option ℕ) → Want
+  Node : (nodes lowest : ℕ) → (owner : Option ℕ) → Wanted
   -- a value, of this version
-  Value : (version : ℕ) → Want
+  Value : (version : ℕ) → Wanted
   -- the name of an object, none of these
-  NewName : (names : List (List ℕ)) → Want
+  NewName : (names : List (List ℕ)) → Wanted
   -- the name of a declared object; the transaction names some of them already
-  Declared : (names named : List (List ℕ)) → Want
+  Declared : (names named : List (List ℕ)) → Wanted
   -- no word
-  Nothing : Want
+  Nothing : Wanted
 
 -- a place: what is wanted there, and whether the line may also end there
-pub record Place : Type 0 where
-  pub want : Want
+pub record WordPlace : Type 0 where
+  pub want : Wanted
   pub may_end : Bool
 
 -- a word has to stand there
-abbrev pub must : Want → Place
+abbrev pub must : Wanted → WordPlace
 must want = record { want = want; may_end = false }
 
 -- the line has to end there
-abbrev pub ends : Place
+abbrev pub ends : WordPlace
 ends = record { want = Nothing; may_end = true }
 
 -- ---- what the lines before say
@@ -127,11 +127,11 @@ pub data Tail : Type 0 where
 
 -- a kind of line: what it has behind its first word
 pub record Form : Type 0 where
-  pub wants : List Want
+  pub wants : List Wanted
   pub tail : Tail
 
 -- the lines with this first word
-abbrev form : List ℕ → List Want → Tail → List ℕ × Form
+abbrev form : List ℕ → List Wanted → Tail → List ℕ × Form
 form keyword wants tail = (keyword, record { wants = wants; tail = tail })
 
 -- the versions that are read
@@ -165,7 +165,7 @@ op_keywords version =
     codes "get" ∷ codes "put" ∷ codes "add" ∷ codes "need" ∷ (if version == 2 then codes "same" ∷ [] else [])
 
 -- the forms of operations
-unfoldable pub op_forms : Said → List (List ℕ) → List (List ℕ × List Want)
+unfoldable pub op_forms : Said → List (List ℕ) → List (List ℕ × List Wanted)
 op_forms d named =
     (codes "get", Declared d.names named ∷ [])
     ∷ (codes "put", Declared d.names named ∷ Value d.version ∷ [])
@@ -177,7 +177,7 @@ op_forms d named =
 -- ---- the place behind words
 
 -- behind these words: each takes one of what is wanted, and the others stand in the tail
-unfoldable pub behind : List Want → (List (List ℕ) → Place) → List (List ℕ) → Place
+unfoldable pub behind : List Wanted → (List (List ℕ) → WordPlace) → List (List ℕ) → WordPlace
 behind [] tail ws = tail ws
 behind (x ∷ xs) tail [] = must x
 behind (x ∷ xs) tail (w ∷ ws) = behind xs tail ws
@@ -193,12 +193,12 @@ some_words [] = false
 some_words (w ∷ ws) = true
 
 -- behind these nodes of a directory: as many as there are may stand in it, and one has to
-unfoldable pub directory_place : ℕ → List (List ℕ) → Place
+unfoldable pub directory_place : ℕ → List (List ℕ) → WordPlace
 directory_place nodes ws =
     if length ws == nodes then ends else record { want = Node nodes (above 0 ws) None; may_end = some_words ws }
 
 -- behind these nodes of another list, which may end anywhere
-abbrev pub node_place : ℕ → Option ℕ → List (List ℕ) → Place
+abbrev pub node_place : ℕ → Option ℕ → List (List ℕ) → WordPlace
 node_place nodes owner ws = record { want = Node nodes (above 0 ws) owner; may_end = true }
 
 -- operations as words: those that are finished, and the words of the one behind the last `;`
@@ -219,29 +219,29 @@ with_words p [] = p
 with_words p (w ∷ ws) = with_words (with_word p w) ws
 
 -- the names with one more, where it is new to them
-unfoldable pub noted : List (List ℕ) → List ℕ → List (List ℕ)
-noted names w = if is_among w names then names else names ++ w ∷ []
+unfoldable pub with_name : List (List ℕ) → List ℕ → List (List ℕ)
+with_name names w = if is_among w names then names else names ++ w ∷ []
 
 -- the names with those that operations name behind their first words
 unfoldable pub noted_after : List (List ℕ) → List (List (List ℕ)) → List (List ℕ)
 noted_after names [] = names
-noted_after names (op ∷ ops) = noted_after (noted names (second_word op)) ops
+noted_after names (op ∷ ops) = noted_after (with_name names (second_word op)) ops
 
 -- the names that finished operations name, each once
 abbrev pub named_in : List (List (List ℕ)) → List (List ℕ)
 named_in ops = noted_after [] ops
 
 -- behind an operation: `;` and one more, or the end of the line
-abbrev pub separator : List (List ℕ) → Place
+abbrev pub separator : List (List ℕ) → WordPlace
 separator ws = record { want = Keyword (codes ";" ∷ []); may_end = true }
 
 -- behind these words of an operation, of which the finished ones stand before it
-unfoldable pub op_place : Said → List (List (List ℕ)) → List (List ℕ) → Place
+unfoldable pub op_place : Said → List (List (List ℕ)) → List (List ℕ) → WordPlace
 op_place d finished [] = must (Operation (op_keywords d.version) (length finished))
 op_place d finished (w ∷ ws) = behind (under [] w (op_forms d (named_in finished))) separator ws
 
 -- behind these words of operations
-unfoldable pub ops_place : Said → OpParts → List (List ℕ) → Place
+unfoldable pub ops_place : Said → OpParts → List (List ℕ) → WordPlace
 ops_place d p ws = op_place d (with_words p ws).finished (with_words p ws).last
 
 -- before the first word of operations
@@ -249,7 +249,7 @@ abbrev pub no_parts : OpParts
 no_parts = record { finished = []; last = [] }
 
 -- behind these words of operations, before which `after` and a number may stand
-unfoldable pub tx_place : Said → List (List ℕ) → Place
+unfoldable pub tx_place : Said → List (List ℕ) → WordPlace
 tx_place d [] = must (Keyword (codes "after" ∷ op_keywords d.version))
 tx_place d (w ∷ ws) =
     if bytes_eq w (codes "after")
@@ -257,7 +257,7 @@ tx_place d (w ∷ ws) =
     else ops_place d no_parts (w ∷ ws)
 
 -- in the tail of a line: behind all words but the first, and behind those of them that stand in the tail
-unfoldable pub tail_place : Said → Tail → List (List ℕ) → List (List ℕ) → Place
+unfoldable pub tail_place : Said → Tail → List (List ℕ) → List (List ℕ) → WordPlace
 tail_place d Ends all ws = ends
 tail_place d Directory all ws = directory_place d.nodes ws
 tail_place d Replicas all ws = node_place d.nodes (Some (number_in (nth [] all 2))) ws
@@ -269,10 +269,10 @@ abbrev pub no_form : Form
 no_form = record { wants = []; tail = Ends }
 
 -- behind these words of a line of this form, its first word aside
-unfoldable pub form_place : Said → Form → List (List ℕ) → Place
+unfoldable pub form_place : Said → Form → List (List ℕ) → WordPlace
 form_place d f ws = behind f.wants (tail_place d f.tail ws) ws
 
 -- the place behind these words of a line
-unfoldable pub place : Opening → Said → List (List ℕ) → Place
+unfoldable pub place : Opening → Said → List (List ℕ) → WordPlace
 place o d [] = must (First d.next (length d.names) d.txs d.steps o.live)
 place o d (w ∷ ws) = form_place d (under no_form w (forms o d)) ws

@@ -36,8 +36,8 @@ row n from (OVal x stamp place) = on_oval n x stamp place
 row n from Recovered = on_recovered n from
 
 -- the tests before every letter, in order
-unfoldable pub untaken : Node → Letter → Option Outcome
-untaken n l =
+unfoldable pub rejection : Node → Letter → Option Outcome
+rejection n l =
     or_else (where_true n.stopped Stopped)
     (or_else (where_true (not (l.to == n.me)) (NotMine l.to))
     (or_else (where_true (not (l.epoch == n.epoch)) (OtherEpoch l.epoch n.epoch))
@@ -49,4 +49,4 @@ receive_or_not n l None = did_then (row n l.from l.body) finish
 
 -- a letter that passes the tests meets the rule of its body, and then the node finishes
 unfoldable pub receive : Node → Letter → Did Outcome
-receive n l = receive_or_not n l (untaken n l)
+receive n l = receive_or_not n l (rejection n l)

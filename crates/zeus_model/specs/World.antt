@@ -134,8 +134,8 @@ packets links [] = []
 packets links (l ∷ ls) = record { number = length (link links l.from l.to); letter = l } ∷ packets (posted links l) ls
 
 -- one step sends at most its first 64 letters
-abbrev pub cut : List Letter → List Letter
-cut letters = take 64 letters
+abbrev pub first_64 : List Letter → List Letter
+first_64 letters = take 64 letters
 
 -- a step that the world itself answers changes nothing but the count of steps
 abbrev pub refuse_step : World → Answer → Event
@@ -187,7 +187,7 @@ step_begin w k = begin_or_not w k (begin_refused w k)
 
 unfoldable pub tried_at : World → ℕ → ℕ → Did Tried → Event
 tried_at w n s d =
-    acted w n d.node (TryAnswer d.answer) (cut d.sent)
+    acted w n d.node (TryAnswer d.answer) (first_64 d.sent)
     (change_then (book_tried w.book record { node = n; slot = s } w.config.degree d.answer)
     (λ b. book_passes b n (in_stream_order d.passed)))
 
@@ -197,20 +197,20 @@ nth_letter (l ∷ ls) zero = Some l
 nth_letter (l ∷ ls) (suc i) = nth_letter ls i
 
 unfoldable pub received_at : World → ℕ → Did Rattle.zeus_model.specs.declared.answer.Outcome.Outcome → Event
-received_at w n d = acted w n d.node (Receive d.answer) (cut d.sent) (book_passes w.book n (in_stream_order d.passed))
+received_at w n d = acted w n d.node (Receive d.answer) (first_64 d.sent) (book_passes w.book n (in_stream_order d.passed))
 
 unfoldable pub deliver_or_not : World → ℕ → ℕ → Option Letter → Event
 deliver_or_not w from to None = refuse_step w (NoPacket (length (link w.links from to)))
 deliver_or_not w from to (Some l) = received_at w to (receive (node w to) l)
 
 unfoldable pub ticked_at : World → ℕ → Did Rattle.zeus_model.specs.declared.answer.Ticked.Ticked → Event
-ticked_at w n d = acted w n d.node (TickAnswer d.answer) (cut d.sent) (unchanged w.book)
+ticked_at w n d = acted w n d.node (TickAnswer d.answer) (first_64 d.sent) (unchanged w.book)
 
 unfoldable pub stopped_at : World → ℕ → Did Rattle.zeus_model.specs.declared.answer.Stop.Stop → Event
 stopped_at w n d = acted w n d.node (StopAnswer d.answer) [] (unchanged w.book)
 
 unfoldable pub installed_at : World → ℕ → Did Rattle.zeus_model.specs.declared.answer.Install.Install → Event
-installed_at w n d = acted w n d.node (InstallAnswer d.answer) (cut d.sent) (book_passes w.book n (in_stream_order d.passed))
+installed_at w n d = acted w n d.node (InstallAnswer d.answer) (first_64 d.sent) (book_passes w.book n (in_stream_order d.passed))
 
 -- the last view
 unfoldable pub last_view : List (List ℕ) → List ℕ

@@ -22,7 +22,7 @@ use Rattle.zeus_model.specs.declared.state.Gather.{Gather}
 use Rattle.zeus_model.specs.Act.{Act, Did, just}
 use Rattle.zeus_model.specs.Commit.{finish, on_kept_rack, on_own_rack, on_rack, on_rinv, on_rval, stored_rinv}
 use Rattle.zeus_model.specs.Ownership.{answer_request, collect_cause, collect_or_refuse, decide_gathered, decide_on, gather_for, gather_or_older, greater_gather, hold_cause, hold_or_refuse, is_decidable, oack_on_base, oinv_on_base, on_oack, on_oinv, on_oreq, on_oval, rebased, request_cause, take_ack}
-use Rattle.zeus_model.specs.Receive.{needs_open, on_recovered, receive, receive_or_not, row, untaken}
+use Rattle.zeus_model.specs.Receive.{needs_open, on_recovered, receive, receive_or_not, row, rejection}
 use Rattle.zeus_model.specs.State.{Node, entry, gather, is_open}
 use Rattle.zeus_model.specs.Tables.{or_else, where_true}
 use Rattle.node_state.specs.declared.effect.Effect.{Effect}
@@ -176,30 +176,30 @@ row-unpassed n from Recovered = recovered-unpassed n from
 -- ---- the tests before every letter
 
 module _ (n : Node) (l : Letter) where
-  pub untaken-stopped : n.stopped ≡ true → Some Stopped ≡ untaken n l
-  unfolding untaken or_else where_true
-  untaken-stopped s = rw s refl
+  pub rejection-stopped : n.stopped ≡ true → Some Stopped ≡ rejection n l
+  unfolding rejection or_else where_true
+  rejection-stopped s = rw s refl
 
-  pub untaken-not_mine : n.stopped ≡ false → not (l.to == n.me) ≡ true → Some (NotMine l.to) ≡ untaken n l
-  unfolding untaken or_else where_true
-  untaken-not_mine s m = rw (s, m) refl
+  pub rejection-not_mine : n.stopped ≡ false → not (l.to == n.me) ≡ true → Some (NotMine l.to) ≡ rejection n l
+  unfolding rejection or_else where_true
+  rejection-not_mine s m = rw (s, m) refl
 
-  pub untaken-other_epoch : n.stopped ≡ false → not (l.to == n.me) ≡ false → (l.epoch ≡ n.epoch → ⊥) → Some (OtherEpoch l.epoch n.epoch) ≡ untaken n l
-  unfolding untaken or_else where_true
-  untaken-other_epoch s m e = rw (s, m, ne_eqb l.epoch n.epoch e) refl
+  pub rejection-other_epoch : n.stopped ≡ false → not (l.to == n.me) ≡ false → (l.epoch ≡ n.epoch → ⊥) → Some (OtherEpoch l.epoch n.epoch) ≡ rejection n l
+  unfolding rejection or_else where_true
+  rejection-other_epoch s m e = rw (s, m, ne_eqb l.epoch n.epoch e) refl
 
-  pub untaken-closed : n.stopped ≡ false → not (l.to == n.me) ≡ false → l.epoch ≡ n.epoch → where_true (needs_open l.body && not (is_open n)) NotOpen ≡ untaken n l
-  unfolding untaken or_else where_true
-  untaken-closed s m e = rw (s, m, eq-eqb l.epoch n.epoch e) refl
+  pub rejection-closed : n.stopped ≡ false → not (l.to == n.me) ≡ false → l.epoch ≡ n.epoch → where_true (needs_open l.body && not (is_open n)) NotOpen ≡ rejection n l
+  unfolding rejection or_else where_true
+  rejection-closed s m e = rw (s, m, eq-eqb l.epoch n.epoch e) refl
 
 -- ---- the whole of a letter
 
 -- a letter that fails a test meets no rule
-pub receive-untaken : (n : Node) (l : Letter) (outcome : Outcome) → Some outcome ≡ untaken n l → receive n l ≡ just n outcome
+pub receive-untaken : (n : Node) (l : Letter) (outcome : Outcome) → Some outcome ≡ rejection n l → receive n l ≡ just n outcome
 unfolding receive receive_or_not
 receive-untaken n l outcome e = rw (← e) refl
 
 -- another meets the rule of its body, and then the node finishes
-pub received : (n m k : Node) (l : Letter) (answer : Outcome) (a b c : Effect) → None ≡ untaken n l → IsDone (row n l.from l.body) answer m a b → IsActed (finish m) k b c → IsDone (receive n l) answer k a c
+pub received : (n m k : Node) (l : Letter) (answer : Outcome) (a b c : Effect) → None ≡ rejection n l → IsDone (row n l.from l.body) answer m a b → IsActed (finish m) k b c → IsDone (receive n l) answer k a c
 unfolding receive receive_or_not
 received n m k l answer a b c taken d f = rw (← taken) (done_then (row n l.from l.body) finish answer m k a b c d f)

@@ -7,5 +7,8 @@ mod receiving;
 mod tests;
 
 pub use node::Node;
-pub use node_state::{Effect, Letters, PassedList};
+pub use node_state::{Effect, Letters, NodeState, PassedList};
+pub use zeus_base::{Config, NoMemory, NodeId, NodeSet, ObjId, SlotId, TxId};
 pub use zeus_model::{Begin, Copy, Entry, Install, Outcome, Stop, Ticked, Tried};
+pub use zeus_packet::{Letter, View};
+pub use zeus_txn::Tx;

@@ -1,7 +1,7 @@
 //! What a node does with a letter, but for the finish.
 ghost use Rattle.std.specs.Prelude.{◌≡◌, ◌<◌, ◌≤◌, ◌&&◌, length, not, true};
 ghost use Rattle.zeus_packet.specs.Fits.{body_fits};
-ghost use Rattle.zeus_model.specs.Receive.{needs_open, row, untaken};
+ghost use Rattle.zeus_model.specs.Receive.{needs_open, row, rejection};
 ghost use Rattle.zeus_model.specs.State.{is_open};
 ghost use Rattle.zeus_model.specs.Tables.{where_true};
 ghost use Rattle.zeus_model.specs.declared.answer.Outcome.TheVariants.{NotOpen};
@@ -16,7 +16,7 @@ use zeus_packet::{Body, Letter};
 
 /// Why a letter meets no rule: the first test that it fails.
 pub(crate) fn rejection(state: &NodeState, letter: &Letter) -> Option<Outcome>
-    ensures { result ≡ untaken state.now letter.now }
+    ensures { result ≡ rejection state.now letter.now }
 {
     if state.is_stopped() {
         return Some(Outcome::Stopped);

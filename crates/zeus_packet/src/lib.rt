@@ -14,4 +14,4 @@ pub use place::{Place, Proposal, View, Want, arbiters, new_place, source};
 pub use ranges::fits;
 pub use window::{NewWindow, PlainWindow, RingWindow, WINDOW_DEPTH, Window};
 pub use write::{Content, Write, Writes};
-pub use zeus_base::{Limits, NodeId, NodeSet, ObjId, SlotId, Stamp, Stream, Value};
+pub use zeus_base::{Limits, NoMemory, NodeId, NodeSet, ObjId, SlotId, Stamp, Stream, Value};

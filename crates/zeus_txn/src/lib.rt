@@ -16,4 +16,4 @@ pub use ops::Op;
 pub use reply::{Ran, Reply};
 pub use run::run_ops;
 pub use tx::{Tx, TxDecl, TxFault, TxList};
-pub use zeus_base::{NoMemory, NodeId, ObjId, SlotId, TxId, Value};
+pub use zeus_base::{Config, NoMemory, NodeId, ObjId, SlotId, TxId, Value};

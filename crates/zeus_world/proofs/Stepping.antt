@@ -24,7 +24,7 @@ use Rattle.zeus_model.specs.Receive.{receive}
 use Rattle.zeus_model.specs.Scripts.{FitsStep}
 use Rattle.zeus_model.specs.State.{Node}
 use Rattle.zeus_model.specs.Tables.{nth}
-use Rattle.zeus_model.specs.World.{World, Event, acted, begin_or_not, begin_refused, begun_at, book_begun, cut, deliver_or_not, happens, installed_at, link, no_node, no_tx, node, nth_letter, received_at, refuse_step, step_begin, step_install, stopped_at, ticked_at, tried_at, tx_decl}
+use Rattle.zeus_model.specs.World.{World, Event, acted, begin_or_not, begin_refused, begun_at, book_begun, first_64, deliver_or_not, happens, installed_at, link, no_node, no_tx, node, nth_letter, received_at, refuse_step, step_begin, step_install, stopped_at, ticked_at, tried_at, tx_decl}
 use Rattle.zeus_model.specs.declared.answer.Answer.{Answer}
 use Rattle.zeus_model.specs.declared.answer.Begin.{Begin as BeginOutcome}
 use Rattle.zeus_model.specs.declared.answer.Begin.TheVariants.{Begun, Busy, Stopped as BeginStopped}
@@ -260,14 +260,14 @@ members_fit limits n ms k h = rw k.sizes.nodes h
 pub can_try : (w : World) (n s : ℕ) (k : Node) (t : Tried) (b : BookState) → IsKnown w → IsNodeAt w n k → b.book ≡ w.book → b.nodes ≡ w.config.nodes → b.slots ≡ w.config.slots → s < w.config.slots → t ≡ (try_slot k s).answer
     → CanNote b (record { node = n; slot = s }) t
 can_try w n s k t b known at book nodes slots h e =
-    let can = can_note w known.faithful.truth n s b book (rw nodes at.there) (rw slots h) known.faithful.faithful in
+    let can = can_note w known.data_invariant.witness n s b book (rw nodes at.there) (rw slots h) known.data_invariant.data_invariant in
     rw (e, ← at.same) can
 
 -- a try leaves the count of steps
 pub tried_counted : (w : World) (n s : ℕ) (k : Node) (t : Tried) (b1 : BookState) (p q : IdsState) → IsKnown w → IsNodeAt w n k → t ≡ (try_slot k s).answer
     → IsMade (book_tried w.book record { node = n; slot = s } w.config.degree t) b1 p q → w.book.steps + 1 < 2 ^ 64 → b1.book.steps + 1 < 2 ^ 64
 tried_counted w n s k t b1 p q known at e m h =
-    let there : IsOfBelow (length w.book.records) t = rw (e, ← at.same) (try_of_below w known.faithful.truth n s known.faithful.faithful) in
+    let there : IsOfBelow (length w.book.records) t = rw (e, ← at.same) (try_of_below w known.data_invariant.witness n s known.data_invariant.data_invariant) in
     let sized = book_tried-sized w.book record { node = n; slot = s } w.config.degree t there in
     let same : b1.book.steps ≡ w.book.steps = ap (λ (d : Book). d.steps) m.book ∙ sized.steps in
     rw same h

@@ -18,6 +18,6 @@ pub use report::{Packets, Report};
 pub use world::World;
 pub use zeus_base::{Config, NoMemory, NodeId, ObjId, Step, TxId};
 pub use zeus_model::{Answer, Copy, TxState};
-pub use zeus_node::Node;
+pub use zeus_node::{Effect, Node};
 pub use zeus_packet::{Letter, Packet, Place};
 pub use zeus_txn::{Map, Reply, TxList};
