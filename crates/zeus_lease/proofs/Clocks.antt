@@ -1,14 +1,11 @@
 -- Clocks that go on, and the arithmetic of their ratio.
-use Rattle.std.proofs.Common.{◌≡◌, ℕ, zero, suc, ◌+◌, ◌*◌, ◌/◌, ◌<◌, ◌≤◌, Bool, true, false, List, [], ◌∷◌, length, Option, Some, None, refl, sym, ap, ◌∙◌, arith}
-use Rattle.std.specs.Prelude.{◌||◌, ◌==◌, nat_lt}
+use Rattle.std.proofs.Common.{◌≡◌, ℕ, zero, suc, ◌+◌, ◌*◌, ◌/◌, ◌<◌, ◌≤◌, Bool, true, false, List, [], ◌∷◌, length, Option, None, refl, ap, arith}
 use Rattle.std.proofs.Math.ListN.{set}
 use Rattle.std.proofs.lemmas.Bool.{ltb-false}
 use Rattle.std.proofs.lemmas.Bool.Decides.{nat_tests}
 use Rattle.zeus_base.specs.Nodes.{has}
-use Rattle.zeus_base.specs.NodeLaws.{has-head, has-tail}
 use Rattle.zeus_base.specs.Tables.{numbers_from}
 use Rattle.zeus_model.specs.Tables.{nth, below, first_of, or_else, where_true}
-use Rattle.zeus_lease.specs.declared.answer.LeaseAnswer.{LeaseAnswer}
 use Rattle.zeus_lease.specs.declared.state.Node.{Node}
 use Rattle.zeus_lease.specs.Machine.{no_node, is_skewed, skewed_beside, skew, went_on}
 

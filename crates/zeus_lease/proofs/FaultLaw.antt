@@ -1,9 +1,9 @@
 -- Bytes that spell no script have one fault, and it is what reading gives.
-use Rattle.std.proofs.Common.{◌≡◌, ◌≢◌, ℕ, ◌<◌, ◌≤◌, Bool, true, false, cond, List, length, Option, Some, None, Result, Ok, Err, refl, sym, ap, ◌∙◌, arith, inl, inr, subst}
+use Rattle.std.proofs.Common.{◌≡◌, ◌≢◌, ℕ, ◌<◌, ◌≤◌, Bool, true, false, cond, List, length, Option, Some, Result, Ok, Err, refl, sym, ap, ◌∙◌, arith, inl, inr, subst}
 use Rattle.std.specs.Prelude.{◌↔◌, ◌==◌, nat_lt, IfOk, IsErr, IsErrOf}
 use Rattle.std.proofs.lemmas.Bool.{cases_order, eqb-true, eqb-false, ltb-true, ltb-false, le-ltb}
 use Rattle.zeus_model.specs.Faults.{IsOfWord}
-use Rattle.zeus_model.specs.FirstFault.{TellsSize, first_lines}
+use Rattle.zeus_model.specs.FirstFault.{TellsSize}
 use Rattle.zeus_model.specs.Spelling.{lines_text}
 use Rattle.zeus_model.specs.declared.fault.Kind.{Kind}
 use Rattle.zeus_model.specs.declared.fault.Kind.TheVariants as kinds
@@ -19,7 +19,7 @@ use Rattle.zeus_lease.specs.declared.script.LeaseScript.{LeaseScript}
 use Rattle.zeus_lease.specs.Faults.{HasOneFault, IsFaultOf, IsFaultyWord, IsScriptText, IsWordFault, SpellsScript}
 use Rattle.zeus_lease.specs.Places.{Said}
 use Rattle.zeus_lease.specs.Reading.{State, start, taken, script_of, scripted, script_read, ReadsScript}
-use Rattle.zeus_lease.specs.Scripts.{FitsScript, IsSpelled, script_lines, spelling}
+use Rattle.zeus_lease.specs.Scripts.{IsSpelled, script_lines, spelling}
 use Rattle.zeus_lease.proofs.Followed.{first_fault, kind_of_line, no_size, low_line, read_sound, text_read}
 use Rattle.zeus_lease.proofs.LineFits.{Whole, Fits, lines, all}
 use Rattle.zeus_lease.proofs.LinesRead.{leases, script_whole, whole_script, state_of_script, script_is}

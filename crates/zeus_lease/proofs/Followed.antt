@@ -16,10 +16,10 @@ use Rattle.script_lang.proofs.Cutting.{Lacks, cut_not_none}
 use Rattle.script_lang.proofs.FaultKinds.{cut-first_lines, same_behind, length-cut_ended}
 use Rattle.script_lang.proofs.FaultShared.{not_ended, same_line, is_none, is_last-shown}
 use Rattle.script_lang.proofs.FirstLines.{shown, shown-front, first_lines-shown, first_lines-fewer, parts_lack}
-use Rattle.zeus_lease.proofs.Language.{Lines, parts_of, Goes, Completes, IsTextOf, Language}
+use Rattle.zeus_lease.proofs.Language.{Lines, parts_of, Goes, Language}
 use Rattle.script_lang.proofs.ReadSound.{last_is}
-use Rattle.script_lang.proofs.Sound.{IfRead, read_is}
-use Rattle.script_lang.proofs.TextComplete.{cut-words_text, cut-lines_text}
+use Rattle.script_lang.proofs.Sound.{read_is}
+use Rattle.script_lang.proofs.TextComplete.{cut-lines_text}
 use Rattle.script_lang.proofs.TextLaws.{words_text-cut, joined-cut, ended_lines, lines_of_parts}
 use Rattle.script_lang.proofs.WordKinds.{BlamesWord}
 

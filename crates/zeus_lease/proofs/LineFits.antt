@@ -1,16 +1,14 @@
 -- What a script of leases keeps so far, the lines that it was read from, and that each line that is taken adds itself.
-use Rattle.std.proofs.Common.{◌≡◌, ℕ, zero, suc, ◌+◌, ◌<◌, ◌≤◌, ◌^◌, Bool, true, false, cond, List, [], ◌∷◌, ◌++◌, length, Option, Some, None, Result, Ok, Err, refl, sym, ap, ◌∙◌, arith, append_assoc, append-nil, length-append, subst}
-use Rattle.std.specs.Prelude.{codes, decimal, map, ◌==◌, All}
+use Rattle.std.proofs.Common.{◌≡◌, ℕ, zero, suc, ◌+◌, ◌<◌, ◌≤◌, ◌^◌, Bool, true, false, cond, List, [], ◌∷◌, ◌++◌, length, Some, None, refl, sym, ap, ◌∙◌, arith, append_assoc, append-nil, length-append, subst}
+use Rattle.std.specs.Prelude.{codes, decimal, map, ◌==◌}
 use Rattle.std.specs.List.{AllByRecursion}
 use Rattle.std.specs.Str.{bytes_eq}
 use Rattle.std.proofs.lemmas.Bool.Decides.{nat_tests}
 use Rattle.std.proofs.lemmas.List.Elements.{All-from_recursion}
-use Rattle.zeus_base.specs.NodeLaws.{IsRising, IsBelow}
-use Rattle.script_lang.specs.NodeLists.{nodes_after}
-use Rattle.script_lang.specs.Reads.{word_at, keyword_at, ended}
+use Rattle.script_lang.specs.Reads.{ended}
 use Rattle.script_lang.proofs.DraftSound.{keyword_at-sound, word_at-sound}
 use Rattle.script_lang.proofs.FindLaws.{bytes_eq-true}
-use Rattle.script_lang.proofs.NodeLaws.{IsListed, nodes_after-sound}
+use Rattle.script_lang.proofs.NodeLaws.{nodes_after-sound}
 use Rattle.script_lang.proofs.NumberLaws.{range_at-sound}
 use Rattle.script_lang.proofs.StepLaws.{ended-sound, none_below}
 use Rattle.script_lang.proofs.Sound.{IfRead, read_bind, read_ok, read_err, read_cond, read_or, read_weaken}

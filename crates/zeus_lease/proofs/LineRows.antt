@@ -1,19 +1,19 @@
 -- The rows that the words of each line meet, and what reading says of the line.
-use Rattle.std.proofs.Common.{◌≡◌, ℕ, zero, suc, ◌+◌, ◌≤◌, ◌^◌, Bool, true, false, cond, List, [], ◌∷◌, ◌++◌, length, replicate, Option, Some, None, Result, Ok, Err, refl, sym, ap, ◌∙◌, arith, subst}
-use Rattle.std.specs.Prelude.{codes, ◌&&◌, ◌||◌, ◌==◌, not}
+use Rattle.std.proofs.Common.{◌≡◌, ℕ, zero, suc, ◌^◌, Bool, true, false, cond, List, [], ◌∷◌, ◌++◌, length, replicate, Option, Some, None, Result, Ok, Err, refl, sym, ap, ◌∙◌, subst}
+use Rattle.std.specs.Prelude.{codes, ◌||◌, ◌==◌}
 use Rattle.std.specs.Str.{bytes_eq}
 use Rattle.zeus_model.specs.Faults.{row_met}
-use Rattle.zeus_model.specs.Places.{Wanted, Number, Keyword, WordPlace, must, ends, under, behind, node_place, Tail, Ends, Members, Form, no_form}
+use Rattle.zeus_model.specs.Places.{Number, Keyword, must, ends, under, behind, Ends, Form, no_form}
 use Rattle.zeus_model.specs.Tables.{or_else, where_true}
 use Rattle.zeus_model.specs.Words.{is_among}
 use Rattle.zeus_model.specs.declared.fault.Kind.{Kind}
 use Rattle.zeus_model.specs.declared.fault.Kind.TheVariants as kinds
 use Rattle.script_lang.specs.Numbers.{range_at}
-use Rattle.script_lang.specs.Reads.{◌>>=◌, or_fault, word_at, keyword_at, ended}
+use Rattle.script_lang.specs.Reads.{◌>>=◌, or_fault, keyword_at, ended}
 use Rattle.script_lang.proofs.FindLaws.{bytes_eq-true}
-use Rattle.script_lang.proofs.FirstWord.{Rows, next, first_fault, first_fault-same, Tells, tells_bind, tells_ok, tells_err, row_of, word_first, Next, stops, passes}
+use Rattle.script_lang.proofs.FirstWord.{Rows, next, first_fault, first_fault-same, Tells, tells_bind, tells_ok, tells_err, word_first, stops, passes}
 use Rattle.script_lang.proofs.LineRows.{Any, keyword_told}
-use Rattle.script_lang.proofs.NodeRows.{member_rows, members_told}
+use Rattle.script_lang.proofs.NodeRows.{members_told}
 use Rattle.script_lang.proofs.RowLaws.{table, range_told, ended_told}
 use Rattle.zeus_lease.specs.declared.draft.Stage.{Stage}
 use Rattle.zeus_lease.specs.declared.draft.Stage.TheVariants as stages

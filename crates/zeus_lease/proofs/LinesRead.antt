@@ -1,22 +1,20 @@
 -- What is spelled so is read, and lines that are taken can be gone on with to a whole script.
-use Rattle.std.proofs.Common.{◌≡◌, ℕ, zero, suc, ◌+◌, ◌<◌, ◌≤◌, ◌^◌, Bool, true, false, List, [], ◌∷◌, ◌++◌, length, Some, None, Result, Ok, Err, refl, sym, ap, ◌∙◌, arith, append_assoc, append-nil, length-append, subst}
+use Rattle.std.proofs.Common.{◌≡◌, ℕ, zero, suc, ◌+◌, ◌<◌, ◌≤◌, ◌^◌, true, false, List, [], ◌∷◌, ◌++◌, length, Some, None, Ok, refl, sym, ap, ◌∙◌, arith, append_assoc, append-nil, length-append}
 use Rattle.std.specs.Prelude.{codes, decimal, map, ◌==◌}
 use Rattle.std.specs.List.{AllByRecursion}
 use Rattle.std.specs.Str.{bytes_eq}
 use Rattle.std.proofs.lemmas.Bool.{ne_eqb}
 use Rattle.std.proofs.lemmas.List.Elements.{All-from_recursion, recursion_from_All}
-use Rattle.zeus_model.specs.Spelling.{words_text, lines_text}
+use Rattle.zeus_model.specs.Spelling.{lines_text}
 use Rattle.script_lang.specs.Following.{line_followed, followed}
-use Rattle.script_lang.specs.NodeLists.{nodes_after}
 use Rattle.script_lang.specs.Reading.{is_last}
-use Rattle.script_lang.specs.Reads.{◌>>=◌, or_fault, word_at, keyword_at, ended}
+use Rattle.script_lang.specs.Reads.{word_at, keyword_at, ended}
 use Rattle.script_lang.proofs.NodeLaws.{nodes_after-nodes, HasRoom}
 use Rattle.script_lang.proofs.NumberLaws.{range_at-decimal}
 use Rattle.script_lang.proofs.StepLaws.{no_owner, none_below}
 use Rattle.script_lang.proofs.TextComplete.{IsLine, IsPrinted, cut-words_text, from_test, decimal_printed, nodes_printed}
 use Rattle.script_lang.proofs.WordKinds.{BlamesWord, then, ok, err, either, some, word_blames, keyword_blames, ended_blames, range_blames, nodes_blame}
 use Rattle.zeus_model.specs.Faults.{IsOfWord}
-use Rattle.zeus_model.specs.declared.fault.Kind.{Kind}
 use Rattle.zeus_model.specs.declared.fault.Kind.TheVariants as kinds
 use Rattle.zeus_lease.specs.declared.draft.Stage.{Stage}
 use Rattle.zeus_lease.specs.declared.draft.Stage.TheVariants as stages
@@ -29,7 +27,7 @@ use Rattle.zeus_lease.specs.Faults.{IsScriptText}
 use Rattle.zeus_lease.specs.Reading.{State, start, version_after, number_after, step_word_of, ticks_after, step_at, step_taken, step_line_taken, line_taken, taken, script_of}
 use Rattle.zeus_lease.specs.Scripts.{FitsStep, FitsNumbers, FitsScript, number_line, script_lines, step_words, spelling}
 use Rattle.zeus_lease.proofs.Language.{Lines, Completes, IsTextOf, Language, parts_of}
-use Rattle.zeus_lease.proofs.LineFits.{Whole, FitsAt, Fits, version_line, head_lines, lines_at, lines, all, all_lines, goes, step_text}
+use Rattle.zeus_lease.proofs.LineFits.{Whole, FitsAt, Fits, version_line, lines_at, lines, all, goes, step_text}
 
 -- ---- completing
 

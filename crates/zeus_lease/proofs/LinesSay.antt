@@ -1,24 +1,24 @@
 -- What the lines that were read say, and that a fault of a word is that of the first word that does not fit.
-use Rattle.std.proofs.Common.{◌≡◌, ℕ, suc, ◌+◌, ◌-◌, ◌≤◌, ◌<◌, ◌^◌, Bool, true, false, cond, List, [], ◌∷◌, ◌++◌, length, take, Option, Some, None, Result, Ok, Err, refl, sym, ap, ◌∙◌, arith, append_assoc, subst, length-append}
-use Rattle.std.specs.Prelude.{codes, decimal, map}
-use Rattle.zeus_model.specs.Faults.{IsOfWord, lines_of, word_of}
-use Rattle.zeus_model.specs.Places.{first_word, second_word, last_line, beginning, under}
+use Rattle.std.proofs.Common.{◌≡◌, ℕ, suc, ◌+◌, ◌-◌, ◌<◌, ◌^◌, true, List, [], ◌∷◌, ◌++◌, length, take, Err, refl, sym, ap, ◌∙◌, arith}
+use Rattle.std.specs.Prelude.{codes, map}
+use Rattle.zeus_model.specs.Faults.{IsOfWord, lines_of}
+use Rattle.zeus_model.specs.Places.{first_word, last_line, beginning, under}
 use Rattle.zeus_model.specs.Tables.{nth}
-use Rattle.zeus_model.specs.Words.{is_among, number_in}
+use Rattle.zeus_model.specs.Words.{is_among}
 use Rattle.zeus_model.specs.declared.fault.Kind.{Kind}
 use Rattle.zeus_model.specs.declared.fault.ScriptFault.{ScriptFault}
 use Rattle.script_lang.specs.Cut.{cut}
 use Rattle.script_lang.specs.Following.{followed}
-use Rattle.script_lang.proofs.FirstWord.{first_fault, Found, found, Tells, tells_fault}
+use Rattle.script_lang.proofs.FirstWord.{Found, found, tells_fault}
 use Rattle.script_lang.proofs.LineRows.{Any}
 use Rattle.script_lang.proofs.RowLaws.{number_in-decimal}
 use Rattle.zeus_lease.specs.declared.draft.Stage.{Stage}
 use Rattle.zeus_lease.specs.declared.draft.Stage.TheVariants as stages
 use Rattle.zeus_lease.specs.declared.step.LeaseStep.{LeaseStep}
 use Rattle.zeus_lease.specs.declared.step.LeaseStep.TheVariants as steps
-use Rattle.zeus_lease.specs.Faults.{IsFaultyWord, IsScriptText, IsWordFault}
+use Rattle.zeus_lease.specs.Faults.{IsScriptText, IsWordFault}
 use Rattle.zeus_lease.specs.Places.{Said, step_keywords, order, said}
-use Rattle.zeus_lease.specs.Reading.{State, start, line_taken, taken}
+use Rattle.zeus_lease.specs.Reading.{State, start, taken}
 use Rattle.zeus_lease.specs.Scripts.{number_line, step_words}
 use Rattle.zeus_lease.proofs.Followed.{taken_fault, where_wanted}
 use Rattle.zeus_lease.proofs.Language.{Lines}

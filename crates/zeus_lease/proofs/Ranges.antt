@@ -1,13 +1,13 @@
 -- Each step keeps the ranges.
-use Rattle.std.proofs.Common.{◌≡◌, ◌≢◌, ℕ, zero, suc, ◌+◌, ◌*◌, ◌<◌, ◌≤◌, ◌^◌, Bool, true, false, cond, List, [], ◌∷◌, ◌++◌, length, All, Option, Some, None, refl, sym, ap, ◌∙◌, arith, length-append, subst}
-use Rattle.std.specs.Prelude.{◌==◌, nat_lt, replicate, slice_get}
+use Rattle.std.proofs.Common.{◌≡◌, ℕ, zero, suc, ◌+◌, ◌*◌, ◌<◌, ◌≤◌, ◌^◌, Bool, true, false, cond, List, [], ◌∷◌, ◌++◌, length, All, Option, Some, None, refl, arith, length-append, subst}
+use Rattle.std.specs.Prelude.{◌==◌, nat_lt, slice_get}
 use Rattle.std.specs.List.{AllByRecursion}
 use Rattle.std.proofs.lemmas.Bool.{eqb-true, eqb-false}
 use Rattle.std.proofs.lemmas.List.Elements.{recursion_from_All}
 use Rattle.zeus_base.specs.Nodes.{has, with_node}
 use Rattle.zeus_base.specs.TableLaws.{nth-append_old, nth-append_new, length-put}
 use Rattle.zeus_base.specs.declared.step.Step.TheVariants.{View as ViewStep}
-use Rattle.zeus_model.specs.Tables.{nth, put, below}
+use Rattle.zeus_model.specs.Tables.{nth}
 use Rattle.zeus_model.specs.World.{happens as world_does, last_view, view_refused, view_or_not}
 use Rattle.zeus_model.specs.declared.answer.Made.{Made}
 use Rattle.zeus_lease.specs.declared.answer.LeaseAnswer.{LeaseAnswer}

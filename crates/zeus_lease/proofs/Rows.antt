@@ -1,15 +1,14 @@
 -- What the code has made of each step, over plain variables.
-use Rattle.std.proofs.Common.{◌≡◌, ◌≢◌, ℕ, zero, suc, ◌+◌, ◌-◌, ◌<◌, ◌≤◌, Bool, true, false, List, [], ◌∷◌, ◌++◌, length, get_or, Option, Some, None, Result, Ok, Err, refl, sym, ap, ◌∙◌, arith, add-one, subst}
-use Rattle.std.specs.Prelude.{◌↔◌, ◌&&◌, ◌||◌, ◌==◌, not, nat_lt, nat_le, max, slice_get, IfOk, OnErr, IsTrue, is_some}
+use Rattle.std.proofs.Common.{◌≡◌, ℕ, suc, ◌+◌, ◌-◌, ◌<◌, ◌≤◌, Bool, true, false, List, [], ◌∷◌, ◌++◌, length, get_or, Option, Some, None, Result, Ok, Err, refl, sym, ap, ◌∙◌, arith, add-one, subst}
+use Rattle.std.specs.Prelude.{◌↔◌, ◌&&◌, ◌==◌, nat_lt, nat_le, max, slice_get, IfOk, OnErr, IsTrue, is_some}
 use Rattle.std.proofs.Math.ListN.{set}
 use Rattle.std.proofs.lemmas.Bool.{lt-ltb, le-ltb, eqb-true, eqb-false}
 use Rattle.std.proofs.lemmas.Bool.Decides.{nat_tests}
 use Rattle.zeus_base.specs.Nodes.{has, with_node}
 use Rattle.zeus_base.specs.NodeLaws.{IsBelow, has-with_node}
 use Rattle.zeus_base.specs.TableLaws.{nth-get_or, put-set}
-use Rattle.zeus_base.specs.declared.step.Step.TheVariants.{View as ViewStep}
 use Rattle.zeus_model.specs.Tables.{nth, put, where_true}
-use Rattle.zeus_model.specs.World.{World, Event, happens as world_does, last_view}
+use Rattle.zeus_model.specs.World.{Event, last_view}
 use Rattle.zeus_model.specs.declared.answer.Answer.TheVariants.{View as ViewAnswer}
 use Rattle.zeus_model.specs.declared.answer.Made.{Made}
 use Rattle.membership.specs.Views.{IsWorldWith}
@@ -19,13 +18,13 @@ use Rattle.zeus_lease.specs.declared.state.Ask.{Ask}
 use Rattle.zeus_lease.specs.declared.state.Node.{Node}
 use Rattle.zeus_lease.specs.declared.step.LeaseStep.{LeaseStep}
 use Rattle.zeus_lease.specs.declared.step.LeaseStep.TheVariants as steps
-use Rattle.zeus_lease.specs.Kept.{IsKept, IsSafe, HasRanges, ask_of}
-use Rattle.zeus_lease.specs.Law.{IsLeftOut, NeverActs}
-use Rattle.zeus_lease.specs.Machine.{Machine, Did, just, no_node, no_ask, node, wait, is_skewed, skewed_beside, skew, went_on, pass_or_not, ask, hear, later, take, take_by, act, act_by, is_below_end, may_act, seen, made_in, view, happens, stepped}
+use Rattle.zeus_lease.specs.Kept.{IsKept, ask_of}
+use Rattle.zeus_lease.specs.Law.{IsLeftOut}
+use Rattle.zeus_lease.specs.Machine.{Machine, just, no_node, no_ask, node, wait, is_skewed, skew, went_on, pass_or_not, ask, hear, later, take, take_by, act, act_by, is_below_end, may_act, seen, made_in, view, happens, stepped}
 use Rattle.zeus_lease.specs.Scripts.{FitsStep}
 use Rattle.zeus_lease.proofs.Clocks.{front_on, front_on-here, front_on-next}
 use Rattle.zeus_lease.proofs.Ranges.{stepped_kept, stepped_nodes}
-use Rattle.zeus_lease.proofs.Safe.{found_at, never_acts, stepped_leaves_out}
+use Rattle.zeus_lease.proofs.Safe.{found_at, stepped_leaves_out}
 use Rattle.zeus_lease.proofs.Views.{seen_stopped, seen_views}
 
 -- ---- searches

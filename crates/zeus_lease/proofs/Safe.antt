@@ -1,18 +1,15 @@
 -- Each step keeps that every lease is covered by the service's expiry; so a node that was left out never acts.
 use Rattle.std.proofs.Common.{◌≡◌, ◌≢◌, ℕ, zero, suc, ◌+◌, ◌*◌, ◌<◌, ◌≤◌, Bool, true, false, cond, List, [], ◌∷◌, ◌++◌, length, Option, Some, None, refl, sym, ap, ◌∙◌, arith, subst, length-append}
-use Rattle.std.specs.Prelude.{◌==◌, ◌&&◌, not, nat_lt, nat_le, max, map, replicate, slice_get}
-use Rattle.std.proofs.lemmas.Bool.{eqb-true, eqb-false, ltb-true, ltb-false, le-ltb}
+use Rattle.std.specs.Prelude.{◌==◌, ◌&&◌, not, nat_lt, nat_le, max, replicate, slice_get}
+use Rattle.std.proofs.lemmas.Bool.{eqb-true, eqb-false, le-ltb}
 use Rattle.std.proofs.lemmas.Bool.Decides.{nat_tests}
 use Rattle.zeus_base.specs.Nodes.{has, with_node}
-use Rattle.zeus_base.specs.NodeLaws.{IsBelow}
 use Rattle.zeus_base.specs.Tables.{numbers_from}
-use Rattle.zeus_base.specs.TableLaws.{nth-append_old, nth-append_new, nth-put_same, nth-put_other, nth-past, nth-replicate, nth_found, length-put}
-use Rattle.zeus_base.specs.declared.step.Step.TheVariants.{View as ViewStep}
-use Rattle.zeus_model.specs.Tables.{nth, put, below, first_of, or_else, where_true}
-use Rattle.zeus_model.specs.World.{World, Event, happens as world_does, last_view, is_empty, view_refused, view_or_not, refuse_step, node as world_node_of}
-use Rattle.zeus_model.specs.declared.answer.Answer.TheVariants.{View as ViewAnswer}
+use Rattle.zeus_base.specs.TableLaws.{nth-append_old, nth-append_new, nth-put_same, nth-put_other, length-put}
+use Rattle.zeus_model.specs.Tables.{nth, put}
+use Rattle.zeus_model.specs.World.{last_view}
 use Rattle.zeus_model.specs.declared.answer.Made.{Made}
-use Rattle.zeus_model.specs.declared.answer.Made.TheVariants.{Installed, Empty, NotMember, NotStopped}
+use Rattle.zeus_model.specs.declared.answer.Made.TheVariants.{Installed}
 use Rattle.zeus_lease.specs.declared.answer.LeaseAnswer.{LeaseAnswer}
 use Rattle.zeus_lease.specs.declared.answer.LeaseAnswer.TheVariants as answers
 use Rattle.zeus_lease.specs.declared.state.Ask.{Ask}
@@ -21,9 +18,9 @@ use Rattle.zeus_lease.specs.declared.step.LeaseStep.{LeaseStep}
 use Rattle.zeus_lease.specs.declared.step.LeaseStep.TheVariants as steps
 use Rattle.zeus_lease.specs.Kept.{IsCovered, IsSafe, ask_of}
 use Rattle.zeus_lease.specs.Law.{IsLeftOut, NeverActs}
-use Rattle.zeus_lease.specs.Machine.{Machine, Did, just, no_node, no_ask, node, with_node_at, wait, start, skew, went_on, pass_or_not, ask, hear, granted, later, take, take_by, act, act_by, may_act, is_below_end, world_node, seen, made_in, view, happens, stepped, run}
+use Rattle.zeus_lease.specs.Machine.{Machine, Did, just, no_node, no_ask, node, with_node_at, wait, start, skew, went_on, pass_or_not, ask, hear, granted, later, take, take_by, act, act_by, may_act, is_below_end, view, happens, stepped, run}
 use Rattle.zeus_lease.proofs.Views.{view_safe, view_leaves_out, view_made}
-use Rattle.zeus_lease.proofs.Clocks.{length-went_on, went_on-clock, went_on-le, went_on-end, went_on-expiry, keeps_ratio, pass_covers, end_comes, grant_covers, later_covers, wait_is_long, none_of, has-numbers_from}
+use Rattle.zeus_lease.proofs.Clocks.{length-went_on, went_on-clock, went_on-le, went_on-end, went_on-expiry, keeps_ratio, pass_covers, end_comes, grant_covers, later_covers, wait_is_long}
 
 -- ---- a node that was left out does not act
 

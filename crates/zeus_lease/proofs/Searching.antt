@@ -1,5 +1,5 @@
 -- A search over the numbers below one, number by number.
-use Rattle.std.proofs.Common.{ℕ, suc, ◌≡◌, ◌∙◌, ◌<◌, ◌≤◌, ◌+◌, ◌-◌, true, Option, Some, None, refl, sym, ap, add-one, arith}
+use Rattle.std.proofs.Common.{ℕ, suc, ◌≡◌, ◌∙◌, ◌<◌, ◌≤◌, ◌+◌, ◌-◌, true, Option, Some, None, refl, ap, add-one, arith}
 use Rattle.std.specs.Prelude.{is_some}
 use Rattle.zeus_model.specs.Tables.{below, first_of, numbers_from, or_else}
 

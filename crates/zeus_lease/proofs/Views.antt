@@ -6,14 +6,12 @@ use Rattle.zeus_base.specs.Nodes.{has}
 use Rattle.zeus_base.specs.NodeLaws.{IsBelow}
 use Rattle.zeus_base.specs.declared.step.Step.TheVariants.{View as ViewStep}
 use Rattle.zeus_model.specs.Tables.{nth, first_of, or_else, where_true}
-use Rattle.zeus_model.specs.World.{World, happens as world_does, last_view, is_empty, view_refused, view_or_not, refuse_step, no_node as no_world_node, node as world_node_of}
-use Rattle.zeus_model.specs.declared.answer.Answer.TheVariants.{View as ViewAnswer}
+use Rattle.zeus_model.specs.World.{World, happens as world_does, last_view, is_empty, view_refused, view_or_not, no_node as no_world_node, node as world_node_of}
 use Rattle.zeus_model.specs.declared.answer.Made.{Made}
 use Rattle.zeus_model.specs.declared.answer.Made.TheVariants.{Installed, Empty, NotMember, NotStopped}
-use Rattle.zeus_lease.specs.declared.answer.LeaseAnswer.TheVariants as answers
 use Rattle.zeus_lease.specs.declared.state.Node.{Node}
-use Rattle.zeus_lease.specs.Kept.{IsCovered, IsSafe, ask_of}
-use Rattle.zeus_lease.specs.Machine.{Machine, no_node, node, counts_as_stopped, world_node, seen, made_in, view}
+use Rattle.zeus_lease.specs.Kept.{IsSafe}
+use Rattle.zeus_lease.specs.Machine.{Machine, no_node, node, world_node, seen, made_in, view}
 use Rattle.zeus_lease.proofs.Clocks.{none_of, none_where}
 
 pub last_view-more : (views : List (List ℕ)) (set : List ℕ) → last_view (views ++ set ∷ []) ≡ set

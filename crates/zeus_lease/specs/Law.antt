@@ -1,9 +1,8 @@
 -- Why a view may leave a node out: from then on the node never acts.
-use Rattle.std.specs.Prelude.{ℕ, ◌≡◌, ◌≢◌, false, List, ◌++◌}
+use Rattle.std.specs.Prelude.{ℕ, ◌≡◌, ◌≢◌, false}
 use Rattle.zeus_base.specs.Nodes.{has}
 use Rattle.zeus_model.specs.World.{last_view}
 use Rattle.zeus_lease.specs.declared.answer.LeaseAnswer.TheVariants.{Acted}
-use Rattle.zeus_lease.specs.declared.step.LeaseStep.{LeaseStep}
 use Rattle.zeus_lease.specs.declared.step.LeaseStep.TheVariants.{Act}
 use Rattle.zeus_lease.specs.Machine.{Machine, happens, may_act}
 

@@ -1,4 +1,4 @@
-use Rattle.std.proofs.Common.{ℕ, ap, ◌∙◌, length}
+use Rattle.std.proofs.Common.{ap, ◌∙◌}
 use Rattle.zeus_lease.specs.Machine.{Machine}
 use Rattle.zeus_lease.proofs.Lines.{text_more, text_done, count_more}
 use Rattle.zeus_lease.proofs.print.write_lines.Goals as goal

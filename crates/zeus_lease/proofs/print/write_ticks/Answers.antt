@@ -1,7 +1,6 @@
-use Rattle.std.proofs.Common.{ℕ, refl, map, decimal}
-use Rattle.zeus_model.specs.ReportWords.{number}
+use Rattle.std.proofs.Common.{refl, map, decimal}
 use Rattle.zeus_model.specs.Spelling.{spaced}
-use Rattle.zeus_text.proofs.Pieces.{one_more, all_done}
+use Rattle.zeus_text.proofs.Pieces.{all_done}
 use Rattle.zeus_lease.proofs.print.write_ticks.Goals as goal
 
 pub returns : goal.returns

@@ -1,4 +1,4 @@
-use Rattle.std.proofs.Common.{◌≡◌, ◌<◌, ◌≤◌, ◌^◌, get_or, length, refl, ◌∙◌, arith}
+use Rattle.std.proofs.Common.{◌<◌, ◌^◌, get_or, length, refl, ◌∙◌, arith}
 use Rattle.zeus_lease.specs.Machine.{no_node}
 use Rattle.zeus_lease.proofs.Clocks.{front_on, front_on-all}
 use Rattle.zeus_lease.proofs.Rows.{front_read, front_more}

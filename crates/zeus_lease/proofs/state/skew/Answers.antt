@@ -1,5 +1,4 @@
-use Rattle.std.proofs.Common.{◌≡◌, Option, Some, None, true, false, sym, ◌∙◌, length}
-use Rattle.std.specs.Prelude.{is_some}
+use Rattle.std.proofs.Common.{◌≡◌, None, sym, ◌∙◌, length}
 use Rattle.zeus_lease.specs.Machine.{skewed_beside}
 use Rattle.zeus_lease.proofs.Rows.{none_there}
 use Rattle.zeus_lease.proofs.Searching.{first_from-some, first_from-none, first_from-passed}

@@ -1,4 +1,4 @@
-use Rattle.std.proofs.Common.{◌≡◌, ℕ, true, false, sym, ◌∙◌, length}
+use Rattle.std.proofs.Common.{ℕ, true, false, sym, ◌∙◌, length}
 use Rattle.zeus_model.specs.Tables.{nth, where_true}
 use Rattle.zeus_lease.specs.declared.answer.LeaseAnswer.TheVariants.{Skewed}
 use Rattle.zeus_lease.specs.Machine.{is_skewed}

@@ -1,6 +1,4 @@
-use Rattle.std.proofs.Common.{◌≡◌, ◌^◌, Err, Ok, arith}
 use Rattle.std.proofs.lemmas.Result.{err_from_is_err_and}
-use Rattle.script_lang.specs.Numbers.{range_at}
 use Rattle.zeus_lease.proofs.TickSteps.{ticks_next, ticks_fail, ticks_end}
 use Rattle.zeus_lease.proofs.steps.ticks_of.Goals as goal
 

@@ -1,6 +1,4 @@
-use Rattle.std.proofs.Common.{◌≡◌, ◌∙◌, sym, ap}
 use Rattle.zeus_lease.specs.Kept.{shown}
-use Rattle.zeus_lease.specs.Machine.{may_act}
 use Rattle.zeus_lease.proofs.Rows.{may_is_acted}
 use Rattle.zeus_lease.proofs.Safe.{never_acts}
 use Rattle.zeus_lease.proofs.leases.Leases.may_act.Goals as goal

@@ -1,7 +1,4 @@
-use Rattle.std.proofs.Common.{◌≡◌, ◌<◌, length, sym}
 use Rattle.zeus_lease.specs.Kept.{shown}
-use Rattle.zeus_lease.specs.Law.{IsLeftOut}
-use Rattle.zeus_lease.specs.Scripts.{FitsStep}
 use Rattle.zeus_lease.proofs.Rows.{still_kept, still_left_out, still_nodes}
 use Rattle.zeus_lease.proofs.Safe.{never_acts}
 use Rattle.zeus_lease.proofs.leases.Leases.step.Goals as goal

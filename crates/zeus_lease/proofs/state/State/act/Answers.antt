@@ -1,4 +1,4 @@
-use Rattle.std.proofs.Common.{◌≡◌, ◌∙◌, sym, ap, Some, Option}
+use Rattle.std.proofs.Common.{◌≡◌, ◌∙◌, sym, ap}
 use Rattle.zeus_base.specs.TableLaws.{nth_read}
 use Rattle.zeus_lease.specs.Kept.{shown}
 use Rattle.zeus_lease.specs.Machine.{no_node, node}

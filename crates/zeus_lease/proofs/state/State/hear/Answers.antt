@@ -1,11 +1,11 @@
-use Rattle.std.proofs.Common.{rules, true, ◌≡◌, ◌<◌, ◌+◌, ◌∷◌, ◌++◌, ◌∙◌, [], length, max, sym, ap, Some, ℕ}
+use Rattle.std.proofs.Common.{rules, true, ◌≡◌, ◌<◌, ◌+◌, ◌∷◌, ◌++◌, ◌∙◌, [], length, max, sym, ap, ℕ}
 use Rattle.std.proofs.Math.ListN.{set}
 use Rattle.zeus_base.specs.Nodes.{has}
 use Rattle.zeus_base.specs.TableLaws.{nth_read}
 use Rattle.zeus_model.specs.World.{last_view}
 use Rattle.zeus_lease.specs.Kept.{shown}
 use Rattle.zeus_lease.specs.Machine.{no_node, node, wait}
-use Rattle.zeus_lease.proofs.Rows.{heard_row, dropped_row, found_ask}
+use Rattle.zeus_lease.proofs.Rows.{heard_row, found_ask}
 use Rattle.zeus_lease.proofs.state.State.hear.Goals as goal
 
 pub returns-clause-did : goal.returns-clause-did

@@ -1,4 +1,4 @@
-use Rattle.std.proofs.Common.{rules, ◌≡◌, ◌∙◌, None, length, sym, ap, suc}
+use Rattle.std.proofs.Common.{rules, ◌≡◌, ◌∙◌, None, length, sym, ap}
 use Rattle.std.specs.Vec.{with_items}
 use Rattle.std.proofs.lemmas.List.{with_items_is}
 use Rattle.zeus_lease.specs.Kept.{shown}

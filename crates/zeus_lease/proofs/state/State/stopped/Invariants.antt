@@ -1,4 +1,4 @@
-use Rattle.std.proofs.Common.{ℕ, ◌≡◌, ◌<◌}
+use Rattle.std.proofs.Common.{ℕ, ◌≡◌}
 use Rattle.std.specs.Prelude.{nat_le, ◌&&◌, nat_lt}
 use Rattle.zeus_base.specs.Nodes.{has}
 use Rattle.zeus_lease.specs.Kept.{shown}

@@ -1,4 +1,4 @@
-use Rattle.std.proofs.Common.{rules, false, true, ◌≡◌, ◌<◌, ◌≤◌, ◌+◌, ◌*◌, ◌^◌, ◌∙◌, length, sym, ap, subst, Some, ℕ, arith, get_or}
+use Rattle.std.proofs.Common.{rules, ◌≡◌, ◌<◌, ◌≤◌, ◌*◌, ◌^◌, ◌∙◌, length, sym, ap, subst, Some, ℕ, arith}
 use Rattle.std.proofs.Math.ListN.{set}
 use Rattle.zeus_base.specs.TableLaws.{nth_read}
 use Rattle.zeus_lease.specs.Kept.{shown, ask_of}

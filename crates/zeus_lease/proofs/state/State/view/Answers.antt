@@ -1,4 +1,3 @@
-use Rattle.std.proofs.Common.{◌≡◌}
 use Rattle.zeus_base.specs.declared.step.Step.TheVariants.{View as ViewStep}
 use Rattle.zeus_model.specs.World.{happens}
 use Rattle.zeus_lease.specs.Kept.{shown}
