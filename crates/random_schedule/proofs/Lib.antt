@@ -1,0 +1,12 @@
+mod Growing
+mod Rows
+mod Worlds
+mod Making
+mod Elements
+mod Begun
+mod Settling
+mod Running
+mod Turning
+mod StepKinds
+mod Links
+mod LastView

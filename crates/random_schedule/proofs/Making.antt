@@ -1,0 +1,110 @@
+-- A list that a loop makes, one piece after another: what is made, with what the rest makes, stays the whole.
+use Rattle.std.proofs.Common.{ℕ, suc, ◌≡◌, ◌<◌, ◌≤◌, ◌+◌, ◌-◌, Bool, true, false, List, [], ◌∷◌, ◌++◌, Option, Some, None, length, get_or, drop, append_assoc, arith, refl, ap, sym, ◌∙◌}
+use Rattle.std.specs.Prelude.{map, filter, filter_map, if◌then◌else◌, cond}
+use Rattle.std.proofs.Math.ListN.{drop_of_length-le}
+use Rattle.std.proofs.lemmas.List.{drop_more, append-nil}
+use Rattle.zeus_base.specs.Order.{same_stream}
+use Rattle.zeus_base.specs.declared.order.Stream.{Stream}
+use Rattle.zeus_txn.specs.declared.tx.TxDecl.{TxDecl}
+use Rattle.zeus_model.specs.Tables.{numbers_from}
+use Rattle.random_schedule.specs.Choices.{pairs, stream, txs_from}
+use Rattle.random_schedule.specs.Lists.{if_passes, if_there}
+
+-- the next of the elements that are left
+pub one_more : {X Y : Type 0} (F : List X → List Y) (g : X → List Y) → ((x : X) (xs : List X) → F (x ∷ xs) ≡ g x ++ F xs) → (xs : List X) (i : ℕ) (x : X) (out after whole : List Y) → i < length xs → x ≡ get_or xs i x
+    → out ++ F (drop i xs) ≡ whole → after ≡ out ++ g x → after ++ F (drop (i + 1) xs) ≡ whole
+one_more F g cons xs i x out after whole h here kept added =
+    let e = append_assoc out (g x) (F (drop (i + 1) xs)) in
+    let f = cons x (drop (i + 1) xs) in
+    let s = drop_more xs i x h in
+    cc (e, f, s)
+
+-- no element is left
+pub all_done : {X Y : Type 0} (F : List X → List Y) → F [] ≡ [] → (xs : List X) (i : ℕ) (out whole : List Y) → length xs ≤ i → out ++ F (drop i xs) ≡ whole → out ≡ whole
+all_done F nil xs i out whole h kept =
+    let s = drop_of_length-le xs h in
+    let e = append-nil out in
+    cc (s, e, nil)
+
+-- the next of the numbers that are left
+pub count_more : {Y : Type 0} (F : List ℕ → List Y) (g : ℕ → List Y) → ((x : ℕ) (xs : List ℕ) → F (x ∷ xs) ≡ g x ++ F xs) → (i n : ℕ) (out after whole : List Y) → i < n
+    → out ++ F (numbers_from i (n - i)) ≡ whole → after ≡ out ++ g i → after ++ F (numbers_from (i + 1) (n - (i + 1))) ≡ whole
+unfolding numbers_from
+count_more F g cons i n out after whole h kept added =
+    let s : n - i ≡ suc (n - (i + 1)) = omega arith in
+    let t : numbers_from i (n - i) ≡ i ∷ numbers_from (suc i) (n - (i + 1)) = rw s refl in
+    let u : i + 1 ≡ suc i = omega arith in
+    let e = append_assoc out (g i) (F (numbers_from (suc i) (n - (i + 1)))) in
+    let f = cons i (numbers_from (suc i) (n - (i + 1))) in
+    let v : numbers_from (i + 1) (n - (i + 1)) ≡ numbers_from (suc i) (n - (i + 1)) = ap (λ k. numbers_from k (n - (i + 1))) u in
+    cc (t, e, f, v)
+
+-- no number is left
+pub count_done : {Y : Type 0} (F : List ℕ → List Y) → F [] ≡ [] → (i n : ℕ) (out whole : List Y) → n ≤ i → out ++ F (numbers_from i (n - i)) ≡ whole → out ≡ whole
+unfolding numbers_from
+count_done F nil i n out whole h kept =
+    let s : n - i ≡ 0 = omega arith in
+    let t : numbers_from i (n - i) ≡ [] = rw s refl in
+    let e = append-nil out in
+    cc (t, e, nil)
+
+-- ---- what the element adds
+
+passes-cons : {A : Type 0} (test : Bool) (x : A) (ys : List A) → cond test (x ∷ ys) ys ≡ if_passes test x ++ ys
+passes-cons true x ys = refl
+passes-cons false x ys = refl
+
+pub filter-cons : {A : Type 0} (p : A → Bool) (x : A) (xs : List A) → filter p (x ∷ xs) ≡ if_passes (p x) x ++ filter p xs
+filter-cons p x xs = passes-cons (p x) x (filter p xs)
+
+there-cons : {A B : Type 0} (h : A → Option B) (x : A) (xs : List A) (o : Option B) → h x ≡ o → filter_map h (x ∷ xs) ≡ if_there o ++ filter_map h xs
+unfolding if_there
+there-cons h x xs None is = rw is refl
+there-cons h x xs (Some y) is = rw is refl
+
+pub filter_map-cons : {A B : Type 0} (h : A → Option B) (x : A) (xs : List A) → filter_map h (x ∷ xs) ≡ if_there (h x) ++ filter_map h xs
+filter_map-cons h x xs = there-cons h x xs (h x) refl
+
+pub map-cons : {A B : Type 0} (f : A → B) (x : A) (xs : List A) → map f (x ∷ xs) ≡ (f x ∷ []) ++ map f xs
+map-cons f x xs = refl
+
+pub pairs-cons : {A : Type 0} (f : ℕ → ℕ → A) (ns : List ℕ) (m : ℕ) (ms : List ℕ) → pairs f (m ∷ ms) ns ≡ map (f m) ns ++ pairs f ms ns
+unfolding pairs
+pairs-cons f ns m ms = refl
+
+pub pairs-nil : {A : Type 0} (f : ℕ → ℕ → A) (ns : List ℕ) → pairs f [] ns ≡ []
+unfolding pairs
+pairs-nil f ns = refl
+
+-- ---- the transactions of a slot
+
+txs_from-cons : (k : ℕ) (s : Stream) (t : TxDecl) (ts : List TxDecl) → txs_from k s (t ∷ ts) ≡ if_passes (same_stream (stream t.node t.slot) s) k ++ txs_from (suc k) s ts
+unfolding txs_from
+txs_from-cons k s t ts = passes-cons (same_stream (stream t.node t.slot) s) k (txs_from (suc k) s ts)
+
+pub own_more : (s : Stream) (ts : List TxDecl) (i : ℕ) (t : TxDecl) (out after whole : List ℕ) → i < length ts → t ≡ get_or ts i t → out ++ txs_from i s (drop i ts) ≡ whole
+    → after ≡ out ++ if_passes (same_stream (stream t.node t.slot) s) i → after ++ txs_from (i + 1) s (drop (i + 1) ts) ≡ whole
+own_more s ts i t out after whole h here kept added =
+    let e = append_assoc out (if_passes (same_stream (stream t.node t.slot) s) i) (txs_from (suc i) s (drop (i + 1) ts)) in
+    let f = txs_from-cons i s t (drop (i + 1) ts) in
+    let g = drop_more ts i t h in
+    let n : i + 1 ≡ suc i = omega arith in
+    let v : txs_from (i + 1) s (drop (i + 1) ts) ≡ txs_from (suc i) s (drop (i + 1) ts) = ap (λ k. txs_from k s (drop (i + 1) ts)) n in
+    cc (e, f, g, v)
+
+pub own_done : (s : Stream) (ts : List TxDecl) (i : ℕ) (out whole : List ℕ) → length ts ≤ i → out ++ txs_from i s (drop i ts) ≡ whole → out ≡ whole
+unfolding txs_from
+own_done s ts i out whole h kept =
+    let e = drop_of_length-le ts h in
+    let f : txs_from i s [] ≡ [] = refl in
+    let a = append-nil out in
+    cc (e, f, a)
+
+-- ---- what passes a test
+
+pub passes_more : {A : Type 0} (p : A → Bool) (xs : List A) (i : ℕ) (x : A) (out after whole : List A) → i < length xs → x ≡ get_or xs i x → out ++ filter p (drop i xs) ≡ whole → after ≡ out ++ if_passes (p x) x
+    → after ++ filter p (drop (i + 1) xs) ≡ whole
+passes_more p xs i x out after whole h here kept added = one_more (filter p) (λ y. if_passes (p y) y) (filter-cons p) xs i x out after whole h here kept added
+
+pub passes_done : {A : Type 0} (p : A → Bool) (xs : List A) (i : ℕ) (out whole : List A) → length xs ≤ i → out ++ filter p (drop i xs) ≡ whole → out ≡ whole
+passes_done p xs i out whole h kept = all_done (filter p) refl xs i out whole h kept
