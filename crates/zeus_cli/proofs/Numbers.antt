@@ -2,7 +2,7 @@
 use Rattle.std.proofs.Common.{◌≡◌, ◌⊎◌, inl, inr, arith, refl}
 use Rattle.zeus_io.specs.Status.{exit_status}
 use Rattle.zeus_io.specs.declared.status.Status.{Status}
-use Rattle.zeus_io.specs.declared.status.Status.TheVariants.{Done, Unfinished, Usage, Script, ReadFault, WriteFault, OutOfMemory, Unsound}
+use Rattle.zeus_io.specs.declared.status.Status.TheVariants.{Done, Unfinished, Usage, Script, ReadFault, WriteFault, OutOfMemory}
 
 -- the status of number 0 is Done
 pub is_done : (s : Status) → exit_status s ≡ 0 → s ≡ Done
@@ -13,7 +13,6 @@ is_done Script e = absurd (omega (arith, e))
 is_done ReadFault e = absurd (omega (arith, e))
 is_done WriteFault e = absurd (omega (arith, e))
 is_done OutOfMemory e = absurd (omega (arith, e))
-is_done Unsound e = absurd (omega (arith, e))
 
 -- the status of number 5 is WriteFault
 pub is_write_fault : (s : Status) → exit_status s ≡ 5 → s ≡ WriteFault
@@ -24,7 +23,6 @@ is_write_fault Script e = absurd (omega (arith, e))
 is_write_fault ReadFault e = absurd (omega (arith, e))
 is_write_fault WriteFault e = refl
 is_write_fault OutOfMemory e = absurd (omega (arith, e))
-is_write_fault Unsound e = absurd (omega (arith, e))
 
 -- want of memory is another status
 pub no_memory_done : OutOfMemory ≡ Done → ⊥
