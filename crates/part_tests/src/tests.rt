@@ -1,0 +1,11 @@
+mod arbitration;
+mod commit_pipeline;
+mod crash_replay;
+mod directory;
+mod follower_log;
+mod local_txn;
+mod membership;
+mod object_table;
+mod owner_entry;
+mod reliable_commit;
+mod replica_reads;

@@ -1,0 +1,3 @@
+mod script_lang;
+mod zeus_lease;
+mod zeus_text;
