@@ -1,5 +1,5 @@
-mod commit_rules;
-mod local_rules;
-mod lossy_fabric;
-mod tick_rules;
-mod zeus_node;
+mod commit_rules_calls;
+mod local_rules_calls;
+mod lossy_fabric_calls;
+mod tick_rules_calls;
+mod zeus_node_calls;

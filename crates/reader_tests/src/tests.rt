@@ -1,3 +1,3 @@
-mod script_lang;
-mod zeus_lease;
-mod zeus_text;
+mod script_lang_calls;
+mod zeus_lease_calls;
+mod zeus_text_calls;
