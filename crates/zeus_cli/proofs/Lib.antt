@@ -1,4 +1,4 @@
-pub mod Due
+pub mod Ending
 pub mod Numbers
 pub mod Reading
 pub mod Words

@@ -1,5 +1,5 @@
 -- What reading says of bytes.
-use Rattle.std.proofs.Common.{ℕ, ◌≡◌, ◌<◌, false, true, nat_lt, List, length, Ok, Err, ap, refl, arith}
+use Rattle.std.proofs.Common.{ℕ, ◌≡◌, ◌<◌, false, true, nat_lt, List, length, Err, ap, refl, arith}
 use Rattle.std.proofs.lemmas.Bool.Decides.{nat_tests}
 use Rattle.script_lang.specs.Live.{FitsLive}
 use Rattle.script_lang.specs.Reading.{fault_at, script_read}

@@ -1,7 +1,7 @@
 -- What bytes are for the program.
 use Rattle.std.specs.Prelude.{ℕ, List, Option}
-use Rattle.zeus_cli.specs.declared.top.Input.{Input}
-use Rattle.zeus_cli.specs.declared.top.Input.TheVariants.{Script, Refusal}
+use Rattle.zeus_cli.specs.declared.input.Input.{Input}
+use Rattle.zeus_cli.specs.declared.input.Input.TheVariants.{Script, Refusal}
 use Rattle.zeus_cli.specs.Refusal.{IsFaultLine}
 use Rattle.zeus_cli.specs.Top.{IsNoScript, IsRefusal, TakesScript}
 use Rattle.zeus_model.specs.Scripts.{IsSpelled}

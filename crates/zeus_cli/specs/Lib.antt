@@ -1,5 +1,5 @@
 pub mod Top
-pub mod Output
+pub mod Ends
 pub mod Refusal
 pub mod Inputs
 pub mod Command

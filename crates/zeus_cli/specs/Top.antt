@@ -1,5 +1,5 @@
--- What the program does with its words, its source and its sink.
-use Rattle.std.specs.Prelude.{ℕ, ◌≡◌, ◌<◌, ◌⊎◌, List, [], ◌∷◌, map, length, codes, string_bytes, Option, String}
+-- What the program takes from its source, and writes to its sink.
+use Rattle.std.specs.Prelude.{ℕ, ◌≡◌, ◌<◌, ◌⊎◌, List, length, codes, Option}
 use Rattle.std.specs.Io.KnownBytes.{IsAtEnd, Appends}
 use Rattle.zeus_io.specs.Bytes.{Takes, AppendsFront}
 use Rattle.zeus_model.specs.declared.script.Script.{Script}
@@ -15,10 +15,6 @@ usage_line = codes "usage\n"
 -- the longest script, in bytes
 abbrev pub longest : ℕ
 longest = 4194304
-
--- the words are the one word `run`
-abbrev pub AsksRun : {A : Type 0} → List (String A) → Type 0
-AsksRun words = map string_bytes words ≡ codes "run" ∷ []
 
 -- these bytes are the text of no script
 abbrev pub IsNoScript : List ℕ → Type 0
@@ -51,15 +47,6 @@ pub record IsReport (before after : Option (List ℕ)) (text : List ℕ) : Type 
   pub taken : TakesScript before after script
   pub text_is : text ≡ report script
   pub printed : PrintsHistory script text
-
--- what is to be written, by whether the words ask to run a script
-unfoldable pub IsDueIf : Type 0 → Option (List ℕ) → Option (List ℕ) → List ℕ → Type 0
-IsDueIf asks before after text =
-    ((¬ asks) × (text ≡ usage_line)) ⊎ (asks × IsRefusal before after text) ⊎ (asks × IsReport before after text)
-
--- what is to be written
-abbrev pub IsDue : {A : Type 0} → List (String A) → Option (List ℕ) → Option (List ℕ) → List ℕ → Type 0
-IsDue words before after text = IsDueIf (AsksRun words) before after text
 
 -- a text was written whole, behind what the sink held
 pub record Writes (before after : Option (List ℕ)) (P : List ℕ → Type 0) : Type 0 where

@@ -1,0 +1,153 @@
+-- How a command ends: what its answer, its halt and its words tell of the end.
+use Rattle.std.proofs.Common.{ℕ, ◌≡◌, ◌≢◌, ◌∙◌, List, length, map, drop, Option, Some, None, length-append, arith, subst, sym, refl, inl, inr, ap}
+use Rattle.std.specs.Prelude.{◌⊎◌, ◌==◌, Result, Ok, String, string_bytes}
+use Rattle.std.specs.Io.KnownBytes.{Consumes}
+use Rattle.std.specs.Vec.Iter.{into_iter_items}
+use Rattle.std.specs.declared.vec.IntoIter.{IntoIter}
+use Rattle.std.proofs.lemmas.Bool.{cond_both}
+use Rattle.std.proofs.lemmas.List.{append-nil}
+use Rattle.zeus_io.specs.Faults.{Rose}
+use Rattle.zeus_io.specs.Status.{exit_status}
+use Rattle.zeus_io.specs.declared.status.Status.{Status}
+use Rattle.zeus_io.specs.declared.status.Status.TheVariants.{Done, Unfinished, Usage, ReadFault as ReadFaultStatus, WriteFault, OutOfMemory}
+use Rattle.zeus_model.specs.declared.script.Script.{Script}
+use Rattle.zeus_model.specs.Scripts.{IsScript}
+use Rattle.zeus_model.specs.Spelling.{spelling}
+use Rattle.storm.specs.Storm.{storm_end}
+use Rattle.storm.specs.declared.numbers.StormNumbers.{StormNumbers}
+use Rattle.zeus_cli.specs.Command.{Asks, AsksBy, command_words}
+use Rattle.zeus_cli.specs.Ends.{Ends, EndsBy, EndsByArgs, IsAnswer, IsHalt, IsWritten, status_of_halt, storm_status}
+use Rattle.zeus_cli.specs.Top.{AreNoScript, IsRefusal, TakesNoScript}
+use Rattle.zeus_cli.specs.declared.command.Command.{Command}
+use Rattle.zeus_cli.specs.declared.command.Command.TheVariants.{Run, Storm}
+use Rattle.zeus_cli.specs.declared.input.Halt.{Halt}
+use Rattle.zeus_cli.specs.declared.input.Halt.TheVariants.{ReadFault, NoMemory}
+
+-- ---- the status of an answer
+
+storm_plain : (n : StormNumbers) → (storm_status n ≡ Done) ⊎ (storm_status n ≡ Unfinished)
+unfolding storm_status
+storm_plain n =
+    cond_both ((storm_end n).unfinished == 0) Done Unfinished (λ (s : Status). (s ≡ Done) ⊎ (s ≡ Unfinished)) (λ _. inl refl) (λ _. inr refl)
+
+-- an answer's status is none of a fault, and none of want of memory
+pub record IsPlain (status : Status) : Type 0 where
+  pub written : status ≢ WriteFault
+  pub read : status ≢ ReadFaultStatus
+  pub memory : status ≢ OutOfMemory
+
+plain_storm : (n : StormNumbers) (status : Status) → status ≡ storm_status n → IsPlain status
+plain_storm n status is =
+    elim (storm_plain n) [
+      | inl done ↦ record { written = λ e. cc (done, is, e); read = λ e. cc (done, is, e); memory = λ e. cc (done, is, e) }
+      | inr left ↦ record { written = λ e. cc (left, is, e); read = λ e. cc (left, is, e); memory = λ e. cc (left, is, e) }
+    ]
+
+pub answer-plain : (c : Option Command) (before after : Option (List ℕ)) (status : Status) (text : List ℕ) → IsAnswer c before after status text → IsPlain status
+answer-plain None before after status text h = record { written = λ e. cc (h.0, e); read = λ e. cc (h.0, e); memory = λ e. cc (h.0, e) }
+answer-plain (Some Run) before after status text (inl h) = record { written = λ e. cc (h.0, e); read = λ e. cc (h.0, e); memory = λ e. cc (h.0, e) }
+answer-plain (Some Run) before after status text (inr h) = record { written = λ e. cc (h.0, e); read = λ e. cc (h.0, e); memory = λ e. cc (h.0, e) }
+answer-plain (Some (Storm n)) before after status text h = plain_storm n status h.status_is
+
+pub usage-plain : IsPlain Usage
+usage-plain = record { written = λ e. cc e; read = λ e. cc e; memory = λ e. cc e }
+
+-- ---- a text that is written
+
+-- what is written of an answer is an end of its command
+pub written_ends : (c : Option Command) (before after held now : Option (List ℕ)) (faults later : ℕ) (status result : Status) (text : List ℕ) → IsAnswer c before after status text
+    → IsWritten held now faults later text status result → Ends c before after held now result
+written_ends c before after held now faults later status result text answer (inl w) =
+    inl record { text = text; written = w.2; is_so = rw w.0 answer }
+written_ends c before after held now faults later status result text answer (inr w) =
+    inr (inl (w.0, record { text = text; written = w.2; is_so = record { status = status; answer = answer } }))
+
+-- the same of a text that is shown
+pub shown_ends : (c : Option Command) (before after held now : Option (List ℕ)) (faults later : ℕ) (status result : Status) (shown text : List ℕ) → shown ≡ text → IsAnswer c before after status text
+    → IsWritten held now faults later shown status result → Ends c before after held now result
+shown_ends c before after held now faults later status result shown text same answer written =
+    let shows = subst (λ (t : List ℕ). IsAnswer c before after status t) (sym same) answer in
+    written_ends c before after held now faults later status result shown shows written
+
+-- the sink failed exactly if that is the end
+pub written_fault : (faults later : ℕ) (held now : Option (List ℕ)) (status result : Status) (text : List ℕ) → IsPlain status → IsWritten held now faults later text status result
+    → result ≡ WriteFault → Rose faults later
+written_fault faults later held now status result text plain (inl w) e = absurd (plain.written (sym w.0 ∙ e))
+written_fault faults later held now status result text plain (inr w) e = w.1
+
+pub written_plain : (faults later : ℕ) (held now : Option (List ℕ)) (status result : Status) (text : List ℕ) → IsPlain status → IsWritten held now faults later text status result
+    → (result ≢ ReadFaultStatus) × (result ≢ OutOfMemory)
+written_plain faults later held now status result text plain (inl w) = (λ e. plain.read (sym w.0 ∙ e), λ e. plain.memory (sym w.0 ∙ e))
+written_plain faults later held now status result text plain (inr w) = (λ e. cc (w.0, e), λ e. cc (w.0, e))
+
+-- ---- a script is answered by its report
+
+-- bytes that make no script are not all of the text of one
+all_taken : (bytes taken : List ℕ) (after : Option (List ℕ)) (s : Script) → Consumes (Some bytes) after taken → bytes ≡ spelling s → IsScript s → AreNoScript after taken → ⊥
+all_taken bytes taken None s c e is_script n = c
+all_taken bytes taken (Some rest) s c e is_script n =
+    elim n.whole [
+      | inl none_left ↦
+          let same : taken ≡ spelling s = cc (append-nil taken) in
+          n.none s record { script = is_script; spelled = same }
+      | inr longer ↦ omega (arith, ap length c, ap length e, length-append taken rest, is_script.few_bytes, longer)
+    ]
+
+-- where all that was left is the text of a script, no taking of its bytes is that of none
+script_is_taken : (before after : Option (List ℕ)) (s : Script) → before ≡ Some (spelling s) → IsScript s → TakesNoScript before after → ⊥
+script_is_taken before after s known is_script t =
+    let P : Option (List ℕ) → Type 0 = λ old. Consumes old after t.taken in
+    all_taken (spelling s) t.taken after s (subst P known t.from_front) refl is_script t.holds
+
+never_refused : (before after : Option (List ℕ)) (s : Script) (text : List ℕ) → before ≡ Some (spelling s) → IsScript s → IsRefusal before after text → ⊥
+never_refused before after s text known is_script t =
+    script_is_taken before after s known is_script record { taken = t.taken; from_front = t.from_front; holds = t.holds.no_script }
+
+-- the answer to `run`, where a script is left, is done
+pub script_done : (c : Command) (words : List (List ℕ)) (before after : Option (List ℕ)) (s : Script) (status : Status) (text : List ℕ) → words ≡ command_words c → words ≡ command_words Run
+    → before ≡ Some (spelling s) → IsScript s → IsAnswer (Some c) before after status text → status ≡ Done
+script_done Run words before after s status text e f known is_script (inl h) = h.0
+script_done Run words before after s status text e f known is_script (inr h) = absurd (never_refused before after s text known is_script h.1)
+script_done (Storm n) words before after s status text e f known is_script h = absurd cc
+
+pub written_done : (faults later : ℕ) (held now : Option (List ℕ)) (status result : Status) (text : List ℕ) → status ≡ Done → ¬ Rose faults later → IsWritten held now faults later text status result → result ≡ Done
+written_done faults later held now status result text done quiet (inl w) = w.0 ∙ done
+written_done faults later held now status result text done quiet (inr w) = absurd (quiet w.1)
+
+-- ---- from the arguments
+
+pub ends_by_args : {A E : Type 0} (args : Result (IntoIter (String A) A) E) (it : IntoIter (String A) A) (words : List (String A)) (before after held now : Option (List ℕ)) (status : Status) (number : ℕ)
+    → args ≡ Ok it → words ≡ drop 1 (into_iter_items it) → EndsBy (map string_bytes words) before after held now status → number ≡ exit_status status → EndsByArgs args before after held now number
+ends_by_args {A} {E} args it words before after held now status number is same ends number_is =
+    let P : List (String A) → Type 0 = λ ws. Asks (map string_bytes ws) ends.command in
+    let asked : AsksBy {A = A} {E = E} (Ok it) ends.command = subst P same ends.asked in
+    record {
+      command = ends.command;
+      asked = subst (λ (r : Result (IntoIter (String A) A) E). AsksBy r ends.command) (sym is) asked;
+      status = status;
+      number_is = number_is;
+      ends = ends.ends;
+    }
+
+-- what the same words ask for
+pub asked_as : {A : Type 0} (words same_words : List (String A)) (c found : Option Command) → words ≡ same_words → c ≡ found → Asks (map string_bytes words) c → Asks (map string_bytes same_words) found
+asked_as {A} words same_words c found same is asked =
+    subst (λ (o : Option Command). Asks (map string_bytes same_words) o) is (subst (λ (ws : List (String A)). Asks (map string_bytes ws) c) same asked)
+
+-- a halt is an end of its command
+pub halt_ends : (c : Command) (before after held now : Option (List ℕ)) (halt : Halt) (status : Status) → IsHalt (Some c) (status_of_halt halt) → status ≡ status_of_halt halt → now ≡ held → Ends (Some c) before after held now status
+halt_ends c before after held now halt status h is same =
+    inr (inr (subst (λ (s : Status). IsHalt (Some c) s) (sym is) h, same))
+
+-- a halt that is the end, by its status
+pub halt_read : (halt : Halt) (status : Status) → status ≡ status_of_halt halt → status ≡ ReadFaultStatus → halt ≡ ReadFault
+halt_read ReadFault status is e = refl
+halt_read NoMemory status is e = absurd (cc (is, e))
+
+pub halt_unwritten : (halt : Halt) (status : Status) → status ≡ status_of_halt halt → status ≢ WriteFault
+halt_unwritten ReadFault status is = λ e. cc (is, e)
+halt_unwritten NoMemory status is = λ e. cc (is, e)
+
+pub halt_starved : (halt : Halt) (status : Status) → status ≡ status_of_halt halt → halt ≢ ReadFault → status ≡ OutOfMemory
+halt_starved ReadFault status is other = absurd (other refl)
+halt_starved NoMemory status is other = is
