@@ -1,23 +1,27 @@
 -- How a command ends: what its answer, its halt and its words tell of the end.
-use Rattle.std.proofs.Common.{ℕ, ◌≡◌, ◌≢◌, ◌∙◌, List, length, map, drop, Option, Some, None, length-append, arith, subst, sym, refl, inl, inr, ap}
-use Rattle.std.specs.Prelude.{◌⊎◌, ◌==◌, Result, Ok, String, string_bytes}
+use Rattle.std.proofs.Common.{ℕ, ◌≡◌, ◌≢◌, ◌≤◌, ◌∙◌, false, List, length, map, drop, Option, Some, None, length-append, arith, subst, sym, refl, inl, inr, ap}
+use Rattle.std.specs.Prelude.{◌⊎◌, ◌==◌, Result, Ok, Err, String, string_bytes}
 use Rattle.std.specs.Io.KnownBytes.{Consumes}
 use Rattle.std.specs.Vec.Iter.{into_iter_items}
 use Rattle.std.specs.declared.vec.IntoIter.{IntoIter}
 use Rattle.std.proofs.lemmas.Bool.{cond_both}
 use Rattle.std.proofs.lemmas.List.{append-nil}
+use Rattle.zeus_io.specs.Bytes.{Takes}
 use Rattle.zeus_io.specs.Faults.{Rose}
 use Rattle.zeus_io.specs.Status.{exit_status}
 use Rattle.zeus_io.specs.declared.status.Status.{Status}
 use Rattle.zeus_io.specs.declared.status.Status.TheVariants.{Done, Unfinished, Usage, ReadFault as ReadFaultStatus, WriteFault, OutOfMemory}
-use Rattle.zeus_model.specs.declared.script.Script.{Script}
-use Rattle.zeus_model.specs.Scripts.{IsScript}
-use Rattle.zeus_model.specs.Spelling.{spelling}
+use Rattle.zeus_model.specs.declared.fault.ScriptFault.{ScriptFault}
+use Rattle.script_lang.specs.OneFault.{SpellsScript}
+use Rattle.script_lang.specs.Reading.{script_read}
 use Rattle.storm.specs.Storm.{storm_end}
 use Rattle.storm.specs.declared.numbers.StormNumbers.{StormNumbers}
 use Rattle.zeus_cli.specs.Command.{Asks, AsksBy, command_words}
-use Rattle.zeus_cli.specs.Ends.{Ends, EndsBy, EndsByArgs, IsAnswer, IsHalt, IsWritten, status_of_halt, storm_status}
-use Rattle.zeus_cli.specs.Top.{AreNoScript, IsRefusal, TakesNoScript}
+use Rattle.zeus_cli.specs.Ends.{Ends, EndsBy, EndsByArgs, HasInput, IsAnswer, IsAnswered, IsComplete, IsCompleteBy, IsHalt, IsWritten, status_of_halt}
+use Rattle.zeus_cli.specs.Inputs.{Holds}
+use Rattle.zeus_cli.specs.Refusal.{IsRefused}
+use Rattle.zeus_cli.specs.Runs.{IsNoScript, IsRefusal, longest}
+use Rattle.zeus_cli.specs.Storms.{storm_status}
 use Rattle.zeus_cli.specs.declared.command.Command.{Command}
 use Rattle.zeus_cli.specs.declared.command.Command.TheVariants.{Run, Storm}
 use Rattle.zeus_cli.specs.declared.input.Halt.{Halt}
@@ -80,39 +84,54 @@ pub written_plain : (faults later : ℕ) (held now : Option (List ℕ)) (status 
 written_plain faults later held now status result text plain (inl w) = (λ e. plain.read (sym w.0 ∙ e), λ e. plain.memory (sym w.0 ∙ e))
 written_plain faults later held now status result text plain (inr w) = (λ e. cc (w.0, e), λ e. cc (w.0, e))
 
--- ---- a script is answered by its report
+-- ---- an input of a command is answered
 
--- bytes that make no script are not all of the text of one
-all_taken : (bytes taken : List ℕ) (after : Option (List ℕ)) (s : Script) → Consumes (Some bytes) after taken → bytes ≡ spelling s → IsScript s → AreNoScript after taken → ⊥
-all_taken bytes taken None s c e is_script n = c
-all_taken bytes taken (Some rest) s c e is_script n =
+-- bytes that are no input are not all of one
+all_taken : {A : Type 0} (read : List ℕ → Result A ScriptFault) (IsNone : List ℕ → Type 0) (most : ℕ) (bytes taken text : List ℕ) (after : Option (List ℕ)) → Consumes (Some bytes) after taken → length bytes ≤ most
+    → ¬ IsNone bytes → IsRefused read IsNone most after text taken → ⊥
+all_taken read IsNone most bytes taken text None c few is_input n = c
+all_taken read IsNone most bytes taken text (Some rest) c few is_input n =
     elim n.whole [
       | inl none_left ↦
-          let same : taken ≡ spelling s = cc (append-nil taken) in
-          n.none s record { script = is_script; spelled = same }
-      | inr longer ↦ omega (arith, ap length c, ap length e, length-append taken rest, is_script.few_bytes, longer)
+          let same : taken ≡ bytes = cc (append-nil taken) in
+          is_input (subst (λ (b : List ℕ). IsNone b) same n.none)
+      | inr longer ↦ omega (arith, ap length c, length-append taken rest, few, longer)
     ]
 
--- where all that was left is the text of a script, no taking of its bytes is that of none
-script_is_taken : (before after : Option (List ℕ)) (s : Script) → before ≡ Some (spelling s) → IsScript s → TakesNoScript before after → ⊥
-script_is_taken before after s known is_script t =
+-- where all that was left is an input, no taking of its bytes is that of none
+never_refused : {A : Type 0} (read : List ℕ → Result A ScriptFault) (IsNone : List ℕ → Type 0) (most : ℕ) (before after : Option (List ℕ)) (bytes text : List ℕ) → before ≡ Some bytes → length bytes ≤ most
+    → ¬ IsNone bytes → Takes before after (IsRefused read IsNone most after text) → ⊥
+never_refused read IsNone most before after bytes text known few is_input t =
     let P : Option (List ℕ) → Type 0 = λ old. Consumes old after t.taken in
-    all_taken (spelling s) t.taken after s (subst P known t.from_front) refl is_script t.holds
+    all_taken read IsNone most bytes t.taken text after (subst P known t.from_front) few is_input t.holds
 
-never_refused : (before after : Option (List ℕ)) (s : Script) (text : List ℕ) → before ≡ Some (spelling s) → IsScript s → IsRefusal before after text → ⊥
-never_refused before after s text known is_script t =
-    script_is_taken before after s known is_script record { taken = t.taken; from_front = t.from_front; holds = t.holds.no_script }
+script_kept : (before after : Option (List ℕ)) (text : List ℕ) → Holds before (SpellsScript false) → IsRefusal before after text → ⊥
+script_kept before after text h t =
+    let s = h.is_so in
+    never_refused (script_read false) IsNoScript longest before after h.bytes text h.known (omega (arith, s.spelled.script.few_bytes, ap length s.spelled.spelled)) (λ none. none s.script s.spelled) t
 
--- the answer to `run`, where a script is left, is done
-pub script_done : (c : Command) (words : List (List ℕ)) (before after : Option (List ℕ)) (s : Script) (status : Status) (text : List ℕ) → words ≡ command_words c → words ≡ command_words Run
-    → before ≡ Some (spelling s) → IsScript s → IsAnswer (Some c) before after status text → status ≡ Done
-script_done Run words before after s status text e f known is_script (inl h) = h.0
-script_done Run words before after s status text e f known is_script (inr h) = absurd (never_refused before after s text known is_script h.1)
-script_done (Storm n) words before after s status text e f known is_script h = absurd cc
+-- the answer to a command is one to its input, where there is one
+run_answered : (found : Command) (words : List (List ℕ)) (before after : Option (List ℕ)) (status : Status) (text : List ℕ) → words ≡ command_words found → words ≡ command_words Run
+    → HasInput Run before → IsAnswer (Some found) before after status text → status ≡ Done
+run_answered Run words before after status text e f has (inl h) = h.0
+run_answered Run words before after status text e f has (inr h) = absurd (script_kept before after text has h.1)
+run_answered (Storm n) words before after status text e f has h = absurd cc
 
-pub written_done : (faults later : ℕ) (held now : Option (List ℕ)) (status result : Status) (text : List ℕ) → status ≡ Done → ¬ Rose faults later → IsWritten held now faults later text status result → result ≡ Done
-written_done faults later held now status result text done quiet (inl w) = w.0 ∙ done
-written_done faults later held now status result text done quiet (inr w) = absurd (quiet w.1)
+storm_answered : (found : Command) (words : List (List ℕ)) (before after : Option (List ℕ)) (n : StormNumbers) (status : Status) (text : List ℕ) → words ≡ command_words found → words ≡ command_words (Storm n)
+    → IsAnswer (Some found) before after status text → IsAnswered (Storm n) status
+storm_answered Run words before after n status text e f h = absurd cc
+storm_answered (Storm m) words before after n status text e f h = elim (storm_plain m) [ inl done ↦ inl (h.status_is ∙ done) | inr left ↦ inr (h.status_is ∙ left) ]
+
+pub input_answered : (c found : Command) (words : List (List ℕ)) (before after : Option (List ℕ)) (status : Status) (text : List ℕ) → words ≡ command_words found → words ≡ command_words c → HasInput c before
+    → IsAnswer (Some found) before after status text → IsAnswered c status
+input_answered Run found words before after status text e f has h = run_answered found words before after status text e f has h
+input_answered (Storm n) found words before after status text e f has h = storm_answered found words before after n status text e f h
+
+-- of a text that is written without a fault the status is the end
+pub written_complete : (c : Command) (faults later : ℕ) (held now : Option (List ℕ)) (status result : Status) (text : List ℕ) → IsAnswered c status → ¬ Rose faults later
+    → IsWritten held now faults later text status result → IsComplete c result
+written_complete c faults later held now status result text answered quiet (inl w) = inl (subst (λ (s : Status). IsAnswered c s) (sym w.0) answered)
+written_complete c faults later held now status result text answered quiet (inr w) = absurd (quiet w.1)
 
 -- ---- from the arguments
 
@@ -128,6 +147,18 @@ ends_by_args {A} {E} args it words before after held now status number is same e
       number_is = number_is;
       ends = ends.ends;
     }
+
+-- arguments ask for a command where the words behind the program's name do
+pub complete_by_args : {A E P : Type 0} (args : Result (IntoIter (String A) A) E) (it : IntoIter (String A) A) (words : List (String A)) (c : Command) → args ≡ Ok it → words ≡ drop 1 (into_iter_items it)
+    → AsksBy args (Some c) → (Asks (map string_bytes words) (Some c) → P) → P
+complete_by_args {A} {E} {P} args it words c is same asked goes =
+    let asks : AsksBy {A = A} {E = E} (Ok it) (Some c) = subst (λ (r : Result (IntoIter (String A) A) E). AsksBy r (Some c)) is asked in
+    goes (subst (λ (ws : List (String A)). Asks (map string_bytes ws) (Some c)) (sym same) asks)
+
+pub asks_no_error : {A E : Type 0} (args : Result (IntoIter (String A) A) E) (error : E) (c : Command) → args ≡ Err error → AsksBy args (Some c) → ⊥
+asks_no_error {A} {E} args error c is asked =
+    let none : AsksBy {A = A} {E = E} (Err error) (Some c) = subst (λ (r : Result (IntoIter (String A) A) E). AsksBy r (Some c)) is asked in
+    cc none
 
 -- what the same words ask for
 pub asked_as : {A : Type 0} (words same_words : List (String A)) (c found : Option Command) → words ≡ same_words → c ≡ found → Asks (map string_bytes words) c → Asks (map string_bytes same_words) found

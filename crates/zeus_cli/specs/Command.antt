@@ -23,7 +23,7 @@ abbrev pub IsCommand : Command → Type 0
 IsCommand Run = Unit {0}
 IsCommand (Storm n) = AreInRange n
 
--- words ask for the command whose words they are, and for nothing where they are those of none
+-- words ask for the command whose words they are, and for nothing if they are those of none
 abbrev pub Asks : List (List ℕ) → Option Command → Type 0
 Asks words None = (c : Command) → IsCommand c → words ≢ command_words c
 Asks words (Some c) = IsCommand c × (words ≡ command_words c)
@@ -33,9 +33,16 @@ abbrev pub AsksBy : {A E : Type 0} → Result (IntoIter (String A) A) E → Opti
 AsksBy (Ok args) c = Asks (map string_bytes (drop 1 (into_iter_items args))) c
 AsksBy (Err e) c = c ≡ None
 
--- the words ask for input
-abbrev pub AsksInput : List (List ℕ) → Type 0
-AsksInput words = words ≡ command_words Run
+-- the command reads the source
+abbrev pub Reads : Command → Type 0
+Reads Run = Unit {0}
+Reads (Storm n) = ⊥
+
+-- the words are those of a command that reads the source
+pub record AsksInput (words : List (List ℕ)) : Type 0 where
+  pub command : Command
+  pub reads : Reads command
+  pub asked : words ≡ command_words command
 
 abbrev pub AsksInputBy : {A E : Type 0} → Result (IntoIter (String A) A) E → Type 0
 AsksInputBy (Ok args) = AsksInput (map string_bytes (drop 1 (into_iter_items args)))

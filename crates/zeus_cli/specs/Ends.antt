@@ -1,18 +1,17 @@
 -- How the program ends: what it answers to each command, and what it writes.
-use Rattle.std.specs.Prelude.{ℕ, ◌≡◌, ◌==◌, ◌⊎◌, List, take, Option, Some, None, Result, String, if◌then◌else◌}
+use Rattle.std.specs.Prelude.{ℕ, ◌≡◌, ◌⊎◌, false, List, codes, Option, Some, None, Result, String}
 use Rattle.std.specs.Io.KnownBytes.{Appends}
 use Rattle.std.specs.declared.vec.IntoIter.{IntoIter}
+use Rattle.script_lang.specs.OneFault.{SpellsScript}
 use Rattle.zeus_io.specs.Bytes.{AppendsFront}
 use Rattle.zeus_io.specs.Faults.{Rose}
 use Rattle.zeus_io.specs.Status.{exit_status}
 use Rattle.zeus_io.specs.declared.status.Status.{Status}
-use Rattle.zeus_io.specs.declared.status.Status.TheVariants.{Done, Unfinished, Usage, Script, ReadFault as ReadFaultStatus, WriteFault, OutOfMemory}
-use Rattle.soundness.specs.Promise.{KeepsPromise}
-use Rattle.storm.specs.Storm.{storm_end, storm_start, storm_steps}
-use Rattle.storm.specs.Summary.{summary}
-use Rattle.storm.specs.declared.numbers.StormNumbers.{StormNumbers}
+use Rattle.zeus_io.specs.declared.status.Status.TheVariants.{Done, Unfinished, Usage, ReadFault as ReadFaultStatus, WriteFault, OutOfMemory}
 use Rattle.zeus_cli.specs.Command.{Asks, AsksBy}
-use Rattle.zeus_cli.specs.Top.{usage_line, IsRefusal, IsReport, Writes, WritesFront}
+use Rattle.zeus_cli.specs.Inputs.{Holds}
+use Rattle.zeus_cli.specs.Runs.{IsRunAnswer}
+use Rattle.zeus_cli.specs.Storms.{IsStormAnswer}
 use Rattle.zeus_cli.specs.declared.command.Command.{Command}
 use Rattle.zeus_cli.specs.declared.command.Command.TheVariants.{Run, Storm}
 use Rattle.zeus_cli.specs.declared.input.Halt.{Halt}
@@ -20,25 +19,25 @@ use Rattle.zeus_cli.specs.declared.input.Halt.TheVariants.{ReadFault, NoMemory}
 
 -- ---- the answer to each command: its status and its text
 
--- to `run` the report of the script, or the line for bytes that are none
-abbrev pub IsRunAnswer : Option (List ℕ) → Option (List ℕ) → Status → List ℕ → Type 0
-IsRunAnswer before after status text = ((status ≡ Done) × IsReport before after text) ⊎ ((status ≡ Script) × IsRefusal before after text)
-
--- a storm is finished where each of its transactions is closed
-unfoldable pub storm_status : StormNumbers → Status
-storm_status n = if (storm_end n).unfinished == 0 then Done else Unfinished
-
--- to `storm` the summary of the storm, whose run keeps the whole promise after each of its steps
-pub record IsStormAnswer (n : StormNumbers) (status : Status) (text : List ℕ) : Type 0 where
-  pub status_is : status ≡ storm_status n
-  pub text_is : text ≡ summary (storm_end n)
-  pub promise : (k : ℕ) → KeepsPromise (storm_start n) (take k (storm_steps n))
+-- the line for words that the program does not know
+abbrev pub usage_line : List ℕ
+usage_line = codes "usage\n"
 
 -- the answer to a command, by what was taken from the source; to other words the line `usage`
 abbrev pub IsAnswer : Option Command → Option (List ℕ) → Option (List ℕ) → Status → List ℕ → Type 0
 IsAnswer None before after status text = (status ≡ Usage) × (text ≡ usage_line)
 IsAnswer (Some Run) before after status text = IsRunAnswer before after status text
 IsAnswer (Some (Storm n)) before after status text = IsStormAnswer n status text
+
+-- the source tells that it has an input of the command left; a storm reads none
+abbrev pub HasInput : Command → Option (List ℕ) → Type 0
+HasInput Run before = Holds before (SpellsScript false)
+HasInput (Storm n) before = Unit {0}
+
+-- the statuses of the answers to an input
+abbrev pub IsAnswered : Command → Status → Type 0
+IsAnswered Run status = status ≡ Done
+IsAnswered (Storm n) status = (status ≡ Done) ⊎ (status ≡ Unfinished)
 
 -- ---- the end
 
@@ -51,6 +50,18 @@ IsHalt (Some (Storm n)) status = status ≡ OutOfMemory
 abbrev pub status_of_halt : Halt → Status
 status_of_halt ReadFault = ReadFaultStatus
 status_of_halt NoMemory = OutOfMemory
+
+-- a text was written whole, behind what the sink held
+pub record Writes (before after : Option (List ℕ)) (P : List ℕ → Type 0) : Type 0 where
+  pub text : List ℕ
+  pub written : Appends before after text
+  pub is_so : P text
+
+-- the front of a text was written, and not all of it
+pub record WritesFront (before after : Option (List ℕ)) (P : List ℕ → Type 0) : Type 0 where
+  pub text : List ℕ
+  pub written : AppendsFront before after text
+  pub is_so : P text
 
 -- this is the text of an answer, whatever the status of that
 pub record IsText (c : Option Command) (before after : Option (List ℕ)) (text : List ℕ) : Type 0 where
@@ -84,6 +95,15 @@ pub record IsStarved (before after held now : Option (List ℕ)) (number : ℕ) 
   pub number_is : number ≡ exit_status OutOfMemory
   pub unread : after ≡ before
   pub unwritten : now ≡ held
+
+-- memory ran out, or the status is one of the answers to an input of the command
+abbrev pub IsComplete : Command → Status → Type 0
+IsComplete c status = IsAnswered c status ⊎ (status ≡ OutOfMemory)
+
+pub record IsCompleteBy (c : Command) (number : ℕ) : Type 0 where
+  pub status : Status
+  pub number_is : number ≡ exit_status status
+  pub complete : IsComplete c status
 
 -- ---- the writing
 

@@ -1,5 +1,6 @@
-pub mod Top
-pub mod Ends
-pub mod Refusal
-pub mod Inputs
 pub mod Command
+pub mod Ends
+pub mod Inputs
+pub mod Refusal
+pub mod Runs
+pub mod Storms

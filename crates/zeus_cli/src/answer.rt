@@ -1,17 +1,15 @@
-//! The answers to the commands, and the writing of them.
-ghost use Rattle.std.specs.Prelude.{◌≡◌, ◌≢◌, ◌<◌, ◌≤◌, IfErr, IfOk, IsErrOf, Some};
-ghost use Rattle.zeus_io.specs.Faults.{Rose};
-ghost use Rattle.storm.specs.Numbers.{AreInRange};
-ghost use Rattle.zeus_cli.specs.Command.{IsCommand};
-ghost use Rattle.zeus_cli.specs.Ends.{IsAnswer, IsHalt, IsRunAnswer, IsStormAnswer, IsWritten, status_of_halt};
+//! Answers, the refusal of bytes that are no input, and the writing of an answer.
+ghost use Rattle.std.specs.Prelude.{◌≡◌, IfOk};
+ghost use Rattle.script_lang.specs.Reading.{fault_at};
+ghost use Rattle.zeus_model.specs.declared.fault.Kind.TheVariants.{Size};
+ghost use Rattle.zeus_cli.specs.Ends.{IsWritten};
+ghost use Rattle.zeus_cli.specs.Refusal.{fault_line};
 
-use crate::command::Command;
-use crate::input::{Halt, Input, read};
+use crate::fault::fault_line;
 use std::alloc::Global;
-use storm::{StormNumbers, storm_run, summary};
 use zeus_base::NoMemory;
-use zeus_io::{Sink, Source, Status, WriteFault, write_all};
-use zeus_report::report;
+use zeus_io::{Sink, Status, WriteFault, write_all};
+use zeus_model::{Kind, ScriptFault};
 
 /// An answer: what is to be written, and the status that goes with it.
 #[derive(Debug, Drop)]
@@ -20,62 +18,27 @@ pub(crate) struct Answer {
     pub(crate) text: Vec<u8>,
 }
 
-/// The report of the script that the source gives, or the line for bytes that are none.
-fn run_script<S: Source>(alloc: Global, source: &mut S) -> Result<Answer, Halt>
-    ensures answer { IfOk result (λ a. IsRunAnswer (S.left source.old) (S.left source.new) a.status a.text.items) }
-    ensures fault { IsErrOf result Halt.ReadFault → Rose (S.faults source.old) (S.faults source.new) }
-    ensures told { S.faults source.old < S.faults source.new → IsErrOf result Halt.ReadFault }
-    ensures later { S.faults source.old ≤ S.faults source.new }
+/// The answer to bytes that have this fault.
+pub(crate) fn refuse(alloc: Global, fault: &ScriptFault) -> Result<Answer, NoMemory>
+    ensures status { IfOk result (λ a. a.status ≡ Status.Script) }
+    ensures line { IfOk result (λ a. a.text.items ≡ fault_line fault.now) }
 {
-    match read(alloc, source)? {
-        Input::Refusal(line) => Ok(Answer {
-            status: Status::Script,
-            text: line,
-        }),
-        Input::Script(script) => {
-            let (text, _world) = report(alloc, &script)?;
-            Ok(Answer {
-                status: Status::Done,
-                text,
-            })
-        }
-    }
+    Ok(Answer {
+        status: Status::Script,
+        text: fault_line(alloc, fault)?,
+    })
 }
 
-/// The summary of the storm.
-#[tactic(auto, unfolding(crate::specs::Ends::storm_status))]
-fn run_storm(alloc: Global, numbers: &StormNumbers) -> Result<Answer, NoMemory>
-    requires { AreInRange numbers.now }
-    ensures { IfOk result (λ a. IsStormAnswer numbers.now a.status a.text.items) }
+/// The answer to more bytes than the command can take.
+pub(crate) fn refuse_size(alloc: Global) -> Result<Answer, NoMemory>
+    ensures status { IfOk result (λ a. a.status ≡ Status.Script) }
+    ensures line { IfOk result (λ a. a.text.items ≡ fault_line (fault_at 0 Size)) }
 {
-    let end = storm_run(alloc, numbers)?;
-    let text = summary(alloc, &end)?;
-    let status = if end.unfinished == 0 {
-        Status::Done
-    } else {
-        Status::Unfinished
+    let size = ScriptFault {
+        line: 0,
+        kind: Kind::Size,
     };
-    Ok(Answer { status, text })
-}
-
-/// The answer to a command.
-pub(crate) fn answer_to<S: Source>(
-    alloc: Global,
-    command: &Command,
-    source: &mut S,
-) -> Result<Answer, Halt>
-    requires { IsCommand command.now }
-    ensures answer { IfOk result (λ a. IsAnswer (Some command.now) (S.left source.old) (S.left source.new) a.status a.text.items) }
-    ensures halt { IfErr result (λ h. IsHalt (Some command.now) (status_of_halt h)) }
-    ensures no_input { command.now ≢ Command.Run → source.new ≡ source.old }
-    ensures fault { IsErrOf result Halt.ReadFault → Rose (S.faults source.old) (S.faults source.new) }
-    ensures told { S.faults source.old < S.faults source.new → IsErrOf result Halt.ReadFault }
-    ensures later { S.faults source.old ≤ S.faults source.new }
-{
-    match command {
-        Command::Run => run_script(alloc, source),
-        Command::Storm(numbers) => Ok(run_storm(alloc, numbers)?),
-    }
+    refuse(alloc, &size)
 }
 
 /// Writes the text of an answer. Gives the status of the answer, or that the sink failed.

@@ -1,19 +1,12 @@
-//! What the source gives: a script, or the line for bytes that are none.
-ghost use Rattle.std.specs.Prelude.{◌≡◌, ◌<◌, ◌≤◌, ℕ, List, IfOk, IsErrOf, length};
+//! What the source gives to a command.
+ghost use Rattle.std.specs.Prelude.{◌≡◌, ◌<◌, ◌≤◌, IfOk, IsErrOf};
 ghost use Rattle.zeus_io.specs.Faults.{Rose};
 ghost use Rattle.zeus_cli.specs.Ends.{status_of_halt};
-ghost use Rattle.zeus_cli.specs.Inputs.{IsInput, TakesInput};
-ghost use Rattle.zeus_cli.specs.Top.{longest};
+ghost use Rattle.zeus_cli.specs.Inputs.{TakesInput};
 
-use crate::fault::fault_line;
-use script_lang::{ReadScript, read_script};
 use std::alloc::Global;
 use zeus_base::NoMemory;
 use zeus_io::{ReadEnd, Source, Status, read_all};
-use zeus_model::{Kind, Script, ScriptFault};
-
-/// The most bytes that a script may have.
-const LONGEST: usize = 4_194_304;
 
 /// Why there is no answer.
 #[derive(Clone, Copy, Debug, PartialEq, Eq)]
@@ -43,45 +36,25 @@ impl Halt {
     }
 }
 
-/// What bytes give: a script, or the line that says why they give none.
+/// What the source gave.
 #[derive(Drop)]
 pub(crate) enum Input {
-    Script(Script),
-    Refusal(Vec<u8>),
+    /// All bytes that it had left.
+    Whole(Vec<u8>),
+    /// More bytes than the command can take.
+    TooLong,
 }
 
-/// The script that these bytes spell, or the line for bytes that spell none.
-fn script_of(alloc: Global, bytes: &[u8]) -> Result<Input, NoMemory>
-    ensures { IfOk result (IsInput bytes.now) }
-{
-    match read_script(alloc, bytes, false) {
-        Ok(script) => Ok(Input::Script(script)),
-        Err(ReadScript::Fault(fault)) => Ok(Input::Refusal(fault_line(alloc, &fault)?)),
-        Err(ReadScript::NoMemory) => Err(NoMemory),
-    }
-}
-
-/// The line for more bytes than a script may have.
-fn too_long(alloc: Global) -> Result<Input, NoMemory>
-    ensures { (bytes : List ℕ) → longest < length bytes → IfOk result (IsInput bytes) }
-{
-    let size = ScriptFault {
-        line: 0,
-        kind: Kind::Size,
-    };
-    Ok(Input::Refusal(fault_line(alloc, &size)?))
-}
-
-/// What the source gives.
-pub(crate) fn read<S: Source>(alloc: Global, source: &mut S) -> Result<Input, Halt>
-    ensures input { IfOk result (TakesInput (S.left source.old) (S.left source.new)) }
+/// What the source gives to a command that can take so many bytes at most.
+pub(crate) fn read<S: Source>(alloc: Global, source: &mut S, most: usize) -> Result<Input, Halt>
+    ensures input { IfOk result (TakesInput most (S.left source.old) (S.left source.new)) }
     ensures fault { IsErrOf result Halt.ReadFault → Rose (S.faults source.old) (S.faults source.new) }
     ensures told { S.faults source.old < S.faults source.new → IsErrOf result Halt.ReadFault }
     ensures later { S.faults source.old ≤ S.faults source.new }
 {
-    match read_all(alloc, source, LONGEST) {
-        Ok(bytes) => Ok(script_of(alloc, &bytes)?),
-        Err(ReadEnd::TooLong) => Ok(too_long(alloc)?),
+    match read_all(alloc, source, most) {
+        Ok(bytes) => Ok(Input::Whole(bytes)),
+        Err(ReadEnd::TooLong) => Ok(Input::TooLong),
         Err(ReadEnd::ReadFault) => Err(Halt::ReadFault),
         Err(ReadEnd::NoMemory) => Err(Halt::NoMemory),
     }

@@ -6,6 +6,8 @@ mod command;
 mod fault;
 mod input;
 mod program;
+mod runs;
+mod storms;
 mod top;
 
 pub use program::answer_command;

@@ -4,16 +4,14 @@ ghost use Rattle.std.specs.Vec.Iter.{into_iter_items};
 ghost use Rattle.zeus_io.specs.Faults.{Rose};
 ghost use Rattle.zeus_io.specs.Status.{exit_status};
 ghost use Rattle.zeus_model.specs.ReportText.{start_of};
-ghost use Rattle.zeus_model.specs.Scripts.{IsScript};
 ghost use Rattle.zeus_model.specs.Sound.{Sound};
-ghost use Rattle.zeus_model.specs.Spelling.{spelling};
 ghost use Rattle.zeus_model.specs.World.{run};
 ghost use Rattle.zeus_model.specs.declared.script.Script.{Script as ScriptData};
 ghost use Rattle.soundness.specs.Promise.{KeepsPromise};
 ghost use Rattle.zeus_cli.specs.Command.{AsksBy, AsksInputBy};
-ghost use Rattle.zeus_cli.specs.Ends.{EndsByArgs, IsStarved};
-ghost use Rattle.zeus_cli.specs.declared.command.Command.TheVariants.{Run};
-ghost use Rattle.zeus_cli.specs.Top.{TakesScript};
+ghost use Rattle.zeus_cli.specs.Ends.{EndsByArgs, HasInput, IsCompleteBy, IsStarved};
+ghost use Rattle.zeus_cli.specs.Runs.{TakesScript};
+ghost use Rattle.zeus_cli.specs.declared.command.Command.{Command as CommandData};
 
 use crate::answer::write;
 use crate::top::{USAGE, zeus_top};
@@ -58,11 +56,10 @@ pub fn answer_command<S: Source, K: Sink>(
     ensures write_told { K.faults sink.old < K.faults sink.new → result ≡ exit_status Status.WriteFault }
     ensures memory { result ≡ exit_status Status.OutOfMemory → sink.new ≡ sink.old }
 
-    // Words that ask for no input leave the source alone; a script is answered by its report.
+    // Words that ask for no input leave the source alone; an input of a command is answered.
     ensures no_input { ¬ AsksInputBy args → source.new ≡ source.old }
-    ensures complete { (s : ScriptData) → AsksBy args (Some Run) → S.left source.old ≡ Some (spelling s) → IsScript s
-        → ¬ Rose (S.faults source.old) (S.faults source.new) → ¬ Rose (K.faults sink.old) (K.faults sink.new)
-        → (result ≡ exit_status Status.Done) ⊎ (result ≡ exit_status Status.OutOfMemory) }
+    ensures complete { (c : CommandData) → AsksBy args (Some c) → HasInput c (S.left source.old)
+        → ¬ Rose (S.faults source.old) (S.faults source.new) → ¬ Rose (K.faults sink.old) (K.faults sink.new) → IsCompleteBy c result }
 {
     // The theorem over every run. The call does nothing.
     every_run_keeps_its_promise();

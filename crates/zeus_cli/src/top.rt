@@ -1,26 +1,43 @@
 //! From the words of the command line and the bytes of a source to the bytes of a sink.
-ghost use Rattle.std.specs.Prelude.{◌≡◌, ◌<◌, ◌⊎◌, ℕ, Some, map, string_bytes, take};
+ghost use Rattle.std.specs.Prelude.{◌≡◌, ◌<◌, ◌≤◌, ℕ, IfErr, IfOk, IsErrOf, Some, map, string_bytes, take};
 ghost use Rattle.zeus_io.specs.Faults.{Rose};
 ghost use Rattle.zeus_model.specs.ReportText.{start_of};
-ghost use Rattle.zeus_model.specs.Scripts.{IsScript};
 ghost use Rattle.zeus_model.specs.Sound.{Sound};
-ghost use Rattle.zeus_model.specs.Spelling.{spelling};
 ghost use Rattle.zeus_model.specs.World.{run};
 ghost use Rattle.zeus_model.specs.declared.script.Script.{Script as ScriptData};
 ghost use Rattle.soundness.specs.Promise.{KeepsPromise};
-ghost use Rattle.zeus_cli.specs.Command.{AsksInput, command_words};
-ghost use Rattle.zeus_cli.specs.Ends.{EndsBy};
-ghost use Rattle.zeus_cli.specs.declared.command.Command.TheVariants.{Run};
-ghost use Rattle.zeus_cli.specs.Top.{TakesScript};
+ghost use Rattle.zeus_cli.specs.Command.{Asks, AsksInput, IsCommand, Reads};
+ghost use Rattle.zeus_cli.specs.Ends.{EndsBy, HasInput, IsAnswer, IsComplete, IsHalt, status_of_halt};
+ghost use Rattle.zeus_cli.specs.Runs.{TakesScript};
+ghost use Rattle.zeus_cli.specs.declared.command.Command.{Command as CommandData};
 
-use crate::answer::{answer_to, write};
-use crate::command::command_of;
+use crate::answer::{Answer, write};
+use crate::command::{Command, command_of};
+use crate::input::Halt;
+use crate::runs::run_script;
+use crate::storms::run_storm;
 use soundness::every_run_keeps_its_promise;
 use std::alloc::Global;
 use zeus_io::{Sink, Source, Status};
 
 /// The line for words that the program does not know.
 pub(crate) const USAGE: &[u8] = b"usage\n";
+
+/// The answer to a command.
+fn answer_to<S: Source>(alloc: Global, command: &Command, source: &mut S) -> Result<Answer, Halt>
+    requires { IsCommand command.now }
+    ensures answer { IfOk result (λ a. IsAnswer (Some command.now) (S.left source.old) (S.left source.new) a.status a.text.items) }
+    ensures halt { IfErr result (λ h. IsHalt (Some command.now) (status_of_halt h)) }
+    ensures no_input { ¬ Reads command.now → source.new ≡ source.old }
+    ensures fault { IsErrOf result Halt.ReadFault → Rose (S.faults source.old) (S.faults source.new) }
+    ensures told { S.faults source.old < S.faults source.new → IsErrOf result Halt.ReadFault }
+    ensures later { S.faults source.old ≤ S.faults source.new }
+{
+    match command {
+        Command::Run => run_script(alloc, source),
+        Command::Storm(numbers) => Ok(run_storm(alloc, numbers)?),
+    }
+}
 
 /// The program `zeus`. With the one word `run` it reads a script from the source and writes the report of its run to the
 /// sink; bytes that are no script give the line `script LINE KIND` of their fault. With the words `storm NODES SLOTS OBJECTS
@@ -50,10 +67,10 @@ pub fn zeus_top<S: Source, K: Sink>(
     ensures write_told { K.faults sink.old < K.faults sink.new → result ≡ Status.WriteFault }
     ensures memory { result ≡ Status.OutOfMemory → sink.new ≡ sink.old }
 
-    // Words that ask for no input leave the source alone; a script is answered by its report.
+    // Words that ask for no input leave the source alone; an input of a command is answered.
     ensures no_input { ¬ AsksInput (map string_bytes words.now.items) → source.new ≡ source.old }
-    ensures complete { (s : ScriptData) → map string_bytes words.now.items ≡ command_words Run → S.left source.old ≡ Some (spelling s) → IsScript s
-        → ¬ Rose (S.faults source.old) (S.faults source.new) → ¬ Rose (K.faults sink.old) (K.faults sink.new) → (result ≡ Status.Done) ⊎ (result ≡ Status.OutOfMemory) }
+    ensures complete { (c : CommandData) → Asks (map string_bytes words.now.items) (Some c) → HasInput c (S.left source.old)
+        → ¬ Rose (S.faults source.old) (S.faults source.new) → ¬ Rose (K.faults sink.old) (K.faults sink.new) → IsComplete c result }
 {
     // The theorem over every run. The call does nothing.
     every_run_keeps_its_promise();

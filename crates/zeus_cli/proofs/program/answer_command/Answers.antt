@@ -1,8 +1,8 @@
 use Rattle.std.proofs.Common.{◌≡◌, ◌∙◌, None, arith, sym, ap, inl, inr, refl}
 use Rattle.zeus_io.specs.Status.{exit_status}
 use Rattle.zeus_io.specs.declared.status.Status.TheVariants.{ReadFault, Usage, WriteFault, OutOfMemory}
-use Rattle.zeus_cli.specs.Top.{usage_line}
-use Rattle.zeus_cli.proofs.Ending.{ends_by_args, usage-plain, written_ends, written_fault, written_plain}
+use Rattle.zeus_cli.specs.Ends.{usage_line}
+use Rattle.zeus_cli.proofs.Ending.{asks_no_error, complete_by_args, ends_by_args, usage-plain, written_ends, written_fault, written_plain}
 use Rattle.zeus_cli.proofs.Numbers.{is_out_of_memory, is_read_fault, is_write_fault}
 use Rattle.zeus_cli.proofs.program.answer_command.Goals as goal
 use Rattle.zeus_cli.proofs.program.answer_command.Goals.{in-Ok+in-Ok-words_of, in-Ok+in-Err-words_of, in-Err+in-InvalidData, in-Err+in_default}
@@ -76,3 +76,17 @@ pub returns-clause-promise : goal.returns-clause-promise
 returns-clause-promise g c = λ s taken k.
     let fits = taken.taken.holds.script.fits in
     c.every_run_keeps_its_promise.ensures s.config s.txs s.steps fits.config fits.txs fits.steps k
+
+pub returns-clause-complete : goal.returns-clause-complete
+returns-clause-complete g c = λ command asked has quiet_read quiet_write.
+    elim c.match-args.branch [
+      | in-Ok+in-Ok-words_of w ↦
+          record {
+            status = c.match-args.status;
+            number_is = c.number.ensures;
+            complete = rw w.status-is (complete_by_args c.args.args _ _ command w.in-Ok.is w.in-Ok-words_of.ensures asked (λ asks. w.zeus_top.ensures.complete command asks has (rw w.source-is at quiet_read) (rw w.sink-is at quiet_write)));
+          }
+      | in-Ok+in-Err-words_of w ↦ record { status = c.match-args.status; number_is = c.number.ensures; complete = inr w.status-is }
+      | in-Err+in-InvalidData w ↦ absurd (asks_no_error c.args.args _ command w.in-Err.is asked)
+      | in-Err+in_default w ↦ record { status = c.match-args.status; number_is = c.number.ensures; complete = inr w.status-is }
+    ]

@@ -1,11 +1,10 @@
 use Rattle.std.proofs.Common.{◌≡◌, ◌∙◌, None, Some, arith, inl, inr, refl, ap}
 use Rattle.zeus_io.specs.declared.status.Status.TheVariants.{Usage}
-use Rattle.zeus_cli.specs.Command.{command_words}
-use Rattle.zeus_cli.specs.Ends.{status_of_halt}
-use Rattle.zeus_cli.specs.Top.{usage_line}
-use Rattle.zeus_cli.specs.declared.command.Command.TheVariants.{Run}
+use Rattle.zeus_cli.specs.Command.{Reads, command_words}
+use Rattle.zeus_cli.specs.declared.command.Command.{Command}
+use Rattle.zeus_cli.specs.Ends.{status_of_halt, usage_line}
 use Rattle.zeus_cli.specs.declared.input.Halt.TheVariants.{ReadFault}
-use Rattle.zeus_cli.proofs.Ending.{answer-plain, asked_as, halt_ends, halt_read, halt_starved, halt_unwritten, script_done, shown_ends, usage-plain, written_done, written_ends, written_fault, written_plain}
+use Rattle.zeus_cli.proofs.Ending.{answer-plain, asked_as, halt_ends, halt_read, halt_starved, halt_unwritten, input_answered, shown_ends, usage-plain, written_complete, written_ends, written_fault, written_plain}
 use Rattle.zeus_cli.proofs.top.zeus_top.Goals as goal
 
 -- ---- other words
@@ -40,9 +39,9 @@ pub returns-in_default-clause-memory : goal.returns-in_default-clause-memory
 returns-in_default-clause-memory g c = λ e. absurd ((written_plain _ _ _ _ Usage _ usage_line usage-plain c.write.ensures).1 e)
 
 pub returns-in_default-clause-complete : goal.returns-in_default-clause-complete
-returns-in_default-clause-complete g c = λ s run.
+returns-in_default-clause-complete g c = λ command asks.
     let asked = asked_as _ c.args.words.now.items _ None c.deref.ensures.value c.in_default.is c.command_of.ensures in
-    absurd (asked Run tt run)
+    absurd (asked command asks.0 asks.1)
 
 -- ---- a command
 
@@ -87,13 +86,13 @@ returns-in-Ok-clause-memory g c = λ e.
 pub returns-in-Ok-clause-no_input : goal.returns-in-Ok-clause-no_input
 returns-in-Ok-clause-no_input g c = λ none.
     let asked = asked_as _ c.args.words.now.items _ (Some c.in-Some.command) c.deref.ensures.value c.in-Some.is c.command_of.ensures in
-    c.answer_to.ensures.no_input (λ e. none (asked.1 ∙ ap command_words e))
+    c.answer_to.ensures.no_input (λ reads. none record { command = c.in-Some.command; reads = reads; asked = asked.1 })
 
 pub returns-in-Ok-clause-complete : goal.returns-in-Ok-clause-complete
-returns-in-Ok-clause-complete g c = λ s run known is_script quiet_read quiet_write.
+returns-in-Ok-clause-complete g c = λ command asks has quiet_read quiet_write.
     let asked = asked_as _ c.args.words.now.items _ (Some c.in-Some.command) c.deref.ensures.value c.in-Some.is c.command_of.ensures in
-    let done = script_done c.in-Some.command _ _ _ s c.in-Ok.answer.status _ asked.1 run known is_script c.in-Ok.ensures.answer in
-    inl (written_done _ _ _ _ c.in-Ok.answer.status _ _ done quiet_write c.write-in-Ok.ensures)
+    let answered = input_answered command c.in-Some.command _ _ _ c.in-Ok.answer.status _ asked.1 asks.1 has c.in-Ok.ensures.answer in
+    written_complete command _ _ _ _ c.in-Ok.answer.status _ _ answered quiet_write c.write-in-Ok.ensures
 
 -- ---- no answer
 
@@ -128,8 +127,8 @@ returns-in-Err-clause-write_fault g c = λ e. absurd (halt_unwritten c.in-Err.ha
 pub returns-in-Err-clause-no_input : goal.returns-in-Err-clause-no_input
 returns-in-Err-clause-no_input g c = λ none.
     let asked = asked_as _ c.args.words.now.items _ (Some c.in-Some.command) c.deref.ensures.value c.in-Some.is c.command_of.ensures in
-    c.answer_to.ensures.no_input (λ e. none (asked.1 ∙ ap command_words e))
+    c.answer_to.ensures.no_input (λ reads. none record { command = c.in-Some.command; reads = reads; asked = asked.1 })
 
 pub returns-in-Err-clause-complete : goal.returns-in-Err-clause-complete
-returns-in-Err-clause-complete g c = λ s run known is_script quiet_read quiet_write.
+returns-in-Err-clause-complete g c = λ command asks has quiet_read quiet_write.
     inr (halt_starved c.in-Err.halt _ c.status.ensures (λ e. quiet_read (c.in-Err.ensures.fault (cc e))))
