@@ -6,7 +6,7 @@ write or their exit statuses differ. Not part of the gate.
 
 OTHER is another program of the rules of leases: with the word `lease` it reads a script from standard input and prints what
 this program has to print. The scripts are those of the seeds FIRST, FIRST + 1 and so on (1 if it is not given). The variable
-PROGRAM names the program to be tried; the one that `./zeus` builds does not know the word `lease` yet.
+PROGRAM names the program to be tried, if it is not the one that `./zeus` builds.
 
 The last line says how many scripts were tried, how many of them were no scripts, and how many differ; the first that differs
 is printed before it, and the exit status is then 1."""

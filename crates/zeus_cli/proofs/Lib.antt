@@ -1,4 +1,5 @@
 pub mod Ending
+pub mod LeasesRead
 pub mod Numbers
 pub mod Reading
 pub mod Refusing

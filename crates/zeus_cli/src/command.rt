@@ -12,6 +12,8 @@ use storm::StormNumbers;
 pub(crate) enum Command {
     /// Run a script.
     Run,
+    /// Answer a script of leases.
+    Lease,
     /// Run a storm.
     Storm(StormNumbers),
 }
@@ -69,8 +71,13 @@ pub(crate) fn command_of(words: &[String]) -> Option<Command>
     if is_word(name, "storm") {
         return Some(Command::Storm(take_numbers(rest)?));
     }
-    if is_word(name, "run") && rest.is_empty() {
+    if !rest.is_empty() {
+        return None;
+    }
+    if is_word(name, "run") {
         Some(Command::Run)
+    } else if is_word(name, "lease") {
+        Some(Command::Lease)
     } else {
         None
     }

@@ -5,6 +5,7 @@ mod answer;
 mod command;
 mod fault;
 mod input;
+mod leases;
 mod program;
 mod runs;
 mod storms;

@@ -1,5 +1,6 @@
 mod examples;
 mod large;
+mod leases;
 mod storms;
 
 use crate::zeus_top;
@@ -137,6 +138,7 @@ fn other_words_get_the_line_usage(rt: HostRuntime) -> Result<(), Fail> {
     for texts in [
         ["walk"].as_slice(),
         &["run", "x"],
+        &["lease", "run"],
         &["storm", "01"],
         &["storm", "9", "1", "1", "1", "0", "0", "0", "7"],
         &["storm", "1", "1", "1", "1", "0", "0", "0", "07"],

@@ -14,6 +14,7 @@ ghost use Rattle.zeus_cli.specs.declared.command.Command.{Command as CommandData
 use crate::answer::{Answer, write};
 use crate::command::{Command, command_of};
 use crate::input::Halt;
+use crate::leases::run_leases;
 use crate::runs::run_script;
 use crate::storms::run_storm;
 use soundness::every_run_keeps_its_promise;
@@ -35,6 +36,7 @@ fn answer_to<S: Source>(alloc: Global, command: &Command, source: &mut S) -> Res
 {
     match command {
         Command::Run => run_script(alloc, source),
+        Command::Lease => run_leases(alloc, source),
         Command::Storm(numbers) => Ok(run_storm(alloc, numbers)?),
     }
 }
