@@ -10,23 +10,27 @@ use Rattle.zeus_io.specs.Bytes.{Takes}
 use Rattle.zeus_io.specs.Faults.{Rose}
 use Rattle.zeus_io.specs.Status.{exit_status}
 use Rattle.zeus_io.specs.declared.status.Status.{Status}
-use Rattle.zeus_io.specs.declared.status.Status.TheVariants.{Done, Unfinished, Usage, ReadFault as ReadFaultStatus, WriteFault, OutOfMemory}
+use Rattle.zeus_io.specs.declared.status.Status.TheVariants.{Done, Unfinished, Usage, ReadFault as ReadFaultStatus, WriteFault, OutOfMemory, Unsound}
 use Rattle.zeus_model.specs.declared.fault.ScriptFault.{ScriptFault}
 use Rattle.script_lang.specs.OneFault.{SpellsScript}
 use Rattle.script_lang.specs.Reading.{script_read}
+use Rattle.zeus_audit.specs.Inputs.{input_audited}
+use Rattle.zeus_audit.specs.declared.verdict.Verdict.{Verdict}
+use Rattle.zeus_audit.specs.declared.verdict.Verdict.TheVariants.{Sound, Fails}
 use Rattle.zeus_lease.specs.Faults.{SpellsScript as SpellsLeases}
 use Rattle.zeus_lease.specs.Reading.{script_read as leases_read}
 use Rattle.storm.specs.Storm.{storm_end}
 use Rattle.storm.specs.declared.numbers.StormNumbers.{StormNumbers}
 use Rattle.zeus_cli.specs.Command.{Asks, AsksBy, command_words}
 use Rattle.zeus_cli.specs.Ends.{Ends, EndsBy, EndsByArgs, HasInput, IsAnswer, IsAnswered, IsComplete, IsCompleteBy, IsHalt, IsWritten, status_of_halt}
+use Rattle.zeus_cli.specs.Audits.{IsAuditInput, IsAuditRefusal, IsNoAuditInput, longest_audited, verdict_status}
 use Rattle.zeus_cli.specs.Inputs.{Holds}
 use Rattle.zeus_cli.specs.Leases.{IsLeaseRefusal, IsNoLeases}
 use Rattle.zeus_cli.specs.Refusal.{IsRefused}
 use Rattle.zeus_cli.specs.Runs.{IsNoScript, IsRefusal, longest}
 use Rattle.zeus_cli.specs.Storms.{storm_status}
 use Rattle.zeus_cli.specs.declared.command.Command.{Command}
-use Rattle.zeus_cli.specs.declared.command.Command.TheVariants.{Run, Lease, Storm}
+use Rattle.zeus_cli.specs.declared.command.Command.TheVariants.{Run, Lease, Audit, Storm}
 use Rattle.zeus_cli.specs.declared.input.Halt.{Halt}
 use Rattle.zeus_cli.specs.declared.input.Halt.TheVariants.{ReadFault, NoMemory}
 
@@ -50,12 +54,25 @@ plain_storm n status is =
       | inr left ↦ record { written = λ e. cc (left, is, e); read = λ e. cc (left, is, e); memory = λ e. cc (left, is, e) }
     ]
 
+verdict_plain : (v : Verdict) → (verdict_status v ≡ Done) ⊎ (verdict_status v ≡ Unsound)
+verdict_plain Sound = inl refl
+verdict_plain (Fails line rule) = inr refl
+
+plain_verdict : (v : Verdict) (status : Status) → status ≡ verdict_status v → IsPlain status
+plain_verdict v status is =
+    elim (verdict_plain v) [
+      | inl done ↦ record { written = λ e. cc (done, is, e); read = λ e. cc (done, is, e); memory = λ e. cc (done, is, e) }
+      | inr unsound ↦ record { written = λ e. cc (unsound, is, e); read = λ e. cc (unsound, is, e); memory = λ e. cc (unsound, is, e) }
+    ]
+
 pub answer-plain : (c : Option Command) (before after : Option (List ℕ)) (status : Status) (text : List ℕ) → IsAnswer c before after status text → IsPlain status
 answer-plain None before after status text h = record { written = λ e. cc (h.0, e); read = λ e. cc (h.0, e); memory = λ e. cc (h.0, e) }
 answer-plain (Some Run) before after status text (inl h) = record { written = λ e. cc (h.0, e); read = λ e. cc (h.0, e); memory = λ e. cc (h.0, e) }
 answer-plain (Some Run) before after status text (inr h) = record { written = λ e. cc (h.0, e); read = λ e. cc (h.0, e); memory = λ e. cc (h.0, e) }
 answer-plain (Some Lease) before after status text (inl h) = record { written = λ e. cc (h.0, e); read = λ e. cc (h.0, e); memory = λ e. cc (h.0, e) }
 answer-plain (Some Lease) before after status text (inr h) = record { written = λ e. cc (h.0, e); read = λ e. cc (h.0, e); memory = λ e. cc (h.0, e) }
+answer-plain (Some Audit) before after status text (inl h) = plain_verdict h.verdict status h.status_is
+answer-plain (Some Audit) before after status text (inr h) = record { written = λ e. cc (h.0, e); read = λ e. cc (h.0, e); memory = λ e. cc (h.0, e) }
 answer-plain (Some (Storm n)) before after status text h = plain_storm n status h.status_is
 
 pub usage-plain : IsPlain Usage
@@ -120,12 +137,16 @@ leases_kept before after text h t =
     let s = h.is_so in
     never_refused leases_read IsNoLeases longest before after h.bytes text h.known s.spelled.few_bytes (λ none. none s.script s.spelled) t
 
+audit_kept : (before after : Option (List ℕ)) (text : List ℕ) → Holds before IsAuditInput → IsAuditRefusal before after text → ⊥
+audit_kept before after text h t = never_refused input_audited IsNoAuditInput longest_audited before after h.bytes text h.known h.is_so.few_bytes (λ none. none h.is_so) t
+
 -- the answer to a command is one to its input, where there is one
 run_answered : (found : Command) (words : List (List ℕ)) (before after : Option (List ℕ)) (status : Status) (text : List ℕ) → words ≡ command_words found → words ≡ command_words Run
     → HasInput Run before → IsAnswer (Some found) before after status text → status ≡ Done
 run_answered Run words before after status text e f has (inl h) = h.0
 run_answered Run words before after status text e f has (inr h) = absurd (script_kept before after text has h.1)
 run_answered Lease words before after status text e f has h = absurd cc
+run_answered Audit words before after status text e f has h = absurd cc
 run_answered (Storm n) words before after status text e f has h = absurd cc
 
 lease_answered : (found : Command) (words : List (List ℕ)) (before after : Option (List ℕ)) (status : Status) (text : List ℕ) → words ≡ command_words found → words ≡ command_words Lease
@@ -133,18 +154,29 @@ lease_answered : (found : Command) (words : List (List ℕ)) (before after : Opt
 lease_answered Run words before after status text e f has h = absurd cc
 lease_answered Lease words before after status text e f has (inl h) = h.0
 lease_answered Lease words before after status text e f has (inr h) = absurd (leases_kept before after text has h.1)
+lease_answered Audit words before after status text e f has h = absurd cc
 lease_answered (Storm n) words before after status text e f has h = absurd cc
+
+audit_answered : (found : Command) (words : List (List ℕ)) (before after : Option (List ℕ)) (status : Status) (text : List ℕ) → words ≡ command_words found → words ≡ command_words Audit
+    → HasInput Audit before → IsAnswer (Some found) before after status text → IsAnswered Audit status
+audit_answered Run words before after status text e f has h = absurd cc
+audit_answered Lease words before after status text e f has h = absurd cc
+audit_answered Audit words before after status text e f has (inl h) = elim (verdict_plain h.verdict) [ inl done ↦ inl (h.status_is ∙ done) | inr unsound ↦ inr (h.status_is ∙ unsound) ]
+audit_answered Audit words before after status text e f has (inr h) = absurd (audit_kept before after text has h.1)
+audit_answered (Storm n) words before after status text e f has h = absurd cc
 
 storm_answered : (found : Command) (words : List (List ℕ)) (before after : Option (List ℕ)) (n : StormNumbers) (status : Status) (text : List ℕ) → words ≡ command_words found → words ≡ command_words (Storm n)
     → IsAnswer (Some found) before after status text → IsAnswered (Storm n) status
 storm_answered Run words before after n status text e f h = absurd cc
 storm_answered Lease words before after n status text e f h = absurd cc
+storm_answered Audit words before after n status text e f h = absurd cc
 storm_answered (Storm m) words before after n status text e f h = elim (storm_plain m) [ inl done ↦ inl (h.status_is ∙ done) | inr left ↦ inr (h.status_is ∙ left) ]
 
 pub input_answered : (c found : Command) (words : List (List ℕ)) (before after : Option (List ℕ)) (status : Status) (text : List ℕ) → words ≡ command_words found → words ≡ command_words c → HasInput c before
     → IsAnswer (Some found) before after status text → IsAnswered c status
 input_answered Run found words before after status text e f has h = run_answered found words before after status text e f has h
 input_answered Lease found words before after status text e f has h = lease_answered found words before after status text e f has h
+input_answered Audit found words before after status text e f has h = audit_answered found words before after status text e f has h
 input_answered (Storm n) found words before after status text e f has h = storm_answered found words before after n status text e f h
 
 -- of a text that is written without a fault the status is the end

@@ -12,7 +12,7 @@ use Rattle.zeus_model.specs.declared.script.Script.{Script}
 use Rattle.zeus_model.specs.Scripts.{IsSpelled}
 
 -- outside a live run there is no further bound
-fits_no_live : (s : Script) → FitsLive false s
+pub fits_no_live : (s : Script) → FitsLive false s
 fits_no_live s = record { txs = λ e. cc e; steps = λ e. cc e }
 
 -- more bytes than a script has are the text of none

@@ -5,7 +5,7 @@ use Rattle.std.specs.declared.vec.IntoIter.{IntoIter}
 use Rattle.storm.specs.Numbers.{AreInRange}
 use Rattle.storm.specs.declared.numbers.StormNumbers.{StormNumbers}
 use Rattle.zeus_cli.specs.declared.command.Command.{Command}
-use Rattle.zeus_cli.specs.declared.command.Command.TheVariants.{Run, Lease, Storm}
+use Rattle.zeus_cli.specs.declared.command.Command.TheVariants.{Run, Lease, Audit, Storm}
 
 -- NODES SLOTS OBJECTS TXS STEPS LOSS STOPS START
 abbrev pub storm_numbers : StormNumbers → List (List ℕ)
@@ -17,12 +17,14 @@ storm_numbers n =
 abbrev pub command_words : Command → List (List ℕ)
 command_words Run = codes "run" ∷ []
 command_words Lease = codes "lease" ∷ []
+command_words Audit = codes "audit" ∷ []
 command_words (Storm n) = codes "storm" ∷ storm_numbers n
 
 -- the numbers of a command are in their ranges
 abbrev pub IsCommand : Command → Type 0
 IsCommand Run = Unit {0}
 IsCommand Lease = Unit {0}
+IsCommand Audit = Unit {0}
 IsCommand (Storm n) = AreInRange n
 
 -- words ask for the command whose words they are, and for nothing if they are those of none
@@ -39,6 +41,7 @@ AsksBy (Err e) c = c ≡ None
 abbrev pub Reads : Command → Type 0
 Reads Run = Unit {0}
 Reads Lease = Unit {0}
+Reads Audit = Unit {0}
 Reads (Storm n) = ⊥
 
 -- the words are those of a command that reads the source

@@ -8,14 +8,15 @@ use Rattle.zeus_io.specs.Bytes.{AppendsFront}
 use Rattle.zeus_io.specs.Faults.{Rose}
 use Rattle.zeus_io.specs.Status.{exit_status}
 use Rattle.zeus_io.specs.declared.status.Status.{Status}
-use Rattle.zeus_io.specs.declared.status.Status.TheVariants.{Done, Unfinished, Usage, ReadFault as ReadFaultStatus, WriteFault, OutOfMemory}
+use Rattle.zeus_io.specs.declared.status.Status.TheVariants.{Done, Unfinished, Usage, ReadFault as ReadFaultStatus, WriteFault, OutOfMemory, Unsound}
 use Rattle.zeus_cli.specs.Command.{Asks, AsksBy}
 use Rattle.zeus_cli.specs.Inputs.{Holds}
+use Rattle.zeus_cli.specs.Audits.{IsAuditAnswer, IsAuditInput}
 use Rattle.zeus_cli.specs.Leases.{IsLeaseAnswer}
 use Rattle.zeus_cli.specs.Runs.{IsRunAnswer}
 use Rattle.zeus_cli.specs.Storms.{IsStormAnswer}
 use Rattle.zeus_cli.specs.declared.command.Command.{Command}
-use Rattle.zeus_cli.specs.declared.command.Command.TheVariants.{Run, Lease, Storm}
+use Rattle.zeus_cli.specs.declared.command.Command.TheVariants.{Run, Lease, Audit, Storm}
 use Rattle.zeus_cli.specs.declared.input.Halt.{Halt}
 use Rattle.zeus_cli.specs.declared.input.Halt.TheVariants.{ReadFault, NoMemory}
 
@@ -30,18 +31,21 @@ abbrev pub IsAnswer : Option Command → Option (List ℕ) → Option (List ℕ)
 IsAnswer None before after status text = (status ≡ Usage) × (text ≡ usage_line)
 IsAnswer (Some Run) before after status text = IsRunAnswer before after status text
 IsAnswer (Some Lease) before after status text = IsLeaseAnswer before after status text
+IsAnswer (Some Audit) before after status text = IsAuditAnswer before after status text
 IsAnswer (Some (Storm n)) before after status text = IsStormAnswer n status text
 
 -- the source tells that it has an input of the command left; a storm reads none
 abbrev pub HasInput : Command → Option (List ℕ) → Type 0
 HasInput Run before = Holds before (SpellsScript false)
 HasInput Lease before = Holds before SpellsLeases
+HasInput Audit before = Holds before IsAuditInput
 HasInput (Storm n) before = Unit {0}
 
 -- the statuses of the answers to an input
 abbrev pub IsAnswered : Command → Status → Type 0
 IsAnswered Run status = status ≡ Done
 IsAnswered Lease status = status ≡ Done
+IsAnswered Audit status = (status ≡ Done) ⊎ (status ≡ Unsound)
 IsAnswered (Storm n) status = (status ≡ Done) ⊎ (status ≡ Unfinished)
 
 -- ---- the end
@@ -51,6 +55,7 @@ abbrev pub IsHalt : Option Command → Status → Type 0
 IsHalt None status = ⊥
 IsHalt (Some Run) status = (status ≡ ReadFaultStatus) ⊎ (status ≡ OutOfMemory)
 IsHalt (Some Lease) status = (status ≡ ReadFaultStatus) ⊎ (status ≡ OutOfMemory)
+IsHalt (Some Audit) status = (status ≡ ReadFaultStatus) ⊎ (status ≡ OutOfMemory)
 IsHalt (Some (Storm n)) status = status ≡ OutOfMemory
 
 abbrev pub status_of_halt : Halt → Status

@@ -1,3 +1,4 @@
+pub mod Audits
 pub mod Command
 pub mod Ends
 pub mod Inputs

@@ -14,6 +14,8 @@ pub(crate) enum Command {
     Run,
     /// Answer a script of leases.
     Lease,
+    /// Audit a report of a script.
+    Audit,
     /// Run a storm.
     Storm(StormNumbers),
 }
@@ -78,6 +80,8 @@ pub(crate) fn command_of(words: &[String]) -> Option<Command>
         Some(Command::Run)
     } else if is_word(name, "lease") {
         Some(Command::Lease)
+    } else if is_word(name, "audit") {
+        Some(Command::Audit)
     } else {
         None
     }

@@ -2,6 +2,7 @@
 #![tactic(auto)]
 
 mod answer;
+mod audits;
 mod command;
 mod fault;
 mod input;

@@ -12,6 +12,7 @@ ghost use Rattle.zeus_cli.specs.Runs.{TakesScript};
 ghost use Rattle.zeus_cli.specs.declared.command.Command.{Command as CommandData};
 
 use crate::answer::{Answer, write};
+use crate::audits::run_audit;
 use crate::command::{Command, command_of};
 use crate::input::Halt;
 use crate::leases::run_leases;
@@ -37,17 +38,23 @@ fn answer_to<S: Source>(alloc: Global, command: &Command, source: &mut S) -> Res
     match command {
         Command::Run => run_script(alloc, source),
         Command::Lease => run_leases(alloc, source),
+        Command::Audit => run_audit(alloc, source),
         Command::Storm(numbers) => Ok(run_storm(alloc, numbers)?),
     }
 }
 
-/// The program `zeus`. With the one word `run` it reads a script from the source and writes the report of its run to the
-/// sink; bytes that are no script give the line `script LINE KIND` of their fault. With the words `storm NODES SLOTS OBJECTS
-/// TXS STEPS LOSS STOPS START` it writes the summary of a storm, and ends by `Unfinished` exactly if a transaction of it is
-/// not closed. Other words give the line `usage`. The text is made whole before it is written, and writing takes no memory.
+/// The program `zeus`. What it answers is made whole before it is written to the sink, and writing takes no memory.
 ///
-/// For a script the source is read to its end, or past 4,194,304 bytes; for other words it is not called. If memory ran out
-/// nothing is written; nothing says when.
+/// - `run` reads a script, and writes the report of its run.
+/// - `lease` reads a script of leases, and writes its answers.
+/// - `audit` reads a script with a report behind it, and writes `audit ok`, or `audit LINE RULE` with the first line that
+///   breaks a rule and the first rule that it breaks; the status is then `Unsound`.
+/// - `storm NODES SLOTS OBJECTS TXS STEPS LOSS STOPS START` reads nothing, and writes the summary of a storm. The status is
+///   `Unfinished` exactly if a transaction of it is not closed.
+///
+/// Bytes that are no input of their command give the line `script LINE KIND` of their fault, and the status `Script`. Other
+/// words give the line `usage`, and the status `Usage`. The source is read to its end, or past 4,194,304 bytes, for `audit`
+/// past 2,147,483,647; for `storm` and other words it is not called. If memory ran out nothing is written; nothing says when.
 pub fn zeus_top<S: Source, K: Sink>(
     alloc: Global,
     words: &Vec<String>,
