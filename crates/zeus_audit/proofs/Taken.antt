@@ -1,4 +1,4 @@
--- What holds of what a line tells, where it keeps its rules: the tools.
+-- What holds of what a line tells, if it keeps its rules: the tools.
 use Rattle.std.proofs.Common.{◌≡◌, Bool, true, false, cond, Result, Ok, Err, refl, subst}
 use Rattle.zeus_model.specs.declared.fault.Kind.{Kind}
 use Rattle.script_lang.proofs.Sound.{IfRead}
@@ -31,7 +31,7 @@ unfolding in_form
 taken_form (Ok x) f P q p = p x refl q.holds
 taken_form (Err k) f P q p = record { holds = tt }
 
--- where nothing is known of what was read
+-- if nothing is known of what was read
 pub taken_any : {A : Type 0} (r : Result A Kind) (f : A → Result State Rule) (P : State → Type 0) → ((x : A) → IfTaken (f x) P) → IfTaken (in_form r f) P
 unfolding in_form
 taken_any (Ok x) f P p = p x

@@ -11,7 +11,7 @@ use Rattle.script_lang.specs.declared.reading.ReadScript.TheVariants as errors
 use Rattle.zeus_audit.specs.declared.verdict.Verdict.{Verdict}
 use Rattle.zeus_audit.specs.Auditing.{audited}
 
--- how many bytes there are up to and with the first line `end`; all, where there is no such line
+-- how many bytes there are up to and with the first line `end`; all, if there is no such line
 unfoldable pub script_length : List (List ℕ) → ℕ
 script_length [] = 0
 script_length (p ∷ []) = length p

@@ -126,8 +126,8 @@ step_line st n None line = history_taken st line
 
 -- ---- the states of the transactions
 
--- `acked` stands exactly where there is an acknowledgement, `passed` exactly where there is a point without one, and
--- `new` exactly where there is no begin
+-- `acked` stands exactly if there is an acknowledgement, `passed` exactly if there is a point without one, and
+-- `new` exactly if there is no begin
 unfoldable pub fits_mark : Mark → TxState → Bool
 fits_mark marks.New tx_states.New = true
 fits_mark marks.Begun tx_states.Current = true

@@ -40,7 +40,7 @@ history_of s es = map (ops_of s) (points_of es)
 abbrev pub left_by : Script → List Event → List Versioned
 left_by s es = serial_map (start_map s.config) (history_of s es)
 
--- a copy is not older than what is left; where it is valid or of that version, it is that
+-- a copy is not older than what is left; if it is valid or of that version, it is that
 pub record IsCurrent (c : Copy) (left : Versioned) : Type 0 where
   pub newer : left.ver ≤ c.ver
   pub valid : c.state ≡ copy_states.Valid → (c.ver ≡ left.ver) × (c.value ≡ left.value)

@@ -62,7 +62,7 @@ tx_state_of w =
     (if bytes_eq w (codes "acked") then Ok tx_states.Acked else
     (if bytes_eq w (codes "refused") then Ok tx_states.Refused else Err Word)))))
 
--- a word that does not fit, where the test fails
+-- a word that does not fit, because the test fails
 unfoldable pub expected : Bool → Result (Unit {0}) Kind
 expected true = Ok tt
 expected false = Err Word
@@ -82,7 +82,7 @@ unfoldable pub owner_of : ℕ → Bool × List (List ℕ) → Result (Option ℕ
 owner_of nodes (true, ws) = Ok (None, ws)
 owner_of nodes (false, ws) = range_at 0 nodes ws >>= λ n. Ok (Some n.0, n.1)
 
--- a node, or `-` where there is none
+-- a node, or `-` if there is none
 unfoldable pub owner_at : ℕ → List (List ℕ) → Result (Option ℕ × List (List ℕ)) Kind
 owner_at nodes ws = owner_of nodes (word_if (codes "-") ws)
 
@@ -93,7 +93,7 @@ replicas_of nodes (false, ws) = do
   ns ← nodes_after nodes None None [] 0 (cut 44 w.0)
   Ok (ns, w.1)
 
--- rising nodes with commas between them, or `-` where there is none
+-- rising nodes with commas between them, or `-` if there is none
 unfoldable pub replicas_at : ℕ → List (List ℕ) → Result (List ℕ × List (List ℕ)) Kind
 replicas_at nodes ws = replicas_of nodes (word_if (codes "-") ws)
 

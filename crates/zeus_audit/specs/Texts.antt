@@ -24,11 +24,11 @@ point_text k reply = codes "*" ++ number k ++ word (reply_text reply)
 abbrev pub history_text : List ℕ → List ℕ
 history_text points = codes "history" ++ spaced (map decimal points)
 
--- what stands behind a prefix, where the line begins with it
+-- what stands behind a prefix, if the line begins with it
 unfoldable pub behind : List ℕ → List ℕ → Option (List ℕ)
 behind prefix line = if bytes_eq (take (length prefix) line) prefix then Some (drop (length prefix) line) else None
 
--- a part of the line was lent, where there is one
+-- a part of the line was lent, if there is one
 abbrev pub IsBehind : Option (Bor (List ℕ)) → Option (List ℕ) → Type 0
 IsBehind None there = there ≡ None
 IsBehind (Some part) there = there ≡ Some part.now

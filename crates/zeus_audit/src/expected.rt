@@ -28,7 +28,7 @@ fn write_step_head(out: &mut Vec<u8>, told: u64, step: &Step) -> Result<(), NoMe
     append(out, b" = ")
 }
 
-/// What stands behind `I STEP = ` in the line, where it begins so.
+/// What stands behind `I STEP = ` in the line, if it begins so.
 pub(crate) fn answer_of<'a>(
     expected: &mut Vec<u8>,
     line: &'a [u8],

@@ -13,7 +13,7 @@ use zeus_model::{Kind, ScriptFault};
 /// The most bytes of an input.
 const MOST_BYTES: usize = 2_147_483_647;
 
-/// How many bytes there are up to and with the first line `end`; all, where there is no such line.
+/// How many bytes there are up to and with the first line `end`; all, if there is no such line.
 fn script_length(bytes: &[u8]) -> usize
     requires { length bytes.now ≤ 2147483647 }
     ensures length { result ≡ script_length (cut 10 bytes.now) }

@@ -10,7 +10,7 @@ ghost use Rattle.zeus_audit.specs.declared.verdict.Verdict.TheVariants as verdic
 /// transaction has its point once, behind its begin, and its acknowledgement once, behind its point; the printed replies are
 /// those of the transactions run one after another in the order of their points, which the printed history lists; a
 /// transaction that is printed as acknowledged has its acknowledgement; and no printed copy is older than what the points
-/// leave, or, where it is valid or of that version, other than it.
+/// leave, or, if it is valid or of that version, other than it.
 pub fn a_sound_report_is_a_serial_history()
     ensures { (s : Script) (text : List ℕ) → FitsScript s → audited s text ≡ verdicts.Sound → IsSerialReport s text }
 {}

@@ -90,7 +90,7 @@ pub(crate) fn take_lost(
     Ok(())
 }
 
-/// Whether a node is above the last one, where there is one.
+/// Whether a node is above the last one, if there is one.
 #[tactic(auto, unfolding(crate::specs::Rules::is_above))]
 fn is_above(last: Option<NodeId>, node: NodeId) -> bool
     ensures { result ≡ is_above last node }

@@ -113,7 +113,7 @@ pub(crate) fn state_shape(words: &mut Parts, id: u64) -> Result<TxState, Kind>
     Ok(state)
 }
 
-/// A node of so many, or `-` where there is none.
+/// A node of so many, or `-` if there is none.
 #[tactic(auto, unfolding(crate::specs::Shapes::owner_at, crate::specs::Shapes::owner_of))]
 fn owner(words: &mut Parts, nodes: u8) -> Result<Option<NodeId>, Kind>
     requires { nodes ≤ 8 }
@@ -125,7 +125,7 @@ fn owner(words: &mut Parts, nodes: u8) -> Result<Option<NodeId>, Kind>
     Ok(Some(words.node(nodes)?))
 }
 
-/// Rising nodes of so many with commas between them, or `-` where there is none.
+/// Rising nodes of so many with commas between them, or `-` if there is none.
 #[tactic(auto, unfolding(crate::specs::Shapes::replicas_at, crate::specs::Shapes::replicas_of))]
 fn replicas(words: &mut Parts, nodes: u8) -> Result<NodeSet, Kind>
     requires { nodes ≤ 8 }

@@ -14,7 +14,7 @@ use std::test::Fail;
 /// Where the report begins in the input with two nodes.
 const SCRIPT_LINES: usize = 16;
 
-// The line that the verdict of an input is told by; none where its script has a fault.
+// The line that the verdict of an input is told by; none if its script has a fault.
 fn told(alloc: Global, bytes: &[u8]) -> Result<Option<Vec<u8>>, Fail> {
     match audit_input(alloc, bytes) {
         Ok(verdict) => Ok(Some(verdict_line(alloc, &verdict)?)),
