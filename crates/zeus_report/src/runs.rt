@@ -12,13 +12,12 @@ use crate::answers::write_answer;
 use crate::letters::write_packets;
 use crate::standing::write_final;
 use crate::steps::write_acked;
-use crate::words::write_reply;
 use printed_history::every_report_prints_its_history;
 use soundness::every_run_keeps_its_promise;
 use std::alloc::Global;
 use zeus_base::{NoMemory, Step, TxId};
 use zeus_model::{Answer, Name, Script};
-use zeus_text::{append, write_counted, write_decimal, write_line_end, write_step};
+use zeus_text::{append, write_counted, write_decimal, write_line_end, write_reply, write_step};
 use zeus_txn::Reply;
 use zeus_world::{Report, World};
 

@@ -1,12 +1,11 @@
-//! The words of a report alone: stamps, sets of nodes and replies.
+//! The words of a report alone: stamps, sets of nodes and states of copies.
 ghost use Rattle.std.specs.Prelude.{◌≡◌, ◌++◌, OnOk};
-ghost use Rattle.zeus_model.specs.ReportWords.{stream_text, stamp_text, nodes_text, optional_node, state_text, values_text, reply_text};
+ghost use Rattle.zeus_model.specs.ReportWords.{stream_text, stamp_text, nodes_text, optional_node, state_text};
 ghost use Rattle.zeus_model.specs.Spelling.{word};
 
-use zeus_base::{NoMemory, NodeId, NodeSet, Stamp, Stream, Value};
+use zeus_base::{NoMemory, NodeId, NodeSet, Stamp, Stream};
 use zeus_packet::State;
-use zeus_text::{append, write_counted, write_decimal, write_number, write_value};
-use zeus_txn::Reply;
+use zeus_text::{append, write_decimal, write_number};
 
 /// Writes a space and the stream as `node.slot`.
 pub(crate) fn write_stream(out: &mut Vec<u8>, stream: &Stream) -> Result<(), NoMemory>
@@ -62,27 +61,6 @@ pub(crate) fn write_optional_node(out: &mut Vec<u8>, node: Option<NodeId>) -> Re
         Some(node) => write_number(out, u64::from(node.0)),
         None => append(out, b" -"),
     }
-}
-
-fn write_values(out: &mut Vec<u8>, values: &[Value]) -> Result<(), NoMemory>
-    ensures { OnOk result (out.new.items ≡ out.old.items ++ values_text values.now) }
-{
-    for value in values {
-        write_value(out, value)?;
-    }
-    Ok(())
-}
-
-/// Writes the reply of a transaction.
-#[tactic(auto, unfolding(zeus_model::specs::ReportWords::outcome_text))]
-pub(crate) fn write_reply(out: &mut Vec<u8>, reply: &Reply) -> Result<(), NoMemory>
-    ensures { OnOk result (out.new.items ≡ out.old.items ++ reply_text reply.now) }
-{
-    match reply.failed {
-        None => append(out, b"ok")?,
-        Some(place) => write_counted(out, b"failed", u64::from(place))?,
-    }
-    write_values(out, reply.values.as_slice())
 }
 
 /// The word for the state of a copy.

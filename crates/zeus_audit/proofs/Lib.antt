@@ -1,0 +1,10 @@
+pub mod Fits
+pub mod Implies
+pub mod InputLaws
+pub mod LineByLine
+pub mod Replying
+pub mod ShapeLaws
+pub mod Taken
+pub mod Telling
+pub mod Tells
+pub mod Versions

@@ -1,0 +1,10 @@
+pub mod Auditing
+pub mod Events
+pub mod Fitting
+pub mod Inputs
+pub mod Progress
+pub mod Rules
+pub mod Serial
+pub mod Shapes
+pub mod Texts
+pub mod Verdicts
