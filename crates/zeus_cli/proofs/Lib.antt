@@ -1,4 +1,7 @@
-pub mod Due
+pub mod Auditing
+pub mod Ending
+pub mod LeasesRead
 pub mod Numbers
 pub mod Reading
+pub mod Refusing
 pub mod Words

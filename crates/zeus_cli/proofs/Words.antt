@@ -1,13 +1,11 @@
 -- Words of a command line.
-use Rattle.std.proofs.Common.{◌≡◌, ◌≤◌, ◌<◌, ◌++◌, List, [], ◌∷◌, length, get_or, map, drop, arith, false, true, Option, Some, None, refl}
-use Rattle.std.specs.Prelude.{String, string_bytes, IsSome, ◌↔◌}
+use Rattle.std.proofs.Common.{ℕ, ◌≡◌, ◌<◌, ◌++◌, List, [], ◌∷◌, length, drop, arith, false, true, Option, Some, None, refl}
+use Rattle.std.specs.Prelude.{IsSome, ◌↔◌}
 use Rattle.std.specs.Option.{option_to_list}
 
--- where there is one word, the words are that word
-pub one_word : {A : Type 0} (words : List (String A)) (w : String A) → 1 ≤ length words → length words < 2 → w ≡ get_or words 0 w → map string_bytes words ≡ string_bytes w ∷ []
-one_word [] w some few here = absurd (omega arith)
-one_word (u ∷ []) w some few here = cc here
-one_word (u ∷ (v ∷ vs)) w some few here = absurd (omega arith)
+-- what stands behind the first word
+pub rest_same : {x y : List ℕ} {xs ys zs : List (List ℕ)} → zs ≡ x ∷ xs → zs ≡ y ∷ ys → xs ≡ ys
+rest_same {x} {y} {xs} {ys} {zs} e f = cc (e, f)
 
 -- what is left behind the first word, if there is one, are the words but the first
 pub drop-next : {A : Type 0} (first : Option A) (rest all : List A) → all ≡ option_to_list first ++ rest → IsSome first ↔ (0 < length all) → rest ≡ drop 1 all

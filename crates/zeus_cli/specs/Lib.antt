@@ -1,5 +1,8 @@
-pub mod Top
-pub mod Output
-pub mod Refusal
-pub mod Inputs
+pub mod Audits
 pub mod Command
+pub mod Ends
+pub mod Inputs
+pub mod Leases
+pub mod Refusal
+pub mod Runs
+pub mod Storms

@@ -1,9 +1,9 @@
--- The lines for bytes that are no script.
-use Rattle.std.specs.Prelude.{ℕ, false, ◌≡◌, List, ◌++◌, Err, codes}
+-- The lines for bytes that are no input of their command.
+use Rattle.std.specs.Prelude.{ℕ, ◌≡◌, ◌<◌, ◌⊎◌, List, ◌++◌, Option, Result, Err, codes, length}
+use Rattle.std.specs.Io.KnownBytes.{IsAtEnd}
 use Rattle.zeus_model.specs.ReportText.{line_end}
 use Rattle.zeus_model.specs.ReportWords.{number}
 use Rattle.zeus_model.specs.Spelling.{word}
-use Rattle.script_lang.specs.Reading.{script_read}
 use Rattle.zeus_model.specs.declared.fault.Kind.{Kind}
 use Rattle.zeus_model.specs.declared.fault.Kind.TheVariants.{Missing, LineEnd, Word, Text, Number, Range, Name, Twice, Unknown, Long, Extra, Live, Size}
 use Rattle.zeus_model.specs.declared.fault.ScriptFault.{ScriptFault}
@@ -27,8 +27,15 @@ kind_text Size = codes "size"
 abbrev pub fault_line : ScriptFault → List ℕ
 fault_line f = codes "script" ++ number f.line ++ word (kind_text f.kind) ++ line_end
 
--- the line is that of the fault of the bytes
-pub record IsFaultLine (bytes text : List ℕ) : Type 0 where
+-- the line is that of the fault that reading the bytes gives
+pub record IsFaultLine {A : Type 0} (read : List ℕ → Result A ScriptFault) (bytes text : List ℕ) : Type 0 where
   pub fault : ScriptFault
-  pub read : script_read false bytes ≡ Err fault
+  pub is_read : read bytes ≡ Err fault
   pub text_is : text ≡ fault_line fault
+
+-- the bytes are none that the command takes, and all that there were or more than it can take; this text is the line of
+-- their fault
+pub record IsRefused {A : Type 0} (read : List ℕ → Result A ScriptFault) (IsNone : List ℕ → Type 0) (most : ℕ) (after : Option (List ℕ)) (text taken : List ℕ) : Type 0 where
+  pub whole : IsAtEnd after ⊎ (most < length taken)
+  pub none : IsNone taken
+  pub line : IsFaultLine read taken text

@@ -1,5 +1,7 @@
 mod examples;
 mod large;
+mod leases;
+mod storms;
 
 use crate::zeus_top;
 use examples::{
@@ -133,7 +135,16 @@ fn each_front_of_a_script_wants_a_line_or_its_end(rt: HostRuntime) -> Result<(),
 #[test]
 fn other_words_get_the_line_usage(rt: HostRuntime) -> Result<(), Fail> {
     let alloc = rt.alloc();
-    for texts in [["walk"].as_slice(), &["run", "x"], &["storm", "01"], &[]] {
+    for texts in [
+        ["walk"].as_slice(),
+        &["run", "x"],
+        &["lease", "run"],
+        &["storm", "01"],
+        &["storm", "9", "1", "1", "1", "0", "0", "0", "7"],
+        &["storm", "1", "1", "1", "1", "0", "0", "0", "07"],
+        &["storm", "1", "1", "1", "1", "0", "0", "0", "7", "7"],
+        &[],
+    ] {
         let mut source = SafeSource::new(Vec::from_slice(alloc, b"zeus 1\n")?);
         let mut sink = SafeSink::with_room(alloc, 100)?;
         let status = zeus_top(alloc, &words(alloc, texts)?, &mut source, &mut sink);

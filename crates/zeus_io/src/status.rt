@@ -18,12 +18,14 @@ pub enum Status {
     WriteFault,
     /// Memory ran out.
     OutOfMemory,
+    /// The answer is written, whole, and it says that a report breaks a rule.
+    Unsound,
 }
 
 impl Status {
     ghost use Rattle.zeus_io.specs.Status.{exit_status};
 
-    /// The exit status: 0 for `Done`, then 1 to 6 in the order of the variants.
+    /// The exit status: 0 for `Done`, then 1 to 7 in the order of the variants.
     pub fn number(self) -> u8
         ensures { result ≡ exit_status self }
     {
@@ -35,6 +37,7 @@ impl Status {
             Status::ReadFault => 4,
             Status::WriteFault => 5,
             Status::OutOfMemory => 6,
+            Status::Unsound => 7,
         }
     }
 }

@@ -45,6 +45,7 @@ fn each_status_has_its_number(rt: HostRuntime) {
         (Status::ReadFault, 4),
         (Status::WriteFault, 5),
         (Status::OutOfMemory, 6),
+        (Status::Unsound, 7),
     ] {
         assert_eq!(rt; status.number(), number);
     }

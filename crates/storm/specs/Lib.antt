@@ -1,0 +1,5 @@
+pub mod Numbers
+pub mod Script
+pub mod Counts
+pub mod Storm
+pub mod Summary
