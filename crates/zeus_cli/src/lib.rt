@@ -15,6 +15,3 @@ mod top;
 pub use program::answer_command;
 pub use top::zeus_top;
 pub use zeus_io::{Sink, Source, Status};
-
-#[cfg(test)]
-mod tests;

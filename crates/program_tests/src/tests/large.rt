@@ -1,9 +1,9 @@
 //! Runs at the ends of the limits: memory is never wanted where it is there.
 
 use super::words;
-use crate::zeus_top;
 use std::alloc::{AllocError, Global};
 use std::test::Fail;
+use zeus_cli::zeus_top;
 use zeus_io::{SafeSink, SafeSource, Status};
 
 // A script of 8 nodes and 8 slots, 256 objects, a transaction for each slot of node 0, and 50,000 steps: a begin and a

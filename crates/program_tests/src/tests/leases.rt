@@ -1,7 +1,7 @@
 //! Scripts of leases and the whole answers that they have, from an independent program.
 use super::words;
-use crate::zeus_top;
 use std::test::Fail;
+use zeus_cli::zeus_top;
 use zeus_io::{SafeSink, SafeSource, Status};
 
 /// The script `examples/lease-held.leases`.

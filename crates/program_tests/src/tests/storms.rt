@@ -1,7 +1,7 @@
 //! Storms whose summaries an independent program printed.
 use super::words;
-use crate::zeus_top;
 use std::test::Fail;
+use zeus_cli::zeus_top;
 use zeus_io::{SafeSink, SafeSource, Status};
 
 const NO_STEP: &str = "storm 1 1 1 1 0 0 0 7

@@ -3,7 +3,6 @@ mod large;
 mod leases;
 mod storms;
 
-use crate::zeus_top;
 use examples::{
     LATE_VALIDATION, LATE_VALIDATION_REPORT, NO_STEP, NO_STEP_REPORT, ONE_NODE, ONE_NODE_REPORT,
     OWNERSHIP_MOVES, OWNERSHIP_MOVES_REPORT, READER_COMES_AND_GOES, READER_COMES_AND_GOES_REPORT,
@@ -15,6 +14,7 @@ use std::alloc::{AllocError, Global};
 use std::io;
 use std::io::Read;
 use std::test::Fail;
+use zeus_cli::zeus_top;
 use zeus_io::{MemSink, MemSource, SafeSink, SafeSource, Status, StdSource};
 
 // A reader that always fails.

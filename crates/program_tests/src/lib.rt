@@ -1,0 +1,5 @@
+//! Tests of the whole program: what it answers and writes for words and input.
+#![tactic(auto)]
+
+#[cfg(test)]
+mod tests;
