@@ -1,3 +1,4 @@
+mod audits;
 mod examples;
 mod large;
 mod leases;
@@ -139,6 +140,7 @@ fn other_words_get_the_line_usage(rt: HostRuntime) -> Result<(), Fail> {
         ["walk"].as_slice(),
         &["run", "x"],
         &["lease", "run"],
+        &["audit", ""],
         &["storm", "01"],
         &["storm", "9", "1", "1", "1", "0", "0", "0", "7"],
         &["storm", "1", "1", "1", "1", "0", "0", "0", "07"],

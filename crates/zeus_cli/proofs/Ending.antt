@@ -1,5 +1,5 @@
 -- How a command ends: what its answer, its halt and its words tell of the end.
-use Rattle.std.proofs.Common.{ℕ, ◌≡◌, ◌≢◌, ◌≤◌, ◌∙◌, false, List, length, map, drop, Option, Some, None, length-append, arith, subst, sym, refl, inl, inr, ap}
+use Rattle.std.proofs.Common.{ℕ, ◌≡◌, ◌≢◌, ◌≤◌, ◌∙◌, false, List, [], ◌∷◌, length, map, drop, Option, Some, None, length-append, arith, subst, sym, refl, inl, inr, ap}
 use Rattle.std.specs.Prelude.{◌⊎◌, ◌==◌, Result, Ok, Err, String, string_bytes}
 use Rattle.std.specs.Io.KnownBytes.{Consumes}
 use Rattle.std.specs.Vec.Iter.{into_iter_items}
@@ -140,6 +140,16 @@ leases_kept before after text h t =
 audit_kept : (before after : Option (List ℕ)) (text : List ℕ) → Holds before IsAuditInput → IsAuditRefusal before after text → ⊥
 audit_kept before after text h t = never_refused input_audited IsNoAuditInput longest_audited before after h.bytes text h.known h.is_so.few_bytes (λ none. none h.is_so) t
 
+-- the first letter of the first word
+abbrev initial : List (List ℕ) → ℕ
+initial ((letter ∷ letters) ∷ words) = letter
+initial ([] ∷ words) = 0
+initial [] = 0
+
+-- words are not those of both
+lease_or_audit : (words : List (List ℕ)) → words ≡ command_words Lease → words ≡ command_words Audit → ⊥
+lease_or_audit words e f = let same : 108 ≡ 97 = ap initial (sym e ∙ f) in omega (arith, same)
+
 -- the answer to a command is one to its input, where there is one
 run_answered : (found : Command) (words : List (List ℕ)) (before after : Option (List ℕ)) (status : Status) (text : List ℕ) → words ≡ command_words found → words ≡ command_words Run
     → HasInput Run before → IsAnswer (Some found) before after status text → status ≡ Done
@@ -154,13 +164,13 @@ lease_answered : (found : Command) (words : List (List ℕ)) (before after : Opt
 lease_answered Run words before after status text e f has h = absurd cc
 lease_answered Lease words before after status text e f has (inl h) = h.0
 lease_answered Lease words before after status text e f has (inr h) = absurd (leases_kept before after text has h.1)
-lease_answered Audit words before after status text e f has h = absurd cc
+lease_answered Audit words before after status text e f has h = absurd (lease_or_audit words f e)
 lease_answered (Storm n) words before after status text e f has h = absurd cc
 
 audit_answered : (found : Command) (words : List (List ℕ)) (before after : Option (List ℕ)) (status : Status) (text : List ℕ) → words ≡ command_words found → words ≡ command_words Audit
     → HasInput Audit before → IsAnswer (Some found) before after status text → IsAnswered Audit status
 audit_answered Run words before after status text e f has h = absurd cc
-audit_answered Lease words before after status text e f has h = absurd cc
+audit_answered Lease words before after status text e f has h = absurd (lease_or_audit words e f)
 audit_answered Audit words before after status text e f has (inl h) = elim (verdict_plain h.verdict) [ inl done ↦ inl (h.status_is ∙ done) | inr unsound ↦ inr (h.status_is ∙ unsound) ]
 audit_answered Audit words before after status text e f has (inr h) = absurd (audit_kept before after text has h.1)
 audit_answered (Storm n) words before after status text e f has h = absurd cc
