@@ -1,6 +1,5 @@
 mod examples;
 
-use super::*;
 use examples::{
     LATE_VALIDATION, LOST_OBJECT, ONE_NODE, OWNERSHIP_MOVES, READER_COMES_AND_GOES,
     REPEATED_PACKETS, SECOND_ENTRY_FIRST, SURVIVOR_REPLAYS, TEXTS_AS_VALUES, TWO_DRIVERS,
@@ -10,6 +9,7 @@ use script_lang::{Kind, ScriptFault};
 use std::alloc::{AllocError, Global};
 use std::process::Abort;
 use std::test::Fail;
+use zeus_audit::{ReadScript, audit_input, verdict_line};
 
 /// Where the report begins in the input with two nodes.
 const SCRIPT_LINES: usize = 16;
