@@ -3,8 +3,6 @@
 
 mod gathers;
 mod source;
-#[cfg(test)]
-mod tests;
 
 pub use gathers::{Ack, Decision, Gathers};
 pub use object_table::Copies;

@@ -3,8 +3,6 @@
 
 mod due;
 mod pipe;
-#[cfg(test)]
-mod tests;
 
 pub use due::Due;
 pub use pipe::{Full, Pipe, PipeOver, PlainPipe};

@@ -1,4 +1,3 @@
 pub mod Answering
 pub mod Leading
 pub mod Passing
-pub mod TestConfig

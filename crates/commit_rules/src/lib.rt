@@ -3,8 +3,6 @@
 
 mod finishing;
 mod follow;
-#[cfg(test)]
-mod tests;
 
 pub use finishing::finish;
 pub use follow::{on_rack, on_recovered, on_rinv, on_rval};

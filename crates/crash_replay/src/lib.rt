@@ -2,8 +2,6 @@
 #![tactic(auto)]
 
 mod replay;
-#[cfg(test)]
-mod tests;
 
 pub use follower_log::Stored;
 pub use replay::{is_recovered, next_replay};

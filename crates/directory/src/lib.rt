@@ -2,8 +2,6 @@
 #![tactic(auto)]
 
 mod drive;
-#[cfg(test)]
-mod tests;
 
 pub use drive::{Drive, Drives};
 pub use owner_entry::Dir;

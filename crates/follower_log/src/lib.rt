@@ -3,8 +3,6 @@
 
 mod log;
 mod stored;
-#[cfg(test)]
-mod tests;
 
 pub use stored::{Store, Stored, StoredOver};
 pub use zeus_base::{Config, NoMemory, NodeId, NodeSet, Stream};

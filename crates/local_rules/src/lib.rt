@@ -3,8 +3,6 @@
 
 mod begins;
 mod reads;
-#[cfg(test)]
-mod tests;
 mod tries;
 mod writes;
 

@@ -4,8 +4,6 @@
 mod attempt;
 mod causes;
 mod commit;
-#[cfg(test)]
-mod tests;
 
 pub use attempt::{WriteTry, try_write};
 pub use commit_pipeline::Pipe;

@@ -3,8 +3,6 @@
 
 mod link;
 mod links;
-#[cfg(test)]
-mod tests;
 
 pub use links::Links;
 pub use zeus_base::{NoMemory, NodeId};

@@ -3,8 +3,6 @@
 
 mod barrier;
 mod service;
-#[cfg(test)]
-mod tests;
 
 pub use barrier::Barrier;
 pub use service::Service;

@@ -3,8 +3,6 @@
 
 mod copies;
 mod hold;
-#[cfg(test)]
-mod tests;
 
 pub use copies::Copies;
 pub use hold::Hold;

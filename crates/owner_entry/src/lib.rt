@@ -3,8 +3,6 @@
 
 mod dir;
 mod entry;
-#[cfg(test)]
-mod tests;
 
 pub use dir::Dir;
 pub use entry::{Accept, OwnerEntry};

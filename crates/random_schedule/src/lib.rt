@@ -26,6 +26,3 @@ pub use words::Words;
 pub use zeus_base::{NoMemory, NodeId, Step, Steps};
 pub use zeus_model::Script;
 pub use zeus_world::World;
-
-#[cfg(test)]
-mod tests;

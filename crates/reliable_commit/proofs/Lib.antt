@@ -3,4 +3,3 @@ pub mod Taking
 pub mod Writing
 pub mod Passing
 pub mod Steps
-pub mod Starting

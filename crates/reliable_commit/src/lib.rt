@@ -3,8 +3,6 @@
 
 mod advance;
 mod follow;
-#[cfg(test)]
-mod tests;
 mod writes;
 
 pub use advance::{Advance, advance_kept, advance_own};

@@ -3,8 +3,6 @@
 
 mod reads;
 mod run;
-#[cfg(test)]
-mod tests;
 
 pub use object_table::Copies;
 pub use reads::{ReadTry, try_read};

@@ -14,8 +14,6 @@ mod reader;
 mod reading;
 mod stage;
 mod steps;
-#[cfg(test)]
-mod tests;
 mod transactions;
 mod words;
 

@@ -3,4 +3,3 @@ pub mod Telling
 pub mod Leaving
 pub mod Driving
 pub mod Repeating
-pub mod TestConfig

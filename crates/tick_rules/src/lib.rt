@@ -4,8 +4,6 @@
 mod entries;
 mod leaves;
 mod proposals;
-#[cfg(test)]
-mod tests;
 mod timer;
 
 pub use node_state::{Effect, NodeState};

@@ -15,8 +15,6 @@ mod script;
 mod state;
 mod step;
 mod steps;
-#[cfg(test)]
-mod tests;
 
 pub use answer::LeaseAnswer;
 pub use fault_law::other_bytes_have_one_fault;

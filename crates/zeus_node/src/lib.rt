@@ -3,8 +3,6 @@
 
 mod node;
 mod receiving;
-#[cfg(test)]
-mod tests;
 
 pub use node::Node;
 pub use node_state::{Effect, Letters, NodeState, PassedList};

@@ -3,8 +3,6 @@
 
 mod replies;
 mod steps;
-#[cfg(test)]
-mod tests;
 mod words;
 
 pub use replies::write_reply;

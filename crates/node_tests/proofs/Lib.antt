@@ -1,0 +1,5 @@
+pub mod CommitStart
+pub mod TickStart
+pub mod LocalStart
+pub mod NodeStart
+pub mod StartSizes

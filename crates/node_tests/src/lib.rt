@@ -1,0 +1,5 @@
+//! Tests of the rules at a whole node, of the node, and of the links: typical calls with their answers.
+#![tactic(auto)]
+
+#[cfg(test)]
+mod tests;

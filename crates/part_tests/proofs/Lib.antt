@@ -1,0 +1,2 @@
+pub mod StreamStart
+pub mod Below

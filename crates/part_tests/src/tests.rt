@@ -1,0 +1,11 @@
+mod arbitration_calls;
+mod commit_pipeline_calls;
+mod crash_replay_calls;
+mod directory_calls;
+mod follower_log_calls;
+mod local_txn_calls;
+mod membership_calls;
+mod object_table_calls;
+mod owner_entry_calls;
+mod reliable_commit_calls;
+mod replica_reads_calls;

@@ -1,0 +1,3 @@
+mod script_lang_calls;
+mod zeus_lease_calls;
+mod zeus_text_calls;

@@ -1,0 +1,5 @@
+//! Tests of packets as bytes.
+#![tactic(auto)]
+
+#[cfg(test)]
+mod tests;

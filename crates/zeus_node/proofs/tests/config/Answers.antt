@@ -1,7 +1,0 @@
-use Rattle.zeus_base.specs.Nodes.{with_node}
-use Rattle.zeus_node.proofs.TestConfig.{two_nodes-limits}
-use Rattle.zeus_node.proofs.tests.config.Goals as goal
-
-pub returns-clause-limits : goal.returns-clause-limits
-unfolding with_node
-returns-clause-limits c = rw (c.from_vec.ensures, c.in_ok-vec.ensures.items, c.insert-zero.ensures, c.empty.ensures) two_nodes-limits
