@@ -189,7 +189,8 @@ copied st x replicas last node c =
 -- `copy NAME NODE STATE VERSION VALUE` of object x, behind the copy at the last node
 unfoldable pub copy_taken : Script → State → ℕ → List ℕ → Option ℕ → Option (List ℕ) → List ℕ → Result State Rule
 copy_taken s st x replicas last (Some name) line =
-    in_form (copy_shape s.config.nodes s.config.version name (cut 32 line)) (λ c. copied st x replicas last c.node record { value = c.value; ver = c.ver; state = c.state })
+    in_form (copy_shape s.config.nodes s.config.version name (cut 32 line)) (λ c.
+    copied st x replicas last c.node record { value = c.value; ver = c.ver; state = c.state })
 copy_taken s st x replicas last None line = Err rules.Form
 
 -- copies come behind their object

@@ -14,8 +14,6 @@ mod replies;
 mod shapes;
 mod stage;
 mod steps;
-#[cfg(test)]
-mod tests;
 mod verdict;
 
 pub use auditing::audit;
