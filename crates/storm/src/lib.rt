@@ -17,6 +17,3 @@ pub use script::storm_script;
 pub use text::summary;
 pub use zeus_base::NoMemory;
 pub use zeus_model::Script;
-
-#[cfg(test)]
-mod tests;
