@@ -24,11 +24,14 @@ pub refused : {A : Type 0} (read : List ℕ → Result A ScriptFault) (IsNone : 
     → (Q : Option (List ℕ) → Option (List ℕ) → Status → List ℕ → Type 0) → ((before after : Option (List ℕ)) (status : Status) (text : List ℕ) → Refuses read IsNone most before after status text → Q before after status text)
     → IfOk r (λ a. (before after : Option (List ℕ)) → TakesAll before after bytes → Q before after a.status a.text.items)
 refused read IsNone most bytes f is none (Ok a) status line Q answers = λ before after all.
-    answers before after a.status a.text.items (status, record {
-      taken = bytes;
-      from_front = all.from_front;
-      holds = record { whole = inl all.to_end; none = none; line = record { fault = f; is_read = is; text_is = line } };
-    })
+    answers before after a.status a.text.items (
+      status,
+      record {
+        taken = bytes;
+        from_front = all.from_front;
+        holds = record { whole = inl all.to_end; none = none; line = record { fault = f; is_read = is; text_is = line } };
+      },
+    )
 refused read IsNone most bytes f is none (Err e) status line Q answers = tt
 
 -- more bytes than the command can take are refused by their number
@@ -37,8 +40,11 @@ pub refused_size : {A : Type 0} (read : List ℕ → Result A ScriptFault) (IsNo
     → status ≡ ScriptStatus → text ≡ fault_line (fault_at 0 Size) → Refuses read IsNone most before after status text
 refused_size read IsNone most before after (Whole bytes) status text longer is t script line = absurd (cc is)
 refused_size read IsNone most before after TooLong status text longer is t script line =
-    let of = longer t.taken t.holds in (script, record {
-      taken = t.taken;
-      from_front = t.from_front;
-      holds = record { whole = inr t.holds; none = of.0; line = record { fault = fault_at 0 Size; is_read = of.1; text_is = line } };
-    })
+    let of = longer t.taken t.holds in (
+      script,
+      record {
+        taken = t.taken;
+        from_front = t.from_front;
+        holds = record { whole = inr t.holds; none = of.0; line = record { fault = fault_at 0 Size; is_read = of.1; text_is = line } };
+      },
+    )
