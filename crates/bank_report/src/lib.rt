@@ -12,3 +12,6 @@ pub use text::report_text;
 pub use totals::{Tally, held};
 pub use zeus_base::NoMemory;
 pub use zeus_txn::Map;
+
+#[cfg(test)]
+mod tests;

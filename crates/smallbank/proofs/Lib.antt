@@ -1,0 +1,6 @@
+pub mod Picking
+pub mod Fitting
+pub mod Running
+pub mod Declaring
+pub mod Counting
+pub mod Answering
