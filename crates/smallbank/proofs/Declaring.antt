@@ -10,12 +10,15 @@ objects_next a (suc n) k e = let same : n ≡ k = omega arith in ap (λ j. bank_
 
 -- so far and the rest: the rest begins with the two objects of the next account
 pub objects_more : (before : List ObjectDecl) (a n : ℕ) → a < n
-    → (before ++ bank_object a ∷ bank_object a ∷ []) ++ objects_from (a + 1) (n - (a + 1)) ≡ before ++ objects_from a (n - a)
+    → ((before ++ bank_object a ∷ []) ++ bank_object a ∷ []) ++ objects_from (a + 1) (n - (a + 1)) ≡ before ++ objects_from a (n - a)
 objects_more before a n h =
     let one : a + 1 ≡ suc a = omega arith in
     let next = objects_next a (n - a) (n - suc a) (omega arith) in
     let rest = objects_from (suc a) (n - suc a) in
-    rw one (append_assoc before (bank_object a ∷ bank_object a ∷ []) rest ∙ ap (λ (os : List ObjectDecl). before ++ os) (sym next))
+    rw one
+    (append_assoc (before ++ bank_object a ∷ []) (bank_object a ∷ []) rest
+    ∙ append_assoc before (bank_object a ∷ []) (bank_object a ∷ rest)
+    ∙ ap (λ (os : List ObjectDecl). before ++ os) (sym next))
 
 pub objects-none : (a n : ℕ) → n ≤ a → objects_from a (n - a) ≡ []
 unfolding objects_from

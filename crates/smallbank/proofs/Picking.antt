@@ -10,7 +10,7 @@ use Rattle.random_schedule.specs.Words.{next_word, pick}
 use Rattle.bank_ledger.specs.declared.bank_tx.BankTx.{BankTx}
 use Rattle.bank_ledger.specs.declared.bank_tx.BankTx.TheVariants.{Balance, Deposit, Withdraw, Pay, Save}
 use Rattle.bank_ledger.specs.Operations.{FitsAccount, FitsBank}
-use Rattle.smallbank.specs.Orders.{FitsOrder, picked_order, picked_orders, tx_of_kind}
+use Rattle.smallbank.specs.Orders.{FitsOrder, picked_order, picked_orders, picked_tx, tx_of_kind}
 use Rattle.smallbank.specs.declared.orders.Order.{Order}
 
 -- ---- the transaction of a kind
@@ -30,19 +30,24 @@ fits_kind accounts kind a b v here there some few =
     fits_either accounts (kind == 0) (Balance a)
     (if kind == 1 then Deposit a v else (if kind == 2 then Withdraw a v else (if kind == 3 then Pay a b v else Save a v))) here deposit
 
-pub picked-fits : (accounts : ℕ) (words : Lcg) → 1 ≤ accounts → FitsOrder accounts (picked_order accounts words).0
-unfolding picked_order
-picked-fits accounts words some =
-    let kind = pick 5 (pick 2 (pick 4 words).1).1 in
+tx-fits : (accounts : ℕ) (words : Lcg) → 1 ≤ accounts → FitsBank accounts (picked_tx accounts words).0
+unfolding picked_tx
+tx-fits accounts words some =
+    let kind = pick 5 words in
     let a = pick accounts kind.1 in
     let b = pick accounts a.1 in
     let v = pick 100 b.1 in
     let here : a.0 < accounts = mod-lt (next_word kind.1).0 some in
     let there : b.0 < accounts = mod-lt (next_word a.1).0 some in
+    fits_kind accounts kind.0 a.0 b.0 (v.0 + 1) here there (omega arith) (omega arith)
+
+pub picked-fits : (accounts : ℕ) (words : Lcg) → 1 ≤ accounts → FitsOrder accounts (picked_order accounts words).0
+unfolding picked_order
+picked-fits accounts words some =
     record {
       node = omega arith;
       slot = omega arith;
-      tx = fits_kind accounts kind.0 a.0 b.0 (v.0 + 1) here there (omega arith) (omega arith);
+      tx = tx-fits accounts (pick 2 (pick 4 words).1).1 some;
     }
 
 -- ---- orders one after another
@@ -64,8 +69,11 @@ pub record IsPicking (accounts rest : ℕ) (orders : List Order) (words : Lcg) (
   pub orders_are : orders ++ (picked_orders accounts rest words).0 ≡ all.0
   pub words_are : (picked_orders accounts rest words).1 ≡ all.1
 
-pub picking_none : (accounts count : ℕ) (words : Lcg) → IsPicking accounts count [] words (picked_orders accounts count words)
-picking_none accounts count words = record { orders_are = refl; words_are = refl }
+pub picking_none : (accounts count : ℕ) (orders : List Order) (words : Lcg) → orders ≡ []
+    → IsPicking accounts (count - 0) orders words (picked_orders accounts count words)
+picking_none accounts count orders words none =
+    let all : count - 0 ≡ count = omega arith in
+    rw (none, all) record { orders_are = refl; words_are = refl }
 
 picking_next : (accounts rest : ℕ) (orders : List Order) (words : Lcg) (all : List Order × Lcg) → IsPicking accounts (suc rest) orders words all
     → IsPicking accounts rest (orders ++ (picked_order accounts words).0 ∷ []) (picked_order accounts words).1 all

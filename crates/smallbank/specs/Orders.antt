@@ -14,16 +14,22 @@ tx_of_kind kind a b v =
     if kind == 0 then Balance a
     else (if kind == 1 then Deposit a v else (if kind == 2 then Withdraw a v else (if kind == 3 then Pay a b v else Save a v)))
 
--- what is picked for a transaction, one word each: node, slot, kind, two accounts and an amount from 1 to 100
+-- what is picked for a transaction, one word each: kind, two accounts and an amount from 1 to 100
+unfoldable pub picked_tx : ℕ → Lcg → BankTx × Lcg
+picked_tx accounts words =
+    let kind = pick 5 words in
+    let a = pick accounts kind.1 in
+    let b = pick accounts a.1 in
+    let v = pick 100 b.1 in
+    (tx_of_kind kind.0 a.0 b.0 (v.0 + 1), v.1)
+
+-- what is picked for an order: node and slot, one word each, and the transaction
 unfoldable pub picked_order : ℕ → Lcg → Order × Lcg
 picked_order accounts words =
     let node = pick 4 words in
     let slot = pick 2 node.1 in
-    let kind = pick 5 slot.1 in
-    let a = pick accounts kind.1 in
-    let b = pick accounts a.1 in
-    let v = pick 100 b.1 in
-    (record { node = node.0; slot = slot.0; tx = tx_of_kind kind.0 a.0 b.0 (v.0 + 1) }, v.1)
+    let tx = picked_tx accounts slot.1 in
+    (record { node = node.0; slot = slot.0; tx = tx.0 }, tx.1)
 
 -- so many orders, one after another
 unfoldable pub picked_orders : ℕ → ℕ → Lcg → List Order × Lcg

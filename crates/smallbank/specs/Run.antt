@@ -37,10 +37,14 @@ bank_schedule n =
 abbrev pub bank_world : BankNumbers → World
 bank_world n = (bank_schedule n).world
 
+-- 1 for a transaction that is not closed
+unfoldable pub unclosed_one : World → ℕ → ℕ
+unclosed_one w k = if is_closed w k then 0 else 1
+
 -- how many of the transactions are not closed
 unfoldable pub unclosed_of : World → List ℕ → ℕ
 unclosed_of w [] = 0
-unclosed_of w (k ∷ ks) = (if is_closed w k then 0 else 1) + unclosed_of w ks
+unclosed_of w (k ∷ ks) = unclosed_one w k + unclosed_of w ks
 
 abbrev pub unclosed : World → ℕ
 unclosed w = unclosed_of w (below (length w.txs))

@@ -1,6 +1,6 @@
 //! The orders of a bank, chosen by the words of a generator.
 ghost use Rattle.std.specs.Prelude.{◌≡◌, ◌≤◌, ◌++◌, ◌∷◌, [], IfOk, OnOk, map};
-ghost use Rattle.smallbank.specs.Orders.{picked_order, picked_orders, tx_of, tx_of_kind};
+ghost use Rattle.smallbank.specs.Orders.{picked_order, picked_orders, picked_tx, tx_of, tx_of_kind};
 ghost use Rattle.random_schedule.specs.Words.{pick};
 
 use crate::lists::push;
@@ -44,29 +44,30 @@ fn pick_account(words: &mut Words, accounts: u8) -> AccountId
     AccountId(words.pick(u32::from(accounts)) as u8)
 }
 
-/// The next order of a bank with so many accounts.
-#[tactic(auto, unfolding(crate::specs::Orders::picked_order))]
-fn pick_order(words: &mut Words, accounts: u8) -> Order
+/// The transaction of the next order of a bank with so many accounts.
+#[tactic(auto, unfolding(crate::specs::Orders::picked_tx))]
+fn pick_tx(words: &mut Words, accounts: u8) -> BankTx
     requires { (1 ≤ accounts) × (accounts ≤ 128) }
-    ensures { (result, words.new) ≡ picked_order accounts words.old }
+    ensures { (result, words.new) ≡ picked_tx accounts words.old }
 {
-    let node = NodeId(words.pick(4) as u8);
-    let slot = SlotId(words.pick(2) as u8);
     let kind = words.pick(KINDS);
     let account = pick_account(words, accounts);
     let other = pick_account(words, accounts);
     let amount = u64::from(words.pick(MOST)) + 1;
-    let tx = tx_of_kind(kind, account, other, amount);
-    Order { node, slot, tx }
+    tx_of_kind(kind, account, other, amount)
 }
 
 /// Adds the next order of a bank with so many accounts.
+#[tactic(auto, unfolding(crate::specs::Orders::picked_order))]
 fn push_order(orders: &mut Vec<Order>, words: &mut Words, accounts: u8) -> Result<(), NoMemory>
     requires { (1 ≤ accounts) × (accounts ≤ 128) }
     ensures order { OnOk result (orders.new.items ≡ orders.old.items ++ (picked_order accounts words.old).0 ∷ []) }
     ensures words { words.new ≡ (picked_order accounts words.old).1 }
 {
-    push(orders, pick_order(words, accounts))
+    let node = NodeId(words.pick(4) as u8);
+    let slot = SlotId(words.pick(2) as u8);
+    let tx = pick_tx(words, accounts);
+    push(orders, Order { node, slot, tx })
 }
 
 /// So many orders of a bank with so many accounts.

@@ -1,8 +1,8 @@
 //! The run of a bank.
-ghost use Rattle.std.specs.Prelude.{◌≡◌, ◌≤◌, IfOk, length};
+ghost use Rattle.std.specs.Prelude.{◌≡◌, ◌≤◌, ◌<◌, IfOk, length};
 ghost use Rattle.bank_ledger.specs.Bank.{KeepsMoney};
 ghost use Rattle.bank_report.specs.Numbers.{FitsNumbers};
-ghost use Rattle.smallbank.specs.Run.{IsGood, bank_text, bank_world, told, unclosed};
+ghost use Rattle.smallbank.specs.Run.{IsGood, bank_text, bank_world, told, unclosed, unclosed_one};
 
 use crate::orders::{pick_orders, txs_of};
 use crate::script::bank_script;
@@ -22,6 +22,15 @@ pub struct BankRun {
     pub unclosed: u32,
 }
 
+/// 1 for a transaction that is not closed.
+#[tactic(auto, unfolding(crate::specs::Run::unclosed_one))]
+fn unclosed_one(world: &World, id: TxId) -> u32
+    requires { id < length world.now.txs }
+    ensures { result ≡ unclosed_one world.now id }
+{
+    if world.is_closed(id) { 0 } else { 1 }
+}
+
 /// How many transactions of the world are not closed.
 fn count_unclosed(world: &World) -> u32
     requires { length world.now.txs ≤ 10000 }
@@ -29,9 +38,7 @@ fn count_unclosed(world: &World) -> u32
 {
     let mut count = 0;
     for number in 0..world.txs().len() as u32 {
-        if !world.is_closed(TxId(number)) {
-            count += 1;
-        }
+        count += unclosed_one(world, TxId(number));
     }
     count
 }

@@ -19,26 +19,21 @@ const SLOTS: u8 = 2;
 /// What each account has in checking and in savings at the start.
 const OPENING: u64 = 1_000;
 
-/// How each of the two objects of an account is declared.
+/// Adds an object of an account; both are declared alike.
 #[tactic(auto, unfolding(bank_ledger::specs::Bank::bank_object))]
-fn bank_object(account: u8) -> ObjectDecl
-    ensures { result ≡ bank_object account }
+fn push_object(objects: &mut Vec<ObjectDecl>, account: u8) -> Result<(), NoMemory>
+    ensures { OnOk result (objects.new.items ≡ objects.old.items ++ bank_object account ∷ []) }
 {
     let owner = NodeId(account % NODES);
     let next = NodeId((account % NODES + 1) % NODES);
-    ObjectDecl {
-        value: Value::Num(OPENING),
-        owner,
-        replicas: NodeSet::empty().insert(owner).insert(next),
-    }
-}
-
-/// Adds the two objects of an account.
-fn push_objects(objects: &mut Vec<ObjectDecl>, account: u8) -> Result<(), NoMemory>
-    ensures { OnOk result (objects.new.items ≡ objects.old.items ++ bank_object account ∷ bank_object account ∷ []) }
-{
-    push(objects, bank_object(account))?;
-    push(objects, bank_object(account))
+    push(
+        objects,
+        ObjectDecl {
+            value: Value::Num(OPENING),
+            owner,
+            replicas: NodeSet::empty().insert(owner).insert(next),
+        },
+    )
 }
 
 /// The objects of so many accounts.
@@ -49,7 +44,8 @@ fn bank_objects(alloc: Global, accounts: u8) -> Result<ObjectList, NoMemory>
     let count = 2 * usize::from(accounts);
     let mut objects = Vec::with_capacity(alloc, count).map_err(|_| NoMemory)?;
     for account in 0..accounts {
-        push_objects(&mut objects, account)?;
+        push_object(&mut objects, account)?;
+        push_object(&mut objects, account)?;
     }
     Ok(ObjectList::from_vec(objects))
 }

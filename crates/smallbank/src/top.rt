@@ -6,6 +6,7 @@ ghost use Rattle.smallbank.specs.Top.{HasEnded, IsAnswered, sinks, status_of, us
 use crate::run::bank_run;
 use bank_report::BankNumbers;
 use std::alloc::Global;
+use zeus_base::NoMemory;
 use zeus_io::{Sink, Status, WriteFault, write_all};
 
 /// The line for other words.
@@ -47,11 +48,11 @@ fn status_of(unclosed: u32) -> Status
 pub fn bank_top<K: Sink>(alloc: Global, words: &Vec<String>, sink: &mut K) -> Status
     ensures { IsAnswered (AsksBank (map string_bytes words.now.items)) (sinks (K.held sink.old) (K.held sink.new) (K.faults sink.old) (K.faults sink.new)) result }
 {
-    let Some(numbers) = BankNumbers::from_words(words) else {
-        return refuse(sink);
-    };
-    let Ok(run) = bank_run(alloc, &numbers) else {
-        return Status::OutOfMemory;
-    };
-    write(sink, run.text.as_slice(), status_of(run.unclosed))
+    match BankNumbers::from_words(words) {
+        None => refuse(sink),
+        Some(numbers) => match bank_run(alloc, &numbers) {
+            Err(NoMemory) => Status::OutOfMemory,
+            Ok(run) => write(sink, run.text.as_slice(), status_of(run.unclosed)),
+        },
+    }
 }

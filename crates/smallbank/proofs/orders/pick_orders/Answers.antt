@@ -1,9 +1,10 @@
+use Rattle.std.proofs.Common.{rules}
 use Rattle.smallbank.proofs.Picking.{picking_all, picking_more, picking_none}
 use Rattle.smallbank.specs.Orders.{picked_orders}
 use Rattle.smallbank.proofs.orders.pick_orders.Goals as goal
 
 pub loop-number-init : goal.loop-number-init
-loop-number-init c = picking_none c.args.accounts c.args.count c.args.words.now
+loop-number-init c = search (rules, picking_none)
 
 pub loop-number-preserved : goal.loop-number-preserved
 loop-number-preserved c =

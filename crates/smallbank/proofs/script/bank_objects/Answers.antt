@@ -6,7 +6,7 @@ use Rattle.smallbank.proofs.script.bank_objects.Goals as goal
 pub loop-account-preserved : goal.loop-account-preserved
 loop-account-preserved c =
     let more = objects_more c.loop-account.objects.items c.loop-account.account c.args.accounts c.loop-account-test.true in
-    rw c.in_ok-push_objects.ensures (more ∙ c.loop-account.invariant)
+    rw (c.in_ok-push_object-2.ensures, c.in_ok-push_object.ensures) (more ∙ c.loop-account.invariant)
 
 pub returns : goal.returns
 returns c =
