@@ -10,7 +10,7 @@ use Rattle.smallbank.specs.Top.{AsksNone, HasEnded, IsAnswered, IsAsked, IsCut, 
 pub refused_answer : (asks : BankNumbers → Type 0) (s : Sinks) (r : Status) → AsksNone asks → HasEnded s usage_line Usage r → IsAnswered asks s r
 unfolding IsAnswered IsDue
 refused_answer asks s r none (inl w) = subst (λ (q : Status). IsAnswered asks s q) (sym w.0) (none, w.1)
-refused_answer asks s r none (inr f) = subst (λ (q : Status). IsAnswered asks s q) (sym f.0) (usage_line, (inl (none, refl), f.1))
+refused_answer asks s r none (inr f) = subst (λ (q : Status). IsAnswered asks s q) (sym f.0) (usage_line, inl (none, refl), f.1)
 
 -- a run that is told with this text, of which so many transactions are not closed
 pub told_answer : (asks : BankNumbers → Type 0) (s : Sinks) (r : Status) (n : BankNumbers) (u : ℕ) (text : List ℕ) → IsAsked asks n → text ≡ bank_text n

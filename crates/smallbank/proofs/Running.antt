@@ -15,7 +15,6 @@ use Rattle.reached_worlds.specs.Reached.{IsReached}
 use Rattle.reached_worlds.proofs.Reaching.{reached_same}
 use Rattle.random_schedule.specs.Schedule.{schedule}
 use Rattle.random_schedule.specs.Words.{words_from}
-use Rattle.random_schedule.proofs.Turning.{run_push}
 use Rattle.bank_ledger.specs.declared.bank_tx.BankTx.{BankTx}
 use Rattle.bank_ledger.specs.Bank.{IsBank, KeepsMoney, bank_config}
 use Rattle.bank_ledger.proofs.Configuration.{bank_limits}
@@ -28,6 +27,11 @@ use Rattle.smallbank.proofs.Fitting.{is_bank, txs_fit}
 use Rattle.smallbank.proofs.Picking.{all_picked-fit, length-picked}
 
 -- ---- a run keeps its transactions
+
+run_push : (w : World) (ss : List Step) (s : Step) → run w (ss ++ s ∷ []) ≡ stepped (run w ss) s
+unfolding run
+run_push w [] s = refl
+run_push w (t ∷ ts) s = run_push (stepped w t) ts s
 
 on : (c : Config) (txs : List TxDecl) (done rest : List Step) (w : World) → KeepsLimits c → FitsTxs c txs → All (FitsStep c (length txs)) done
     → All (FitsStep c (length txs)) rest → w ≡ run (start c txs) done → w.config ≡ c → w.txs ≡ txs → (run w rest).txs ≡ txs
@@ -62,13 +66,13 @@ run-txs c txs steps limits fit fits = on c txs [] steps (start c txs) limits fit
 -- the script of these orders, which were picked
 pub record IsScriptOf (n : BankNumbers) (os : List Order) (words : Lcg) (c : Config) (txs : List TxDecl) : Type 0 where
   pub picked : (os, words) ≡ picked_orders n.accounts n.txs (words_from n.start)
-  pub config : c ≡ bank_config n.accounts
-  pub txs : txs ≡ map declared_tx os
+  pub config_is : c ≡ bank_config n.accounts
+  pub txs_are : txs ≡ map declared_tx os
 
 -- these steps and this world are those of the schedule of the script
 pub record IsRunOf (n : BankNumbers) (words : Lcg) (c : Config) (txs : List TxDecl) (steps : List Step) (w : World) : Type 0 where
-  pub steps : steps ≡ (schedule c txs n.steps record { loss = n.loss; stops = n.stops } words).steps
-  pub world : w ≡ (schedule c txs n.steps record { loss = n.loss; stops = n.stops } words).world
+  pub steps_are : steps ≡ (schedule c txs n.steps record { loss = n.loss; stops = n.stops } words).steps
+  pub world_is : w ≡ (schedule c txs n.steps record { loss = n.loss; stops = n.stops } words).world
   pub leads : w ≡ run (start c txs) steps
   pub fits : All (FitsStep c (length txs)) steps
   pub promise : (k : ℕ) → KeepsPromise (start c txs) (take k steps)
@@ -93,12 +97,12 @@ orders_fit n os words c txs f s =
     (all_picked-fit n.accounts n.txs (words_from n.start) f.some_accounts)
 
 pub script_limits : (n : BankNumbers) (os : List Order) (words : Lcg) (c : Config) (txs : List TxDecl) → FitsNumbers n → IsScriptOf n os words c txs → KeepsLimits c
-script_limits n os words c txs f s = subst KeepsLimits (sym s.config) (bank_limits n.accounts f.some_accounts f.few_accounts)
+script_limits n os words c txs f s = subst KeepsLimits (sym s.config_is) (bank_limits n.accounts f.some_accounts f.few_accounts)
 
 pub script_fits : (n : BankNumbers) (os : List Order) (words : Lcg) (c : Config) (txs : List TxDecl) → FitsNumbers n → IsScriptOf n os words c txs → FitsTxs c txs
 script_fits n os words c txs f s =
-    subst (λ (x : Config). FitsTxs x txs) (sym s.config)
-    (subst (λ (x : List TxDecl). FitsTxs (bank_config n.accounts) x) (sym s.txs)
+    subst (λ (x : Config). FitsTxs x txs) (sym s.config_is)
+    (subst (λ (x : List TxDecl). FitsTxs (bank_config n.accounts) x) (sym s.txs_are)
     (txs_fit n.accounts os (few_orders n os words c txs f s) (orders_fit n os words c txs f s)))
 
 -- the run is that of the numbers
@@ -107,18 +111,18 @@ pub run_of_numbers : (n : BankNumbers) (os : List Order) (words : Lcg) (c : Conf
 run_of_numbers n os words c txs steps w s r =
     let orders : os ≡ bank_orders n = ap (λ (q : List Order × Lcg). q.0) s.picked in
     let left : words ≡ (picked_orders n.accounts n.txs (words_from n.start)).1 = ap (λ (q : List Order × Lcg). q.1) s.picked in
-    let same : txs ≡ bank_declared n = s.txs ∙ ap (map declared_tx) orders in
+    let same : txs ≡ bank_declared n = s.txs_are ∙ ap (map declared_tx) orders in
     subst (λ (x : Lcg). IsRunOf n x (bank_config n.accounts) (bank_declared n) steps w) left
     (subst (λ (x : List TxDecl). IsRunOf n words (bank_config n.accounts) x steps w) same
-    (subst (λ (x : Config). IsRunOf n words x txs steps w) s.config r))
+    (subst (λ (x : Config). IsRunOf n words x txs steps w) s.config_is r))
 
 -- ---- what holds of it
 
 -- what is told of the run
 pub record IsToldOf (n : BankNumbers) (os : List Order) (steps : List Step) (w : World) : Type 0 where
-  pub orders : os ≡ bank_orders n
-  pub steps : steps ≡ (bank_schedule n).steps
-  pub world : w ≡ bank_world n
+  pub orders_are : os ≡ bank_orders n
+  pub steps_are : steps ≡ (bank_schedule n).steps
+  pub world_is : w ≡ bank_world n
   pub few : length w.txs ≤ 10000
   pub money : KeepsMoney n.accounts (map tx_of os) w
   pub good : IsGood n
@@ -130,15 +134,15 @@ good_run n steps w law f r =
     let fits = all_picked-fit n.accounts n.txs (words_from n.start) f.some_accounts in
     let few : length (bank_orders n) ≤ 10000 = let count = length-picked n.accounts n.txs (words_from n.start) in let most = f.txs in omega arith in
     let leads : bank_world n ≡ run (start c (bank_declared n)) (bank_schedule n).steps =
-    sym r.world ∙ (r.leads ∙ ap (λ (ss : List Step). run (start c (bank_declared n)) ss) r.steps) in
-    let all = subst (λ (ss : List Step). All (FitsStep c (length (bank_declared n))) ss) r.steps r.fits in
+    sym r.world_is ∙ (r.leads ∙ ap (λ (ss : List Step). run (start c (bank_declared n)) ss) r.steps_are) in
+    let all = subst (λ (ss : List Step). All (FitsStep c (length (bank_declared n))) ss) r.steps_are r.fits in
     record {
       leads = leads;
       money =
           subst (λ (v : World). KeepsMoney n.accounts (bank_txs n) v) (sym leads)
           (law n.accounts (bank_txs n) (bank_declared n) (bank_schedule n).steps (is_bank n.accounts (bank_orders n) f.some_accounts f.few_accounts fits)
           (txs_fit n.accounts (bank_orders n) few fits) all);
-      promise = λ k. subst (λ (ss : List Step). KeepsPromise (start c (bank_declared n)) (take k ss)) r.steps (r.promise k);
+      promise = λ k. subst (λ (ss : List Step). KeepsPromise (start c (bank_declared n)) (take k ss)) r.steps_are (r.promise k);
     }
 
 pub told_run : (n : BankNumbers) (os : List Order) (words : Lcg) (c : Config) (txs : List TxDecl) (steps : List Step) (w : World) → Law → FitsNumbers n
@@ -148,15 +152,15 @@ told_run n os words c txs steps w law f s r =
     let own = run_of_numbers n os words c txs steps w s r in
     let good = good_run n steps w law f own in
     let same = run-txs c txs steps (script_limits n os words c txs f s) (script_fits n os words c txs f s) r.fits in
-    let count : length w.txs ≡ length os = ap (λ (v : World). length v.txs) r.leads ∙ ap length same ∙ ap length s.txs ∙ length-map os declared_tx in
+    let count : length w.txs ≡ length os = ap (λ (v : World). length v.txs) r.leads ∙ ap length same ∙ ap length s.txs_are ∙ length-map os declared_tx in
     let few = few_orders n os words c txs f s in
     record {
-      orders = orders;
-      steps = own.steps;
-      world = own.world;
+      orders_are = orders;
+      steps_are = own.steps_are;
+      world_is = own.world_is;
       few = omega arith;
       money =
-          subst (λ (v : World). KeepsMoney n.accounts (map tx_of os) v) (sym own.world)
+          subst (λ (v : World). KeepsMoney n.accounts (map tx_of os) v) (sym own.world_is)
           (subst (λ (x : List Order). KeepsMoney n.accounts (map tx_of x) (bank_world n)) (sym orders) good.money);
       good = good;
     }
@@ -165,9 +169,9 @@ told_run n os words c txs steps w law f s r =
 pub told_text : (n : BankNumbers) (os : List Order) (steps : List Step) (w : World) (count : ℕ) (txs : List BankTx) → IsToldOf n os steps w → count ≡ length steps
     → txs ≡ map tx_of os → told n count txs w ≡ bank_text n
 told_text n os steps w count txs t is same =
-    ap (λ k. told n k txs w) (is ∙ ap length t.steps)
-    ∙ (ap (λ (x : List BankTx). told n (length (bank_schedule n).steps) x w) (same ∙ ap (map tx_of) t.orders)
-    ∙ ap (λ (v : World). told n (length (bank_schedule n).steps) (bank_txs n) v) t.world)
+    ap (λ k. told n k txs w) (is ∙ ap length t.steps_are)
+    ∙ (ap (λ (x : List BankTx). told n (length (bank_schedule n).steps) x w) (same ∙ ap (map tx_of) t.orders_are)
+    ∙ ap (λ (v : World). told n (length (bank_schedule n).steps) (bank_txs n) v) t.world_is)
 
 -- what holds whatever the value is
 pub if_ok : {A E : Type 0} (r : Result A E) (G : Type 0) → G → IfOk r (λ _. G)

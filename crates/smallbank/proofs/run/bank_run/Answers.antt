@@ -27,8 +27,8 @@ schedule_run-requires-clause-limits c =
     let s : IsScriptOf n c.in_ok-orders.orders.items c.pick_orders.new.words script.config script.txs =
     record {
       picked = c.in_ok-orders.ensures ∙ ap (picked_orders n.accounts n.txs) c.new-words.ensures;
-      config = c.in_ok-script.ensures.config;
-      txs = c.in_ok-script.ensures.txs ∙ ap (map declared_tx) c.deref-2.ensures.value;
+      config_is = c.in_ok-script.ensures.config;
+      txs_are = c.in_ok-script.ensures.txs ∙ ap (map declared_tx) c.deref-2.ensures.value;
     } in
     script_limits n c.in_ok-orders.orders.items c.pick_orders.new.words script.config script.txs c.requires s
 
@@ -39,8 +39,8 @@ schedule_run-requires-clause-txs c =
     let s : IsScriptOf n c.in_ok-orders.orders.items c.pick_orders.new.words script.config script.txs =
     record {
       picked = c.in_ok-orders.ensures ∙ ap (picked_orders n.accounts n.txs) c.new-words.ensures;
-      config = c.in_ok-script.ensures.config;
-      txs = c.in_ok-script.ensures.txs ∙ ap (map declared_tx) c.deref-2.ensures.value;
+      config_is = c.in_ok-script.ensures.config;
+      txs_are = c.in_ok-script.ensures.txs ∙ ap (map declared_tx) c.deref-2.ensures.value;
     } in
     script_fits n c.in_ok-orders.orders.items c.pick_orders.new.words script.config script.txs c.requires s
 
@@ -52,12 +52,12 @@ tell-requires-clause-money c =
     let s : IsScriptOf n os c.pick_orders.new.words script.config script.txs =
     record {
       picked = c.in_ok-orders.ensures ∙ ap (picked_orders n.accounts n.txs) c.new-words.ensures;
-      config = c.in_ok-script.ensures.config;
-      txs = c.in_ok-script.ensures.txs ∙ ap (map declared_tx) c.deref-2.ensures.value;
+      config_is = c.in_ok-script.ensures.config;
+      txs_are = c.in_ok-script.ensures.txs ∙ ap (map declared_tx) c.deref-2.ensures.value;
     } in
     let done = c.in_ok-steps.ensures in
     let r : IsRunOf n c.pick_orders.new.words script.config script.txs c.in_ok-steps.steps c.in_ok-steps.world =
-    record { steps = done.steps; world = done.world; leads = done.run; fits = done.fits; promise = done.promise } in
+    record { steps_are = done.steps; world_is = done.world; leads = done.run; fits = done.fits; promise = done.promise } in
     let t =
     told_run n os c.pick_orders.new.words script.config script.txs c.in_ok-steps.steps c.in_ok-steps.world c.no_run_loses_money.ensures c.requires s r in
     let txs = c.deref-3.ensures.value ∙ (c.in_ok-txs.ensures ∙ ap (map tx_of) c.deref.ensures.value) in
@@ -71,12 +71,12 @@ returns-clause-good c =
     let s : IsScriptOf n os c.pick_orders.new.words script.config script.txs =
     record {
       picked = c.in_ok-orders.ensures ∙ ap (picked_orders n.accounts n.txs) c.new-words.ensures;
-      config = c.in_ok-script.ensures.config;
-      txs = c.in_ok-script.ensures.txs ∙ ap (map declared_tx) c.deref-2.ensures.value;
+      config_is = c.in_ok-script.ensures.config;
+      txs_are = c.in_ok-script.ensures.txs ∙ ap (map declared_tx) c.deref-2.ensures.value;
     } in
     let done = c.in_ok-steps.ensures in
     let r : IsRunOf n c.pick_orders.new.words script.config script.txs c.in_ok-steps.steps c.in_ok-steps.world =
-    record { steps = done.steps; world = done.world; leads = done.run; fits = done.fits; promise = done.promise } in
+    record { steps_are = done.steps; world_is = done.world; leads = done.run; fits = done.fits; promise = done.promise } in
     let t =
     told_run n os c.pick_orders.new.words script.config script.txs c.in_ok-steps.steps c.in_ok-steps.world c.no_run_loses_money.ensures c.requires s r in
     if_ok c.tell.result (IsGood n) t.good

@@ -10,7 +10,7 @@ overflow_add-count c =
     let less : c.loop-number.number < length w.txs = omega arith in
     let more = unclosed_more w c.loop-number.number (length w.txs) less in
     let few = unclosed-few w 0 (length w.txs) in
-    let one = c.unclosed_one.ensures in
+    let one = c.unclosed_one-count.ensures in
     let left = c.loop-number.invariant in
     omega arith
 
@@ -21,7 +21,7 @@ loop-number-preserved c =
     let end = c.len-number-end.ensures in
     let less : c.loop-number.number < length w.txs = omega arith in
     let more = unclosed_more w c.loop-number.number (length w.txs) less in
-    let one = c.unclosed_one.ensures in
+    let one = c.unclosed_one-count.ensures in
     let left = c.loop-number.invariant in
     omega arith
 
