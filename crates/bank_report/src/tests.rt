@@ -38,7 +38,13 @@ fn takes_numbers_at_the_ends_of_their_ranges(rt: HostRuntime) -> Result<(), Fail
             start: u64::MAX,
         })
     );
-    assert_eq!(rt; BankNumbers::from_words(&words(alloc, "bank 0 0 0 0 0 0")?), None);
-    assert_eq!(rt; BankNumbers::from_words(&words(alloc, "storm 1 0 0 0 0 0")?), None);
+    assert_eq!(rt;
+        BankNumbers::from_words(&words(alloc, "bank 0 0 0 0 0 0")?),
+        None
+    );
+    assert_eq!(rt;
+        BankNumbers::from_words(&words(alloc, "storm 1 0 0 0 0 0")?),
+        None
+    );
     Ok(())
 }

@@ -1,11 +1,10 @@
 -- How the program ends, by what is asked for and by what was written.
-use Rattle.std.proofs.Common.{ℕ, zero, suc, ◌≡◌, List, inl, inr, refl, sym, ap, subst, ◌∙◌}
-use Rattle.std.specs.Prelude.{◌⊎◌, ◌≢◌}
+use Rattle.std.proofs.Common.{ℕ, zero, suc, ◌≡◌, List, inl, inr, refl, sym, subst, ◌∙◌}
 use Rattle.zeus_io.specs.declared.status.Status.{Status}
-use Rattle.zeus_io.specs.declared.status.Status.TheVariants.{Done, Unfinished, Usage, WriteFault}
+use Rattle.zeus_io.specs.declared.status.Status.TheVariants.{Usage}
 use Rattle.bank_report.specs.declared.numbers.BankNumbers.{BankNumbers}
 use Rattle.smallbank.specs.Run.{bank_text, bank_world, unclosed}
-use Rattle.smallbank.specs.Top.{AsksNone, HasEnded, IsAnswered, IsAsked, IsCut, IsDue, IsWritten, Sinks, status_of, usage_line}
+use Rattle.smallbank.specs.Top.{AsksNone, HasEnded, IsAnswered, IsAsked, IsDue, IsWritten, Sinks, status_of, usage_line}
 
 pub refused_answer : (asks : BankNumbers → Type 0) (s : Sinks) (r : Status) → AsksNone asks → HasEnded s usage_line Usage r → IsAnswered asks s r
 unfolding IsAnswered IsDue

@@ -1,5 +1,5 @@
 -- What the arguments of the program ask for, and its exit status.
-use Rattle.std.specs.Prelude.{ℕ, ◌≡◌, List, drop, map, string_bytes, Result, Ok, Err, String}
+use Rattle.std.specs.Prelude.{ℕ, ◌≡◌, drop, map, string_bytes, Result, Ok, Err, String}
 use Rattle.std.specs.Vec.Iter.{into_iter_items}
 use Rattle.std.specs.declared.vec.IntoIter.{IntoIter}
 use Rattle.zeus_io.specs.Status.{exit_status}

@@ -1,6 +1,5 @@
 -- The run of a bank, and the text that tells of it.
-use Rattle.std.specs.Prelude.{ℕ, ◌+◌, ◌≡◌, List, [], ◌∷◌, length, map, take, not, if◌then◌else◌}
-use Rattle.zeus_base.specs.declared.step.Step.{Step}
+use Rattle.std.specs.Prelude.{ℕ, ◌+◌, ◌≡◌, List, [], ◌∷◌, length, map, take, if◌then◌else◌}
 use Rattle.zeus_txn.specs.declared.tx.TxDecl.{TxDecl}
 use Rattle.zeus_model.specs.Readers.{is_closed}
 use Rattle.zeus_model.specs.Tables.{below}

@@ -1,4 +1,3 @@
-use Rattle.smallbank.specs.Command.{AsksBankBy}
 use Rattle.smallbank.proofs.Answering.{refused_answer}
 use Rattle.smallbank.proofs.command.answer.Goals as goal
 

@@ -9,7 +9,7 @@ use Rattle.smallbank.specs.Run.{IsGood}
 use Rattle.smallbank.specs.declared.orders.Order.{Order}
 use Rattle.smallbank.proofs.Fitting.{orders_wider}
 use Rattle.smallbank.proofs.Picking.{all_picked-fit}
-use Rattle.smallbank.proofs.Running.{IsRunOf, IsScriptOf, IsToldOf, if_ok, script_fits, script_limits, told_run, told_text}
+use Rattle.smallbank.proofs.Running.{IsRunOf, IsScriptOf, if_ok, script_fits, script_limits, told_run}
 use Rattle.smallbank.proofs.run.bank_run.Goals as goal
 
 pub bank_script-requires-clause-orders : goal.bank_script-requires-clause-orders

@@ -1,4 +1,4 @@
-use Rattle.std.proofs.Common.{◌≡◌, ◌<◌, ◌≤◌, ap, arith, length}
+use Rattle.std.proofs.Common.{◌<◌, ◌≤◌, ap, arith, length}
 use Rattle.smallbank.proofs.Counting.{unclosed-few, unclosed-none, unclosed_more}
 use Rattle.smallbank.proofs.run.count_unclosed.Goals as goal
 

@@ -1,7 +1,6 @@
 use Rattle.std.proofs.Common.{List, ap, ◌∙◌}
 use Rattle.zeus_txn.specs.declared.map.Versioned.{Versioned}
 use Rattle.zeus_model.specs.Book.{Book}
-use Rattle.bank_ledger.specs.Bank.{map_left}
 use Rattle.bank_report.specs.Report.{report_text}
 use Rattle.bank_report.specs.Totals.{tally_of}
 use Rattle.bank_report.specs.declared.totals.Tally.{Tally}

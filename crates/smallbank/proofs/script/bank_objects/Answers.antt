@@ -1,4 +1,4 @@
-use Rattle.std.proofs.Common.{◌≡◌, ◌-◌, sym, ◌∙◌}
+use Rattle.std.proofs.Common.{sym, ◌∙◌}
 use Rattle.std.proofs.lemmas.List.{append-nil}
 use Rattle.smallbank.proofs.Declaring.{objects_more, objects-none}
 use Rattle.smallbank.proofs.script.bank_objects.Goals as goal

@@ -1,6 +1,6 @@
 use Rattle.std.proofs.Common.{List, String, Global, map, string_bytes, refl, subst, ◌∙◌}
 use Rattle.bank_report.specs.Numbers.{AsksBank}
-use Rattle.smallbank.specs.Top.{AsksNone, HasEnded, IsAnswered, IsAsked, sinks}
+use Rattle.smallbank.specs.Top.{AsksNone, HasEnded, IsAnswered, sinks}
 use Rattle.zeus_io.specs.declared.status.Status.{Status}
 use Rattle.smallbank.proofs.Answering.{refused_answer, told_answer}
 use Rattle.smallbank.proofs.top.bank_top.Goals as goal
