@@ -30,7 +30,8 @@ bank_declared n = map declared_tx (bank_orders n)
 -- their schedule, by the words behind those of the orders
 abbrev pub bank_schedule : BankNumbers → Schedule
 bank_schedule n =
-    schedule (bank_config n.accounts) (bank_declared n) n.steps record { loss = n.loss; stops = n.stops } (picked_orders n.accounts n.txs (words_from n.start)).1
+    let words = (picked_orders n.accounts n.txs (words_from n.start)).1 in
+    schedule (bank_config n.accounts) (bank_declared n) n.steps record { loss = n.loss; stops = n.stops } words
 
 -- the world that the run leads to
 abbrev pub bank_world : BankNumbers → World

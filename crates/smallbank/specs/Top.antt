@@ -1,16 +1,21 @@
 -- What the program of the bank does with its words and its sink.
-use Rattle.std.specs.Prelude.{ℕ, zero, suc, ◌≡◌, ◌≢◌, ◌⊎◌, List, Option, codes}
+use Rattle.std.specs.Prelude.{ℕ, zero, suc, ◌≡◌, ◌≢◌, ◌⊎◌, List, Option, String, codes, map, string_bytes}
 use Rattle.std.specs.Io.KnownBytes.{Appends}
 use Rattle.zeus_io.specs.Bytes.{AppendsFront}
 use Rattle.zeus_io.specs.Faults.{Rose}
 use Rattle.zeus_io.specs.declared.status.Status.{Status}
 use Rattle.zeus_io.specs.declared.status.Status.TheVariants.{Done, Unfinished, Usage, WriteFault, OutOfMemory}
+use Rattle.bank_report.specs.Numbers.{AsksBank}
 use Rattle.bank_report.specs.declared.numbers.BankNumbers.{BankNumbers}
 use Rattle.smallbank.specs.Run.{IsGood, bank_text, bank_world, unclosed}
 
 -- the line for other words
 abbrev pub usage_line : List ℕ
 usage_line = codes "usage\n"
+
+-- the words ask for this bank
+abbrev pub AsksBy : {A : Type 0} → List (String A) → BankNumbers → Type 0
+AsksBy words = AsksBank (map string_bytes words)
 
 -- no bank is asked for
 abbrev pub AsksNone : (BankNumbers → Type 0) → Type 0

@@ -1,7 +1,6 @@
 //! The program of the bank, over its words and a sink.
-ghost use Rattle.std.specs.Prelude.{◌≡◌, map, string_bytes};
-ghost use Rattle.bank_report.specs.Numbers.{AsksBank};
-ghost use Rattle.smallbank.specs.Top.{HasEnded, IsAnswered, sinks, status_of, usage_line};
+ghost use Rattle.std.specs.Prelude.{◌≡◌};
+ghost use Rattle.smallbank.specs.Top.{AsksBy, HasEnded, IsAnswered, sinks, status_of, usage_line};
 
 use crate::run::bank_run;
 use bank_report::BankNumbers;
@@ -46,7 +45,7 @@ fn status_of(unclosed: u32) -> Status
 /// `Done` if all transactions are closed, and `Unfinished` if one is not; `Usage` for other words; `WriteFault` if the sink
 /// failed, which holds a front of the text then; `OutOfMemory` if memory ran out, and then nothing is written.
 pub fn bank_top<K: Sink>(alloc: Global, words: &Vec<String>, sink: &mut K) -> Status
-    ensures { IsAnswered (AsksBank (map string_bytes words.now.items)) (sinks (K.held sink.old) (K.held sink.new) (K.faults sink.old) (K.faults sink.new)) result }
+    ensures { IsAnswered (AsksBy words.now.items) (sinks (K.held sink.old) (K.held sink.new) (K.faults sink.old) (K.faults sink.new)) result }
 {
     match BankNumbers::from_words(words) {
         None => refuse(sink),
