@@ -1,0 +1,2 @@
+mod bank_report_calls;
+mod smallbank_calls;

@@ -1,0 +1,4 @@
+pub mod Orders
+pub mod Run
+pub mod Top
+pub mod Command
