@@ -101,7 +101,8 @@ go run <"$one" # builds the program if that is needed
 # ---- words
 go run <"$one"
 due 'a script from a file' 0 @one
-for words in '' walk 'run x' Run RUN 'run run' help -h -- '-- run' 'run --help' '--help run' '--version run' storm 'storm 1' bank live; do
+for words in '' walk 'run x' Run RUN 'run run' help -h -- '-- run' 'run --help' '--help run' '--version run' storm 'storm 1' 'storm 9 1 1 1 0 0 0 7' \
+    'lease x' 'audit x' bank live; do
     go $words <"$one"
     due "the words '$words'" 2 usage 'no such words'
 done
@@ -145,6 +146,29 @@ done <<'SUMS'
 3014724951 1066 two-drivers
 1642154986 348 two-nodes
 SUMS
+
+# ---- the other commands
+go lease <"$top/examples/lease-held.leases"
+name='a lease that holds'
+if [ "$(cat "$folder/status")" = 0 ] && grep -qx '7 view 1 = installed 2' "$folder/out"; then passed=$((passed + 1)); else fail 'no'; fi
+go lease <"$top/examples/lease-skewed.leases"
+name='a clock that is skewed'
+if [ "$(cat "$folder/status")" = 0 ] && grep -qx '3 pass 10 10 12 = skewed 2 0' "$folder/out"; then passed=$((passed + 1)); else fail 'no'; fi
+go lease <"$one"
+due 'a script of a run for leases' 3 'script 1 word' 'does not fit'
+printf '%s\n' 'storm 1 1 1 1 0 0 0 7' 'steps 0' 'acked 0 failed 0 refused 0 stopped 0 unfinished 1' 'epoch 1 lost 0' \
+    'sum 100' end >"$folder/storm"
+go storm 1 1 1 1 0 0 0 7 <&-
+due 'a storm that is not finished' 1 @storm 'not closed'
+sed 's/ 1 0 0 0 7$/ 0 0 0 0 7/; s/unfinished 1/unfinished 0/' "$folder/storm" >"$folder/calm"
+go storm 1 1 1 0 0 0 0 7 <&-
+due 'a storm without a transaction' 0 @calm
+cat "$one" "$folder/one" >"$folder/both"
+go audit <"$folder/both"
+due 'an audit of a report' 0 'audit ok'
+sed 's/ok 8/ok 9/' "$folder/both" >"$folder/in"
+go audit <"$folder/in"
+due 'an audit of another reply' 7 'audit 4 reply' 'breaks the rule'
 
 # ---- scripts with a fault
 fault 'lines that end with CR and LF' 's/$/\r/' 'script 1 word' 'CR and LF'
