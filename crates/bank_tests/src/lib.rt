@@ -1,4 +1,4 @@
-//! Tests of a bank's numbers and of its program over words and a sink.
+//! Tests of the words of a bank, and of the text of its run.
 #![tactic(auto)]
 
 #[cfg(test)]

@@ -1,14 +1,7 @@
+//! The words that ask for a bank.
+use super::words;
 use bank_report::BankNumbers;
-use std::alloc::{AllocError, Global};
 use std::test::Fail;
-
-fn words(alloc: Global, text: &str) -> Result<Vec<String>, AllocError> {
-    let mut all = Vec::new(alloc);
-    for word in text.split(' ') {
-        all.push(String::from_str(alloc, word)?)?;
-    }
-    Ok(all)
-}
 
 #[test]
 fn takes_numbers_at_the_ends_of_their_ranges(rt: HostRuntime) -> Result<(), Fail> {

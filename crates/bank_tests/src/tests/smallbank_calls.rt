@@ -1,15 +1,8 @@
+//! The program of the bank.
+use super::words;
 use smallbank::bank_top;
-use std::alloc::{AllocError, Global};
 use std::test::Fail;
 use zeus_io::{MemSink, SafeSink, Status};
-
-fn words(alloc: Global, text: &str) -> Result<Vec<String>, AllocError> {
-    let mut all = Vec::new(alloc);
-    for word in text.split(' ') {
-        all.push(String::from_str(alloc, word)?)?;
-    }
-    Ok(all)
-}
 
 const NO_TRANSACTION: &str =
     "bank 2 0 0 0 0 7\nsteps 0\nhistory 0 failed 0 open 0\nstart 4000\nin 0\nout 0\nheld 4000\naccount 0 1000 1000\naccount 1 1000 1000\nend\n";
@@ -17,12 +10,17 @@ const NO_TRANSACTION: &str =
 const ONE_OPEN: &str =
     "bank 2 1 0 0 0 7\nsteps 0\nhistory 0 failed 0 open 1\nstart 4000\nin 0\nout 0\nheld 4000\naccount 0 1000 1000\naccount 1 1000 1000\nend\n";
 
+/// As an independent program has it.
+const ALL_CLOSED: &str =
+    "bank 2 4 3000 5 0 8\nsteps 737\nhistory 4 failed 0 open 0\nstart 4000\nin 124\nout 47\nheld 4077\naccount 0 1091 953\naccount 1 1033 1000\nend\n";
+
 #[test]
-fn banks_without_steps_are_told_byte_for_byte(rt: HostRuntime) -> Result<(), Fail> {
+fn banks_are_told_byte_for_byte(rt: HostRuntime) -> Result<(), Fail> {
     let alloc = rt.alloc();
     for (asked, text, status) in [
         ("bank 2 0 0 0 0 7", NO_TRANSACTION, Status::Done),
         ("bank 2 1 0 0 0 7", ONE_OPEN, Status::Unfinished),
+        ("bank 2 4 3000 5 0 8", ALL_CLOSED, Status::Done),
     ] {
         let mut sink = SafeSink::with_room(alloc, 4096)?;
         assert_eq!(rt; bank_top(alloc, &words(alloc, asked)?, &mut sink), status);
