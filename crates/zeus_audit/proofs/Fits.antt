@@ -1,11 +1,11 @@
 -- What the lines tell fits the script, before the first line and behind each.
-use Rattle.std.proofs.Common.{◌≡◌, ℕ, zero, suc, ◌<◌, ◌≤◌, ◌+◌, ◌*◌, ◌⊎◌, inl, inr, Bool, true, false, List, [], ◌∷◌, length, get_or, refl, sym, ap, ◌∙◌, arith}
+use Rattle.std.proofs.Common.{◌≡◌, ℕ, zero, suc, ◌<◌, ◌≤◌, ◌+◌, ◌*◌, inl, inr, List, [], ◌∷◌, length, refl, ◌∙◌, arith}
 use Rattle.std.specs.Prelude.{Ok}
 use Rattle.std.proofs.lemmas.Bool.{cases_lt}
 use Rattle.std.proofs.lemmas.List.{length-replicate}
 use Rattle.zeus_base.specs.Tables.{nth, put}
-use Rattle.zeus_base.specs.TableLaws.{nth-past, nth-get_or, length-put}
-use Rattle.zeus_txn.specs.Map.{content, applied_map}
+use Rattle.zeus_base.specs.TableLaws.{nth-past, length-put}
+use Rattle.zeus_txn.specs.Map.{content}
 use Rattle.zeus_txn.specs.declared.map.Versioned.{Versioned}
 use Rattle.zeus_txn.specs.declared.tx.TxDecl.{TxDecl}
 use Rattle.zeus_model.specs.Scripts.{FitsScript, FitsTx, FitTxs}
@@ -15,10 +15,10 @@ use Rattle.zeus_audit.specs.declared.stage.Mark.{Mark}
 use Rattle.zeus_audit.specs.declared.stage.Mark.TheVariants as marks
 use Rattle.zeus_audit.specs.Events.{Event, Quiet, Begun, Point, Acked, History, Stands, Copied}
 use Rattle.zeus_audit.specs.Fitting.{Fits, has_point, count_of_points}
-use Rattle.zeus_audit.specs.Progress.{State, mark_of, ops_of, start}
+use Rattle.zeus_audit.specs.Progress.{State, ops_of, start}
 use Rattle.zeus_audit.specs.Rules.{if_new, begun_marks, line_taken}
-use Rattle.zeus_audit.proofs.Tells.{Tells, Allows, marks_after, points_after, map_after, line-tells}
-use Rattle.zeus_audit.proofs.Versions.{applied_few, applied_least, start_few, start_least, one_if, count-put, count_start}
+use Rattle.zeus_audit.proofs.Tells.{Allows, marks_after, map_after, line-tells}
+use Rattle.zeus_audit.proofs.Versions.{applied_few, applied_least, start_few, start_least, one_if, count-put}
 
 -- a transaction with another mark than that of a new one is one of the script
 pub marked_within : (ms : List Mark) (k : ℕ) → (nth marks.New ms k ≡ marks.New → ⊥) → k < length ms

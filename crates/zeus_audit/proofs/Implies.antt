@@ -1,18 +1,16 @@
 -- A sound report is a serial history.
-use Rattle.std.proofs.Common.{◌≡◌, ℕ, zero, suc, ◌⊎◌, inl, inr, List, [], ◌∷◌, length, refl, sym, ap, ◌∙◌}
+use Rattle.std.proofs.Common.{◌≡◌, ℕ, zero, suc, ◌⊎◌, inl, inr, List, [], length, refl, ◌∙◌}
 use Rattle.std.specs.Prelude.{Result, Ok, Err, replicate}
 use Rattle.zeus_base.specs.Tables.{nth}
-use Rattle.zeus_txn.specs.Map.{start_map}
 use Rattle.zeus_model.specs.Scripts.{FitsScript}
 use Rattle.zeus_model.specs.declared.script.Script.{Script}
 use Rattle.script_lang.specs.Cut.{cut}
-use Rattle.zeus_audit.specs.declared.stage.Mark.{Mark}
 use Rattle.zeus_audit.specs.declared.stage.Mark.TheVariants as marks
 use Rattle.zeus_audit.specs.declared.verdict.Verdict.TheVariants as verdicts
 use Rattle.zeus_audit.specs.Auditing.{Failing, lines_taken, verdict_of, audited}
-use Rattle.zeus_audit.specs.Events.{Event, Acked, points_of}
+use Rattle.zeus_audit.specs.Events.{Event, Acked}
 use Rattle.zeus_audit.specs.Progress.{State, start}
-use Rattle.zeus_audit.specs.Serial.{Among, HasPoint, history_of, IsSerialHistory, IsSerialReport}
+use Rattle.zeus_audit.specs.Serial.{Among, HasPoint, IsSerialReport}
 use Rattle.zeus_audit.proofs.Fits.{fits_start}
 use Rattle.zeus_audit.proofs.Telling.{Shows, ShowAll, Tale, telling}
 use Rattle.zeus_audit.proofs.Tells.{is_closed}

@@ -1,5 +1,5 @@
 -- The lines of a report and of an input, one by one, and words to the end of a line.
-use Rattle.std.proofs.Common.{◌≡◌, ℕ, suc, ◌+◌, ◌<◌, ◌≤◌, Bool, true, false, cond, List, [], ◌∷◌, ◌++◌, length, refl, sym, ap, ◌∙◌, arith, length-append, Bor}
+use Rattle.std.proofs.Common.{◌≡◌, ℕ, suc, ◌+◌, ◌<◌, ◌≤◌, true, false, List, [], ◌∷◌, length, refl, sym, ap, ◌∙◌, arith, length-append, Bor}
 use Rattle.std.specs.Prelude.{Result, Ok, Err, Option, Some, None, MatchOption, codes, take, drop}
 use Rattle.std.specs.Str.{bytes_eq}
 use Rattle.zeus_base.specs.declared.value.Value.{Value}

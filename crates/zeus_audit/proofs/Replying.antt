@@ -1,5 +1,5 @@
 -- What a transaction needs that has its point: its objects are of the map, and its versions can rise.
-use Rattle.std.proofs.Common.{◌≡◌, ℕ, suc, ◌+◌, ◌-◌, ◌*◌, ◌^◌, ◌<◌, ◌≤◌, Bool, true, List, [], ◌∷◌, ◌++◌, length, get_or, refl, sym, ap, ◌∙◌, arith}
+use Rattle.std.proofs.Common.{◌≡◌, ℕ, ◌+◌, ◌-◌, ◌^◌, ◌<◌, true, List, [], ◌∷◌, ◌++◌, length, refl, sym, ap, arith}
 use Rattle.std.specs.Prelude.{Some, None, Ok, slice_get, All}
 use Rattle.std.specs.Str.{bytes_eq}
 use Rattle.std.proofs.Math.ListN.{set}
@@ -24,7 +24,7 @@ use Rattle.zeus_audit.specs.declared.stage.Further.TheVariants as further
 use Rattle.zeus_audit.specs.declared.stage.Stage.TheVariants as stages
 use Rattle.zeus_audit.specs.declared.stage.Mark.{Mark}
 use Rattle.zeus_audit.specs.declared.stage.Mark.TheVariants as marks
-use Rattle.zeus_audit.specs.Fitting.{Fits, count_of_points}
+use Rattle.zeus_audit.specs.Fitting.{Fits}
 use Rattle.zeus_audit.specs.Progress.{State, mark_of, ops_of}
 use Rattle.zeus_audit.proofs.Fits.{marked_within, tx_fits}
 use Rattle.zeus_audit.proofs.Versions.{count_few}

@@ -1,5 +1,5 @@
 -- The events of the lines of a sound report are a serial history.
-use Rattle.std.proofs.Common.{◌≡◌, ◌≢◌, ℕ, zero, suc, ◌<◌, ◌≤◌, ◌⊎◌, inl, inr, Bool, true, false, cond, List, [], ◌∷◌, ◌++◌, length, map, append_assoc, refl, sym, ap, ◌∙◌, arith}
+use Rattle.std.proofs.Common.{◌≡◌, ◌≢◌, ℕ, suc, ◌<◌, ◌⊎◌, inl, inr, Bool, true, false, cond, List, [], ◌∷◌, ◌++◌, length, map, append_assoc, refl, sym, ap, ◌∙◌, arith}
 use Rattle.std.specs.Prelude.{◌&&◌, ◌||◌, ◌==◌, nat_le, All, Ok, Err, Result}
 use Rattle.std.proofs.lemmas.Bool.{cases_eq, eqb-true, eq-eqb, ne_eqb, leb-true}
 use Rattle.std.proofs.lemmas.List.{append-nil}
@@ -8,13 +8,10 @@ use Rattle.zeus_base.specs.Tables.{nth, put}
 use Rattle.zeus_base.specs.TableLaws.{nth-put_same, nth-put_other}
 use Rattle.zeus_base.specs.Values.{same_value}
 use Rattle.zeus_base.specs.ValueLaws.{same_value-true}
-use Rattle.zeus_packet.specs.declared.letter.State.{State as CopyState}
-use Rattle.zeus_packet.specs.declared.letter.State.TheVariants as copy_states
 use Rattle.zeus_txn.specs.declared.map.Versioned.{Versioned}
 use Rattle.zeus_txn.specs.declared.reply.Reply.{Reply}
 use Rattle.zeus_model.specs.Scripts.{FitsScript}
-use Rattle.zeus_model.specs.Serial.{content, run_at, applied_map, start_map, serial_map, serial_replies}
-use Rattle.zeus_model.specs.declared.answer.TxState.{TxState}
+use Rattle.zeus_model.specs.Serial.{content, serial_map, serial_replies}
 use Rattle.zeus_model.specs.declared.answer.TxState.TheVariants as tx_states
 use Rattle.zeus_model.specs.declared.script.Script.{Script}
 use Rattle.zeus_model.specs.declared.state.Copy.{Copy}
@@ -25,8 +22,8 @@ use Rattle.zeus_audit.specs.declared.stage.Stage.{Stage}
 use Rattle.zeus_audit.specs.declared.stage.Stage.TheVariants as stages
 use Rattle.zeus_audit.specs.declared.verdict.Rule.{Rule}
 use Rattle.zeus_audit.specs.Fitting.{Fits}
-use Rattle.zeus_audit.specs.Events.{Event, Quiet, Begun, Point, Acked, History, Stands, Copied, Says, SayAll, points_of, replies_of}
-use Rattle.zeus_audit.specs.Progress.{State, mark_of, ops_of}
+use Rattle.zeus_audit.specs.Events.{Event, Quiet, Begun, Point, Acked, History, Stands, Copied, SayAll, points_of, replies_of}
+use Rattle.zeus_audit.specs.Progress.{State, mark_of}
 use Rattle.zeus_audit.specs.Rules.{if_new, begun_marks, fits_mark, is_valid, is_current, line_taken}
 use Rattle.zeus_audit.specs.Serial.{Among, HasPoint, MayCome, InOrder, history_of, IsCurrent}
 use Rattle.zeus_audit.proofs.Fits.{marked_within, fits_kept}

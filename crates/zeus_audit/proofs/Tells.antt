@@ -1,5 +1,5 @@
 -- What a line that is taken says, and how it changes what the lines tell.
-use Rattle.std.proofs.Common.{◌≡◌, ℕ, suc, ◌<◌, ◌≤◌, Bool, true, false, cond, List, [], ◌∷◌, ◌++◌, length, get_or, take, drop, refl, sym, ap, ◌∙◌, arith}
+use Rattle.std.proofs.Common.{◌≡◌, ℕ, suc, ◌<◌, Bool, true, false, cond, List, [], ◌∷◌, ◌++◌, length, get_or, take, drop, refl, sym, ap, ◌∙◌}
 use Rattle.std.specs.Prelude.{nat_lt, codes, Option, Some, None, Ok, slice_get}
 use Rattle.std.specs.Str.{bytes_eq}
 use Rattle.std.proofs.lemmas.List.{take-append-drop}
@@ -7,7 +7,7 @@ use Rattle.std.proofs.lemmas.Bool.{and_parts}
 use Rattle.std.proofs.lemmas.Option.{slice_get_within}
 use Rattle.zeus_base.specs.Nodes.{has}
 use Rattle.zeus_base.specs.declared.config.Config.{Config}
-use Rattle.zeus_base.specs.Tables.{nth, put}
+use Rattle.zeus_base.specs.Tables.{put}
 use Rattle.zeus_base.specs.TableLaws.{nth_found, nth-get_or}
 use Rattle.zeus_base.specs.declared.step.Step.{Step}
 use Rattle.zeus_base.specs.declared.step.Step.TheVariants as steps
@@ -15,13 +15,10 @@ use Rattle.zeus_txn.specs.Map.{content, run_at, applied_map}
 use Rattle.zeus_txn.specs.declared.map.Versioned.{Versioned}
 use Rattle.zeus_txn.specs.declared.reply.Reply.{Reply}
 use Rattle.zeus_model.specs.Scripts.{FitsScript, FitsStep}
-use Rattle.zeus_model.specs.Spelling.{name_of}
-use Rattle.zeus_model.specs.declared.answer.TxState.{TxState}
 use Rattle.zeus_model.specs.declared.script.Script.{Script}
 use Rattle.zeus_model.specs.declared.state.Copy.{Copy}
 use Rattle.script_lang.specs.Cut.{cut}
 use Rattle.script_lang.proofs.FindLaws.{bytes_eq-true}
-use Rattle.zeus_audit.specs.declared.stage.Further.{Further}
 use Rattle.zeus_audit.specs.declared.stage.Further.TheVariants as further
 use Rattle.zeus_audit.specs.declared.stage.Mark.{Mark}
 use Rattle.zeus_audit.specs.declared.stage.Mark.TheVariants as marks
@@ -31,7 +28,7 @@ use Rattle.zeus_audit.specs.declared.verdict.Rule.TheVariants as rules
 use Rattle.zeus_audit.specs.Events.{Event, Quiet, Begun, Point, Acked, History, Stands, Copied, Says}
 use Rattle.zeus_audit.specs.Fitting.{BeginsBelow}
 use Rattle.zeus_audit.specs.Progress.{State, mark_of, ops_of, next}
-use Rattle.zeus_audit.specs.Rules.{begins, in_form, kept, pointed, replied, if_begun, point_taken, point_line, if_passed, ack_taken, ack_line, packet_line, head_taken, begun_marks, answered_marks, answered, history_taken, step_line, fits_mark, state_taken, is_among, object_taken, object_line, lost_line, is_above, is_current, copied, copy_taken, copy_line, state_line, other_line, line_taken}
+use Rattle.zeus_audit.specs.Rules.{begins, pointed, replied, point_taken, point_line, ack_taken, ack_line, packet_line, head_taken, begun_marks, answered_marks, answered, history_taken, step_line, fits_mark, state_taken, object_taken, object_line, lost_line, is_above, is_current, copied, copy_taken, copy_line, state_line, other_line, line_taken}
 use Rattle.zeus_audit.specs.Shapes.{point_shape, ack_shape, history_shape, state_shape, object_shape, lost_shape, copy_shape}
 use Rattle.zeus_audit.specs.Texts.{step_head, behind}
 use Rattle.zeus_audit.proofs.ShapeLaws.{ack_shape-sound, state_shape-sound, copy_shape-sound}

@@ -1,5 +1,5 @@
 -- Versions stay few: a point writes at most eight objects, each once.
-use Rattle.std.proofs.Common.{ℕ, zero, suc, ◌≡◌, ◌<◌, ◌≤◌, ◌+◌, ◌*◌, Bool, true, false, cond, List, [], ◌∷◌, inl, inr, length, map, refl, sym, ap, ◌∙◌, arith}
+use Rattle.std.proofs.Common.{ℕ, zero, suc, ◌≡◌, ◌<◌, ◌≤◌, ◌+◌, Bool, true, false, cond, List, [], ◌∷◌, inl, inr, length, map, refl, arith}
 use Rattle.std.specs.Prelude.{◌==◌, Option, Some, None, replicate}
 use Rattle.std.proofs.lemmas.Bool.{cases_eq, cond_both}
 use Rattle.zeus_base.specs.TableLaws.{nth-put_same, nth-put_other}

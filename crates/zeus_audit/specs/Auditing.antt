@@ -1,5 +1,5 @@
 -- Auditing a report line by line, to the first rule that fails.
-use Rattle.std.specs.Prelude.{◌≡◌, ℕ, suc, Bool, true, false, ◌&&◌, ◌==◌, List, [], ◌∷◌, Result, Ok, Err, length}
+use Rattle.std.specs.Prelude.{◌≡◌, ℕ, suc, Bool, true, false, List, [], ◌∷◌, Result, Ok, Err}
 use Rattle.zeus_model.specs.declared.script.Script.{Script}
 use Rattle.script_lang.specs.Cut.{cut}
 use Rattle.zeus_audit.specs.declared.failure.Failure.{Failure}

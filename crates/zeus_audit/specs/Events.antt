@@ -1,5 +1,5 @@
 -- What the lines of a report say, read without the script's machine: an event for each line.
-use Rattle.std.specs.Prelude.{◌≡◌, ℕ, Bool, true, false, List, [], ◌∷◌, ◌++◌, codes, decimal}
+use Rattle.std.specs.Prelude.{◌≡◌, ℕ, false, List, [], ◌∷◌, ◌++◌, codes, decimal}
 use Rattle.zeus_base.specs.declared.step.Step.TheVariants as steps
 use Rattle.zeus_txn.specs.declared.reply.Reply.{Reply}
 use Rattle.zeus_model.specs.ReportWords.{state_text, tx_state_text}

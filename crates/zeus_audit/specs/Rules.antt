@@ -17,7 +17,6 @@ use Rattle.zeus_model.specs.declared.fault.Kind.{Kind}
 use Rattle.zeus_model.specs.declared.script.Script.{Script}
 use Rattle.zeus_model.specs.declared.state.Copy.{Copy}
 use Rattle.script_lang.specs.Cut.{cut}
-use Rattle.zeus_audit.specs.declared.stage.Further.{Further}
 use Rattle.zeus_audit.specs.declared.stage.Further.TheVariants as further
 use Rattle.zeus_audit.specs.declared.stage.Mark.{Mark}
 use Rattle.zeus_audit.specs.declared.stage.Mark.TheVariants as marks

@@ -9,7 +9,7 @@ use Rattle.zeus_model.specs.declared.answer.TxState.TheVariants as tx_states
 use Rattle.zeus_model.specs.declared.script.Script.{Script}
 use Rattle.zeus_model.specs.declared.state.Copy.{Copy}
 use Rattle.script_lang.specs.Cut.{cut}
-use Rattle.zeus_audit.specs.Events.{Event, Quiet, Begun, Point, Acked, History, Stands, Copied, SayAll, points_of, replies_of}
+use Rattle.zeus_audit.specs.Events.{Event, Begun, Point, Acked, History, Stands, Copied, SayAll, points_of, replies_of}
 use Rattle.zeus_audit.specs.Progress.{ops_of}
 
 -- one of the events is this

@@ -6,12 +6,12 @@ use Rattle.zeus_packet.specs.declared.letter.State.TheVariants as states
 use Rattle.zeus_model.specs.declared.answer.TxState.{TxState}
 use Rattle.zeus_model.specs.declared.answer.TxState.TheVariants as tx_states
 use Rattle.zeus_model.specs.declared.fault.Kind.{Kind}
-use Rattle.zeus_model.specs.declared.fault.Kind.TheVariants.{Word, Number}
+use Rattle.zeus_model.specs.declared.fault.Kind.TheVariants.{Word}
 use Rattle.zeus_audit.specs.declared.shapes.Printed.{Printed}
 use Rattle.script_lang.specs.Cut.{cut}
 use Rattle.script_lang.specs.NodeLists.{nodes_after}
 use Rattle.script_lang.specs.Numbers.{number_at, range_at}
-use Rattle.script_lang.specs.Reads.{◌>>=◌, or_fault, word_at, word_if, keyword_at, ended}
+use Rattle.script_lang.specs.Reads.{◌>>=◌, word_at, word_if, keyword_at, ended}
 use Rattle.script_lang.specs.Values.{value_at}
 
 -- `ok`, or `failed` and a number

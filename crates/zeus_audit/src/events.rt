@@ -1,5 +1,4 @@
 //! The lines behind the line of a step: points, acknowledgements and packets.
-ghost use Rattle.std.specs.Prelude.{◌≡◌, ◌<◌, length};
 ghost use Rattle.zeus_model.specs.Scripts.{FitsScript};
 ghost use Rattle.zeus_audit.specs.Auditing.{Takes};
 ghost use Rattle.zeus_audit.specs.Fitting.{Fits};

@@ -1,5 +1,4 @@
 //! A line of a report.
-ghost use Rattle.std.specs.Prelude.{◌≡◌};
 ghost use Rattle.zeus_model.specs.Scripts.{FitsScript};
 ghost use Rattle.zeus_audit.specs.Auditing.{Takes};
 ghost use Rattle.zeus_audit.specs.Fitting.{Fits};

@@ -1,7 +1,6 @@
 //! What the lines of a report so far tell.
 ghost use Rattle.std.specs.Prelude.{◌≡◌, IfOk};
 ghost use Rattle.zeus_audit.specs.declared.stage.Mark.TheVariants as marks;
-ghost use Rattle.zeus_base.specs.Tables.{nth};
 
 use crate::stage::{Mark, Stage};
 use std::alloc::Global;

@@ -1,5 +1,5 @@
 //! Points: the reply of a transaction, behind those before it.
-ghost use Rattle.std.specs.Prelude.{◌≡◌, ◌-◌, ◌^◌, ◌<◌, ℕ, All, length};
+ghost use Rattle.std.specs.Prelude.{◌-◌, ◌^◌, ◌<◌, ℕ, All, length};
 ghost use Rattle.zeus_model.specs.Scripts.{FitsScript};
 ghost use Rattle.zeus_txn.specs.Map.{content};
 ghost use Rattle.zeus_txn.specs.Ops.{named};

@@ -1,4 +1,4 @@
-use Rattle.std.proofs.Common.{◌≡◌, ap, sym, ◌∙◌}
+use Rattle.std.proofs.Common.{ap, sym, ◌∙◌}
 use Rattle.script_lang.specs.Cut.{cut}
 use Rattle.zeus_audit.specs.Auditing.{lines_taken, verdict_of, audited}
 use Rattle.zeus_audit.specs.Progress.{State}

@@ -1,4 +1,4 @@
-use Rattle.std.proofs.Common.{◌≡◌, suc, Bool, true, false, [], length, Ok, Err, arith, add-one, refl, sym, ap, ◌∙◌}
+use Rattle.std.proofs.Common.{◌≡◌, suc, true, false, [], length, Err, arith, add-one, refl, sym, ap, ◌∙◌}
 use Rattle.script_lang.proofs.Cutting.{length-cut}
 use Rattle.zeus_audit.specs.Auditing.{is_end}
 use Rattle.zeus_audit.specs.Progress.{state_of}

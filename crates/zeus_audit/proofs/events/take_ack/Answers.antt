@@ -1,4 +1,4 @@
-use Rattle.std.proofs.Common.{◌≡◌, Ok, arith, sym, ◌∙◌}
+use Rattle.std.proofs.Common.{◌≡◌, Ok, arith}
 use Rattle.script_lang.specs.Cut.{cut}
 use Rattle.zeus_audit.specs.declared.stage.Mark.TheVariants as marks
 use Rattle.zeus_audit.specs.Progress.{state_of, mark_of}

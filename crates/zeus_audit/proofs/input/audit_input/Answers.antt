@@ -1,9 +1,8 @@
-use Rattle.std.proofs.Common.{◌≡◌, false, Ok, take, drop, length, arith, refl, length-drop}
+use Rattle.std.proofs.Common.{◌≡◌, false, Ok, take, drop, length, arith}
 use Rattle.std.proofs.lemmas.Grind.{common_steps}
-use Rattle.std.proofs.lemmas.Result.{err_from_is_err_and}
 use Rattle.script_lang.specs.Reading.{script_read}
 use Rattle.zeus_audit.specs.Auditing.{audited}
-use Rattle.zeus_audit.proofs.InputLaws.{input_long, input_read, input_fault}
+use Rattle.zeus_audit.proofs.InputLaws.{input_read}
 use Rattle.zeus_audit.proofs.input.audit_input.Goals as goal
 
 pub audit-requires : goal.audit-requires

@@ -1,4 +1,4 @@
-use Rattle.std.proofs.Common.{◌≡◌, ◌<◌, Ok, length, arith, sym}
+use Rattle.std.proofs.Common.{◌≡◌, Ok, arith, sym}
 use Rattle.std.proofs.lemmas.Option.{slice_get_within}
 use Rattle.script_lang.specs.Cut.{cut}
 use Rattle.zeus_audit.specs.declared.stage.Mark.TheVariants as marks
