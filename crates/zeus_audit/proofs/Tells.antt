@@ -13,7 +13,6 @@ use Rattle.zeus_base.specs.declared.step.Step.{Step}
 use Rattle.zeus_base.specs.declared.step.Step.TheVariants as steps
 use Rattle.zeus_txn.specs.Map.{content, run_at, applied_map}
 use Rattle.zeus_txn.specs.declared.map.Versioned.{Versioned}
-use Rattle.zeus_txn.specs.declared.reply.Reply.{Reply}
 use Rattle.zeus_model.specs.Scripts.{FitsScript, FitsStep}
 use Rattle.zeus_model.specs.declared.script.Script.{Script}
 use Rattle.zeus_model.specs.declared.state.Copy.{Copy}

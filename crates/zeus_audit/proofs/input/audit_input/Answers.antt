@@ -1,4 +1,4 @@
-use Rattle.std.proofs.Common.{◌≡◌, false, Ok, take, drop, length, arith}
+use Rattle.std.proofs.Common.{◌≡◌, false, Ok, take, drop, arith}
 use Rattle.std.proofs.lemmas.Grind.{common_steps}
 use Rattle.script_lang.specs.Reading.{script_read}
 use Rattle.zeus_audit.specs.Auditing.{audited}
