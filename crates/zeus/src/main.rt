@@ -1,4 +1,4 @@
-//! `zeus`: runs a script of the protocol and prints the report of the run.
+//! `zeus`: runs scripts of the protocol and storms, answers scripts of leases, and audits reports.
 #![tactic(auto)]
 
 use std::env;

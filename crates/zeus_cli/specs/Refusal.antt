@@ -27,15 +27,19 @@ kind_text Size = codes "size"
 abbrev pub fault_line : ScriptFault → List ℕ
 fault_line f = codes "script" ++ number f.line ++ word (kind_text f.kind) ++ line_end
 
+-- what reading bytes gives: what they are, or their fault
+abbrev pub Reading : Type 0 → Type 0
+Reading A = List ℕ → Result A ScriptFault
+
 -- the line is that of the fault that reading the bytes gives
-pub record IsFaultLine {A : Type 0} (read : List ℕ → Result A ScriptFault) (bytes text : List ℕ) : Type 0 where
+pub record IsFaultLine {A : Type 0} (read : Reading A) (bytes text : List ℕ) : Type 0 where
   pub fault : ScriptFault
   pub is_read : read bytes ≡ Err fault
   pub text_is : text ≡ fault_line fault
 
 -- the bytes are none that the command takes, and all that there were or more than it can take; this text is the line of
 -- their fault
-pub record IsRefused {A : Type 0} (read : List ℕ → Result A ScriptFault) (IsNone : List ℕ → Type 0) (most : ℕ) (after : Option (List ℕ)) (text taken : List ℕ) : Type 0 where
+pub record IsRefused {A : Type 0} (read : Reading A) (IsNone : List ℕ → Type 0) (most : ℕ) (after : Option (List ℕ)) (text taken : List ℕ) : Type 0 where
   pub whole : IsAtEnd after ⊎ (most < length taken)
   pub none : IsNone taken
   pub line : IsFaultLine read taken text
