@@ -1,6 +1,5 @@
 //! Short lists kept inline.
-ghost use Rattle.std.specs.Prelude.{◌≡◌, ◌<◌, ◌≤◌, ◌↔◌, ◌∷◌, ◌++◌, [], IsTrue, length, option_copied, slice_get};
-ghost use Rattle.std.proofs.Math.ListN.{set};
+ghost use Rattle.std.specs.Prelude.{◌≡◌, ◌<◌, ◌≤◌, ◌↔◌, ◌∷◌, ◌++◌, [], IsTrue, length, option_copied, set, slice_get};
 
 use smallvec::SmallVec;
 use std::alloc::Global;
@@ -68,6 +67,14 @@ impl<T: Default + Copy + Drop, const N: usize> ShortList<T, N> {
         ensures { option_copied result ≡ slice_get self.now place }
     {
         self.as_slice().get(place)
+    }
+
+    /// Puts an element in the place of another one.
+    pub fn set(&mut self, place: usize, item: T)
+        requires { place < length self.old }
+        ensures { self.new ≡ set self.old place item }
+    {
+        self.items.as_mut_slice()[place] = item;
     }
 
     /// The same list once more, without memory.
