@@ -12,7 +12,7 @@ for crate in zeus_base zeus_packet zeus_io zeus_wire; do
     done
 done
 cat >"$folder/crates.txt" <<'END'
-zeus_base:
+zeus_base: smallvec
 zeus_packet: zeus_base smallvec circular_buffer
 zeus_io:
 zeus_wire: zeus_base zeus_packet thiserror

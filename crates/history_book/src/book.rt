@@ -7,8 +7,8 @@ ghost use Rattle.history_book.specs.Books.{IsNext, with_book};
 ghost use Rattle.history_book.specs.Entries.{IsStream};
 
 use crate::entries::Entries;
-use crate::ids::IdList;
 use crate::record::Record;
+use crate::tx_ids::TxIds;
 use std::alloc::Global;
 use std::marker::Model;
 use zeus_base::{Config, NoMemory, Stream, TxId};
@@ -19,7 +19,7 @@ use zeus_txn::Reply;
 #[derive(Debug, Drop)]
 pub struct Book {
     pub(crate) steps: u64,
-    pub(crate) points: IdList,
+    pub(crate) points: TxIds,
     pub(crate) records: Vec<Record>,
     nodes: u8,
     slots: u8,
@@ -51,7 +51,7 @@ impl Book {
         }
         Ok(Book {
             steps: 0,
-            points: IdList::with_room(alloc, count)?,
+            points: TxIds::with_room(alloc, count)?,
             records,
             nodes: config.nodes,
             slots: config.slots,

@@ -5,7 +5,7 @@ ghost use Rattle.zeus_model.specs.Tables.{nth, put};
 ghost use Rattle.history_book.specs.Entries.{HasEntries, HasSlots, IsStream, of_stream};
 ghost use Rattle.history_book.specs.Ids.{no_ids};
 
-use crate::ids::IdList;
+use crate::tx_ids::TxIds;
 use std::alloc::Global;
 use std::marker::Model;
 use zeus_base::{NoMemory, NodeId, SlotId, Stream, TxId};
@@ -13,7 +13,7 @@ use zeus_base::{NoMemory, NodeId, SlotId, Stream, TxId};
 /// The entries of one node, by slot.
 #[derive(Debug, Drop)]
 struct NodeEntries {
-    slots: Vec<IdList>,
+    slots: Vec<TxIds>,
 }
 
 impl Model for NodeEntries {
@@ -35,12 +35,12 @@ impl NodeEntries {
             return Err(NoMemory);
         };
         for _slot in 0..slots {
-            lists.push_reserved(IdList::with_room(alloc, count)?);
+            lists.push_reserved(TxIds::with_room(alloc, count)?);
         }
         Ok(NodeEntries { slots: lists })
     }
 
-    fn list(&self, slot: SlotId) -> Option<&IdList>
+    fn list(&self, slot: SlotId) -> Option<&TxIds>
         ensures { option_copied result ≡ slice_get self.now slot }
     {
         self.slots.get(slot.place())

@@ -3,14 +3,14 @@
 
 mod book;
 mod entries;
-mod ids;
 mod passes;
 mod readers;
 mod record;
 mod tries;
+mod tx_ids;
 
 pub use book::Book;
-pub use ids::IdList;
+pub use tx_ids::TxIds;
 pub use zeus_base::{Config, NoMemory, NodeId, Passed, SlotId, Stream, TxId};
 pub use zeus_model::{Begin, Tried, TxState};
 pub use zeus_txn::Reply;

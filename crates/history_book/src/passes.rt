@@ -6,7 +6,7 @@ ghost use Rattle.history_book.specs.Books.{HasLists, IsChange, has_no_ack, has_n
 ghost use Rattle.history_book.specs.Ids.{one};
 
 use crate::book::Book;
-use crate::ids::IdList;
+use crate::tx_ids::TxIds;
 use zeus_base::{NodeId, Passed, Stream, TxId};
 
 impl Book {
@@ -60,8 +60,8 @@ impl Book {
         stream: &Stream,
         number: u32,
         own: bool,
-        points: &mut IdList,
-        acked: &mut IdList,
+        points: &mut TxIds,
+        acked: &mut TxIds,
     )
         requires { HasLists self.old.book points.old acked.old }
         ensures shape { self.new ≡ with_book self.old self.new.book }
@@ -82,7 +82,7 @@ impl Book {
     ///
     /// A transaction that has its point by this stands then at the end of `points`, and one that is acknowledged by it at
     /// the end of `acked`, in the order of the entries. Takes no memory.
-    pub fn pass(&mut self, passed: &Passed, own: bool, points: &mut IdList, acked: &mut IdList)
+    pub fn pass(&mut self, passed: &Passed, own: bool, points: &mut TxIds, acked: &mut TxIds)
         requires { HasLists self.old.book points.old acked.old }
         ensures shape { self.new ≡ with_book self.old self.new.book }
         ensures change { so_far self.new points.new acked.new
@@ -100,8 +100,8 @@ impl Book {
         &mut self,
         me: NodeId,
         passes: &[Passed],
-        points: &mut IdList,
-        acked: &mut IdList,
+        points: &mut TxIds,
+        acked: &mut TxIds,
     )
         requires { HasLists self.old.book points.old acked.old }
         ensures shape { self.new ≡ with_book self.old self.new.book }

@@ -6,7 +6,7 @@ ghost use Rattle.history_book.specs.Books.{HasLists, so_far, with_book};
 ghost use Rattle.history_book.specs.Tries.{CanNote};
 
 use crate::book::Book;
-use crate::ids::IdList;
+use crate::tx_ids::TxIds;
 use zeus_base::{Stream, TxId};
 use zeus_model::{Begin, Tried};
 
@@ -32,8 +32,8 @@ impl Book {
         stream: Stream,
         degree: Option<u8>,
         tried: &Tried,
-        points: &mut IdList,
-        acked: &mut IdList,
+        points: &mut TxIds,
+        acked: &mut TxIds,
     )
         requires tried { CanNote self.old stream tried.now }
         requires lists { HasLists self.old.book points.old acked.old }

@@ -1,10 +1,10 @@
 //! What a run is configured with: its nodes, slots, directory and objects.
-ghost use Rattle.std.specs.Prelude.{◌≡◌, ◌↔◌, IsTrue, [], length, slice_get, option_copied};
+ghost use Rattle.std.specs.Prelude.{◌≡◌};
 
+use crate::list::List;
 use crate::node_set::NodeSet;
 use crate::numbers::NodeId;
 use crate::value::Value;
-use std::marker::Model;
 
 /// The ranges that the numbers of a packet keep.
 #[derive(Clone, Copy, Debug, PartialEq, Eq)]
@@ -24,64 +24,8 @@ pub struct ObjectDecl {
     pub replicas: NodeSet,
 }
 
-/// The declared objects in order, seen as a list.
-#[derive(Debug, Drop)]
-pub struct ObjectList {
-    items: Vec<ObjectDecl>,
-}
-
-impl Model for ObjectList {
-    ghost use Rattle.std.specs.Prelude.{List};
-    ghost use Rattle.zeus_base.specs.declared.config.ObjectDecl.{ObjectDecl};
-
-    ghost Value = { List ObjectDecl };
-
-    ghost view = { λ l. l.items.items };
-}
-
-impl ObjectList {
-    /// The objects as the vector has them.
-    pub fn from_vec(items: Vec<ObjectDecl>) -> ObjectList
-        ensures { result ≡ items.items }
-    {
-        ObjectList { items }
-    }
-
-    /// The objects as a vector.
-    pub fn into_vec(self) -> Vec<ObjectDecl>
-        ensures { result.items ≡ self }
-    {
-        self.items
-    }
-
-    /// The objects as a slice.
-    pub fn as_slice(&self) -> &[ObjectDecl]
-        ensures { result.now ≡ self.now }
-    {
-        self.items.as_slice()
-    }
-
-    /// How many there are.
-    pub fn len(&self) -> usize
-        ensures { result ≡ length self.now }
-    {
-        self.items.len()
-    }
-
-    /// Whether there is none.
-    pub fn is_empty(&self) -> bool
-        ensures { IsTrue result ↔ (self.now ≡ []) }
-    {
-        self.items.is_empty()
-    }
-
-    /// The one at this place from 0, where there is one.
-    pub fn get(&self, place: usize) -> Option<&ObjectDecl>
-        ensures { option_copied result ≡ slice_get self.now place }
-    {
-        self.items.get(place)
-    }
-}
+/// The declared objects in order.
+pub type ObjectList = List<ObjectDecl>;
 
 /// A configuration. Nodes, slots and objects are numbered from 0.
 #[derive(Debug, Drop)]

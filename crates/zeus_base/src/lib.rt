@@ -2,15 +2,19 @@
 #![tactic(auto)]
 
 mod config;
+mod list;
 mod node_set;
 mod numbers;
 mod order;
+mod short_list;
 mod step;
 mod value;
 
 pub use config::{Config, Limits, ObjectDecl, ObjectList};
+pub use list::List;
 pub use node_set::{NodeSet, Nodes};
-pub use numbers::{NodeId, ObjId, SlotId, TxId, TxIds};
+pub use numbers::{NodeId, ObjId, SlotId, TxId};
 pub use order::{Stamp, Stream};
+pub use short_list::ShortList;
 pub use step::{NoMemory, Passed, Step, Steps};
 pub use value::{Text, Value};

@@ -1,5 +1,5 @@
 //! The numbers by which nodes, slots, objects and transactions are named, each a type of its own.
-ghost use Rattle.std.specs.Prelude.{◌≡◌, ◌↔◌, IsTrue, [], length, slice_get, option_copied};
+ghost use Rattle.std.specs.Prelude.{◌≡◌};
 
 use std::marker::Model;
 
@@ -98,63 +98,5 @@ impl TxId {
         ensures { result ≡ self }
     {
         self.0 as usize
-    }
-}
-
-/// Transactions by their numbers, in order, seen as a list.
-#[derive(Debug, Drop)]
-pub struct TxIds {
-    items: Vec<TxId>,
-}
-
-impl Model for TxIds {
-    ghost use Rattle.std.specs.Prelude.{List, ℕ};
-
-    ghost Value = { List ℕ };
-
-    ghost view = { λ l. l.items.items };
-}
-
-impl TxIds {
-    /// The transactions as the vector has them.
-    pub fn from_vec(items: Vec<TxId>) -> TxIds
-        ensures { result ≡ items.items }
-    {
-        TxIds { items }
-    }
-
-    /// The transactions as a vector.
-    pub fn into_vec(self) -> Vec<TxId>
-        ensures { result.items ≡ self }
-    {
-        self.items
-    }
-
-    /// The transactions as a slice.
-    pub fn as_slice(&self) -> &[TxId]
-        ensures { result.now ≡ self.now }
-    {
-        self.items.as_slice()
-    }
-
-    /// How many there are.
-    pub fn len(&self) -> usize
-        ensures { result ≡ length self.now }
-    {
-        self.items.len()
-    }
-
-    /// Whether there is none.
-    pub fn is_empty(&self) -> bool
-        ensures { IsTrue result ↔ (self.now ≡ []) }
-    {
-        self.items.is_empty()
-    }
-
-    /// The one at this place from 0, where there is one.
-    pub fn get(&self, place: usize) -> Option<&TxId>
-        ensures { option_copied result ≡ slice_get self.now place }
-    {
-        self.items.get(place)
     }
 }

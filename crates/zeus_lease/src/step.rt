@@ -1,38 +1,9 @@
 //! Steps of leases.
-ghost use Rattle.std.specs.Prelude.{◌≡◌};
 
-use std::marker::Model;
-use zeus_base::{NodeId, NodeSet};
+use zeus_base::{List, NodeId, NodeSet};
 
-/// By how much each clock goes on: the nodes' by their numbers, and then the service's. Seen as a list.
-#[derive(Debug, Drop)]
-pub struct Ticks {
-    items: Vec<u64>,
-}
-
-impl Model for Ticks {
-    ghost use Rattle.std.specs.Prelude.{List, ℕ};
-
-    ghost Value = { List ℕ };
-
-    ghost view = { λ t. t.items.items };
-}
-
-impl Ticks {
-    /// The numbers as the vector has them.
-    pub fn from_vec(items: Vec<u64>) -> Ticks
-        ensures { result ≡ items.items }
-    {
-        Ticks { items }
-    }
-
-    /// The numbers as a slice.
-    pub fn as_slice(&self) -> &[u64]
-        ensures { result.now ≡ self.now }
-    {
-        self.items.as_slice()
-    }
-}
+/// By how much each clock goes on: the nodes' by their numbers, and then the service's.
+pub type Ticks = List<u64>;
 
 /// What happens next.
 #[derive(Debug, Drop)]

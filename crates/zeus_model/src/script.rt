@@ -1,10 +1,10 @@
 //! Scripts: a configuration with names for its objects, the transactions, and the steps of the run.
-ghost use Rattle.std.specs.Prelude.{◌≡◌, ◌↔◌, IsTrue, IsSome, IfSome, [], length};
+ghost use Rattle.std.specs.Prelude.{◌≡◌, ◌↔◌, IsTrue, IsSome, IfSome};
 ghost use Rattle.zeus_model.specs.Names.{IsLetter, IsNameByte};
 
 use std::hash::{Hash, Hasher};
 use std::marker::Model;
-use zeus_base::{Config, Steps};
+use zeus_base::{Config, List, Steps};
 use zeus_txn::TxList;
 
 /// The name of an object: 1 to 16 bytes, first an ASCII letter, then letters, digits or `_`; kept inline and seen as
@@ -101,56 +101,8 @@ fn is_name_byte(byte: u8) -> bool
     is_letter(byte) || (b'0' <= byte && byte <= b'9') || byte == b'_'
 }
 
-/// The names of the objects in order, seen as a list.
-#[derive(Debug, Drop)]
-pub struct Names {
-    items: Vec<Name>,
-}
-
-impl Model for Names {
-    ghost use Rattle.std.specs.Prelude.{List, ℕ};
-
-    ghost Value = { List (List ℕ) };
-
-    ghost view = { λ l. l.items.items };
-}
-
-impl Names {
-    /// The names as the vector has them.
-    pub fn from_vec(items: Vec<Name>) -> Names
-        ensures { result ≡ items.items }
-    {
-        Names { items }
-    }
-
-    /// The names as a vector.
-    pub fn into_vec(self) -> Vec<Name>
-        ensures { result.items ≡ self }
-    {
-        self.items
-    }
-
-    /// The names as a slice.
-    pub fn as_slice(&self) -> &[Name]
-        ensures { result.now ≡ self.now }
-    {
-        self.items.as_slice()
-    }
-
-    /// How many there are.
-    pub fn len(&self) -> usize
-        ensures { result ≡ length self.now }
-    {
-        self.items.len()
-    }
-
-    /// Whether there is none.
-    pub fn is_empty(&self) -> bool
-        ensures { IsTrue result ↔ (self.now ≡ []) }
-    {
-        self.items.is_empty()
-    }
-}
+/// The names of the objects in order.
+pub type Names = List<Name>;
 
 /// What a run is of: how it is configured, what its objects are called, its transactions, and its steps.
 #[derive(Debug, Drop)]

@@ -1,5 +1,5 @@
 -- Reading and writing short lists of writes by place.
-use Rattle.std.proofs.Common.{ℕ, zero, suc, false, ◌==◌, ◌≡◌, ◌+◌, ◌<◌, ◌≤◌, List, [], ◌∷◌, ◌++◌, Some, None, length, drop, get_or, nat_lt, if◌then◌else◌, refl, ◌∙◌, arith}
+use Rattle.std.proofs.Common.{ℕ, zero, suc, Bool, false, ◌==◌, ◌≡◌, ◌+◌, ◌<◌, ◌≤◌, List, [], ◌∷◌, ◌++◌, Some, None, length, drop, get_or, nat_lt, if◌then◌else◌, refl, ◌∙◌, arith}
 use Rattle.std.proofs.Math.ListN.{set}
 use Rattle.std.proofs.lemmas.Bool.Decides.{nat_tests}
 use Rattle.std.proofs.lemmas.List.{take-append-le, take_all}
@@ -32,6 +32,10 @@ rewritten-new ws x v h = let at = rewritten-place ws x v in grind (arith, nat_te
 
 pub rewritten-old : (ws : List (ℕ × Value)) (x : ℕ) (v : Value) (k : ℕ) → position (λ w. x == w.0) ws ≡ Some k → rewritten ws x v ≡ set ws k (x, v)
 rewritten-old ws x v k h = let at = rewritten-place ws x v in grind (arith, nat_tests)
+
+-- a place that is found is in the list
+pub position-below : {A : Type 0} (f : A → Bool) (xs : List A) (k : ℕ) → position f xs ≡ Some k → k < length xs
+position-below f xs k h = grind (arith, nat_tests)
 
 -- a slice that was written through is what the vector has
 pub refill-whole : {A : Type 0} (n : ℕ) (xs ys : List A) → n ≡ length ys → refill n xs ys ≡ ys

@@ -1,257 +1,39 @@
-//! Short lists kept inline, each seen as a list.
-ghost use Rattle.std.specs.Prelude.{◌≡◌, ◌==◌, position, ◌<◌, ◌≤◌, ◌↔◌, ◌∷◌, ◌++◌, [], IsTrue, length, option_copied, slice_get};
+//! The short lists of a transaction.
+ghost use Rattle.std.specs.Prelude.{◌≡◌, ◌==◌, position, ◌≤◌, length};
 ghost use Rattle.zeus_txn.specs.Run.{latest, rewritten};
 
-use smallvec::SmallVec;
-use std::alloc::Global;
-use std::marker::Model;
-use zeus_base::{ObjId, Value};
+use zeus_base::{ObjId, ShortList, Value};
 
-/// The values that a transaction gave, in order; at most 16.
-#[derive(Debug, Drop)]
-pub struct Values {
-    items: SmallVec<Value, 16>,
-}
+/// The values that a transaction gave, in order.
+pub type Values = ShortList<Value, 16>;
 
-impl Model for Values {
-    ghost use Rattle.std.specs.Prelude.{List, length, ◌≤◌, ◌≡◌};
-    ghost use Rattle.zeus_base.specs.declared.value.Value.{Value as StoredValue};
+/// The objects that a transaction names, in the order of first naming.
+pub type Named = ShortList<ObjId, 8>;
 
-    ghost Value = { List StoredValue };
+/// The objects that a transaction writes with their last values, in the order of first writing.
+pub type NewValues = ShortList<(ObjId, Value), 8>;
 
-    ghost view = { λ v. v.items.items };
-
-    ghost invariant = { λ v. (v.items.capacity ≡ 16) × (length v.items.items ≤ 16) };
-}
-
-impl Values {
-    /// No value.
-    pub fn new(alloc: Global) -> Values
-        ensures { result ≡ [] }
-    {
-        Values {
-            items: SmallVec::new(alloc),
+// The last value that was written to the object, else the other one.
+pub(crate) fn latest(values: &NewValues, obj: ObjId, found: Value) -> Value
+    ensures { result ≡ latest values.now obj found }
+{
+    let writes = values.as_slice();
+    for write in writes {
+        if obj == write.0 {
+            return write.1;
         }
     }
-
-    /// Adds a value at the end.
-    pub fn push(&mut self, value: Value)
-        requires { length self.old < 16 }
-        ensures { self.new ≡ self.old ++ value ∷ [] }
-    {
-        self.items.push_reserved(value);
-    }
-
-    /// All as a slice.
-    pub fn as_slice(&self) -> &[Value]
-        ensures list { result.now ≡ self.now }
-        ensures few { length self.now ≤ 16 }
-    {
-        self.items.as_slice()
-    }
-
-    /// How many there are.
-    pub fn len(&self) -> usize
-        ensures value { result ≡ length self.now }
-        ensures few { result ≤ 16 }
-    {
-        self.items.len()
-    }
-
-    /// Whether there is none.
-    pub fn is_empty(&self) -> bool
-        ensures { IsTrue result ↔ (self.now ≡ []) }
-    {
-        self.items.is_empty()
-    }
-
-    /// The one at this place from 0, where there is one.
-    pub fn get(&self, place: usize) -> Option<&Value>
-        ensures { option_copied result ≡ slice_get self.now place }
-    {
-        self.as_slice().get(place)
-    }
-
-    /// The same list once more, without memory.
-    pub fn duplicate(&self) -> Values
-        ensures { result ≡ self.now }
-    {
-        Values {
-            items: SmallVec::from_slice(*self.items.allocator(), self.items.as_slice()).unwrap(),
-        }
-    }
+    found
 }
 
-/// The objects that a transaction names, in the order of first naming; at most 8.
-#[derive(Debug, Drop)]
-pub struct Named {
-    items: SmallVec<ObjId, 8>,
-}
-
-impl Model for Named {
-    ghost use Rattle.std.specs.Prelude.{List, length, ◌≤◌, ℕ, ◌≡◌};
-
-    ghost Value = { List ℕ };
-
-    ghost view = { λ n. n.items.items };
-
-    ghost invariant = { λ n. (n.items.capacity ≡ 8) × (length n.items.items ≤ 8) };
-}
-
-impl Named {
-    /// No object.
-    pub fn new(alloc: Global) -> Named
-        ensures { result ≡ [] }
-    {
-        Named {
-            items: SmallVec::new(alloc),
-        }
-    }
-
-    /// Adds an object at the end.
-    pub fn push(&mut self, obj: ObjId)
-        requires { length self.old < 8 }
-        ensures { self.new ≡ self.old ++ obj ∷ [] }
-    {
-        self.items.push_reserved(obj);
-    }
-
-    /// All as a slice.
-    pub fn as_slice(&self) -> &[ObjId]
-        ensures list { result.now ≡ self.now }
-        ensures few { length self.now ≤ 8 }
-    {
-        self.items.as_slice()
-    }
-
-    /// How many there are.
-    pub fn len(&self) -> usize
-        ensures value { result ≡ length self.now }
-        ensures few { result ≤ 8 }
-    {
-        self.items.len()
-    }
-
-    /// Whether there is none.
-    pub fn is_empty(&self) -> bool
-        ensures { IsTrue result ↔ (self.now ≡ []) }
-    {
-        self.items.is_empty()
-    }
-
-    /// The one at this place from 0, where there is one.
-    pub fn get(&self, place: usize) -> Option<&ObjId>
-        ensures { option_copied result ≡ slice_get self.now place }
-    {
-        self.as_slice().get(place)
-    }
-
-    /// The same list once more, without memory.
-    pub fn duplicate(&self) -> Named
-        ensures { result ≡ self.now }
-    {
-        Named {
-            items: SmallVec::from_slice(*self.items.allocator(), self.items.as_slice()).unwrap(),
-        }
-    }
-}
-
-/// The objects that a transaction writes with their last values, in the order of first writing; at most 8.
-#[derive(Debug, Drop)]
-pub struct NewValues {
-    items: SmallVec<(ObjId, Value), 8>,
-}
-
-impl Model for NewValues {
-    ghost use Rattle.std.specs.Prelude.{List, length, ◌≤◌, ℕ, ◌≡◌};
-    ghost use Rattle.zeus_base.specs.declared.value.Value.{Value as StoredValue};
-
-    ghost Value = { List (ℕ × StoredValue) };
-
-    ghost view = { λ w. w.items.items };
-
-    ghost invariant = { λ w. (w.items.capacity ≡ 8) × (length w.items.items ≤ 8) };
-}
-
-impl NewValues {
-    /// No object.
-    pub fn new(alloc: Global) -> NewValues
-        ensures { result ≡ [] }
-    {
-        NewValues {
-            items: SmallVec::new(alloc),
-        }
-    }
-
-    /// Adds an object with its value at the end.
-    pub fn push(&mut self, obj: ObjId, value: Value)
-        requires { length self.old < 8 }
-        ensures { self.new ≡ self.old ++ (obj, value) ∷ [] }
-    {
-        self.items.push_reserved((obj, value));
-    }
-
-    /// All as a slice.
-    pub fn as_slice(&self) -> &[(ObjId, Value)]
-        ensures list { result.now ≡ self.now }
-        ensures few { length self.now ≤ 8 }
-    {
-        self.items.as_slice()
-    }
-
-    /// How many there are.
-    pub fn len(&self) -> usize
-        ensures value { result ≡ length self.now }
-        ensures few { result ≤ 8 }
-    {
-        self.items.len()
-    }
-
-    /// Whether there is none.
-    pub fn is_empty(&self) -> bool
-        ensures { IsTrue result ↔ (self.now ≡ []) }
-    {
-        self.items.is_empty()
-    }
-
-    /// The one at this place from 0, where there is one.
-    pub fn get(&self, place: usize) -> Option<&(ObjId, Value)>
-        ensures { option_copied result ≡ slice_get self.now place }
-    {
-        self.as_slice().get(place)
-    }
-
-    /// The last value that was written to the object, else the other one.
-    pub fn latest(&self, obj: ObjId, found: Value) -> Value
-        ensures { result ≡ latest self.now obj found }
-    {
-        let writes = self.as_slice();
-        for write in writes {
-            if obj == write.0 {
-                return write.1;
-            }
-        }
-        found
-    }
-
-    /// Writes the object: in its place, or at the end where it is new.
-    pub fn store(&mut self, obj: ObjId, value: Value)
-        requires { length (rewritten self.old obj value) ≤ 8 }
-        ensures { self.new ≡ rewritten self.old obj value }
-    {
-        match place_of(obj, self.as_slice()) {
-            Some(place) => self.items.as_mut_slice()[place] = (obj, value),
-            None => self.push(obj, value),
-        }
-    }
-
-    /// The same list once more, without memory.
-    pub fn duplicate(&self) -> NewValues
-        ensures { result ≡ self.now }
-    {
-        NewValues {
-            items: SmallVec::from_slice(*self.items.allocator(), self.items.as_slice()).unwrap(),
-        }
+// Writes the object: in its place, or at the end where it is new.
+pub(crate) fn store(writes: &mut NewValues, obj: ObjId, value: Value)
+    requires { length (rewritten writes.old obj value) ≤ 8 }
+    ensures { writes.new ≡ rewritten writes.old obj value }
+{
+    match place_of(obj, writes.as_slice()) {
+        Some(place) => writes.set(place, (obj, value)),
+        None => writes.push((obj, value)),
     }
 }
 

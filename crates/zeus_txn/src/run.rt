@@ -4,7 +4,7 @@ ghost use Rattle.zeus_base.specs.Values.{same_value};
 ghost use Rattle.zeus_txn.specs.Ops.{named};
 ghost use Rattle.zeus_txn.specs.Run.{added, effect, given, reaches, run, stored, tested, value_at};
 
-use crate::lists::{NewValues, Values};
+use crate::lists::{self, NewValues, Values, latest};
 use crate::ops::Op;
 use crate::reply::{Ran, Reply};
 use crate::tx::Tx;
@@ -30,7 +30,7 @@ pub fn run_ops(tx: &Tx, values: &[Value]) -> Ran
     for (place, op) in ops.iter().enumerate() {
         let obj = op.object();
         let found = value_at(named.as_slice(), values, obj);
-        match perform(op, &writes.latest(obj, found)) {
+        match perform(op, &latest(&writes, obj, found)) {
             None => {
                 let reply = Reply {
                     values: given,
@@ -86,7 +86,7 @@ fn store(writes: &mut NewValues, obj: ObjId, value: Option<Value>)
     ensures { writes.new ≡ stored writes.old obj value }
 {
     if let Some(value) = value {
-        writes.store(obj, value);
+        lists::store(writes, obj, value);
     }
 }
 

@@ -1,5 +1,5 @@
 //! Transactions as they are declared.
-ghost use Rattle.std.specs.Prelude.{◌≡◌, ◌≤◌, ◌∷◌, ◌↔◌, IsTrue, [], length, nat_lt, None, Some, if◌then◌else◌, option_copied, slice_get};
+ghost use Rattle.std.specs.Prelude.{◌≡◌, ◌≤◌, ◌∷◌, [], length, nat_lt, None, Some, if◌then◌else◌};
 ghost use Rattle.std.specs.List.{list_any};
 ghost use Rattle.zeus_txn.specs.Ops.{is_write, mentions, named, stores, written, written_after};
 ghost use Rattle.zeus_txn.specs.Tx.{IsTx, made_tx};
@@ -10,7 +10,7 @@ use smallvec::SmallVec;
 use std::alloc::Global;
 use std::marker::Model;
 use thiserror::Error;
-use zeus_base::{NodeId, ObjId, SlotId, TxId};
+use zeus_base::{List, NodeId, ObjId, SlotId, TxId};
 
 /// A transaction: 1 to 16 operations on at most 8 objects, seen as the list of its operations.
 #[derive(Debug, Drop)]
@@ -170,61 +170,5 @@ pub struct TxDecl {
     pub tx: Tx,
 }
 
-/// The transactions of a script in order, seen as a list.
-#[derive(Debug, Drop)]
-pub struct TxList {
-    items: Vec<TxDecl>,
-}
-
-impl Model for TxList {
-    ghost use Rattle.std.specs.Prelude.{List};
-    ghost use Rattle.zeus_txn.specs.declared.tx.TxDecl.{TxDecl};
-
-    ghost Value = { List TxDecl };
-
-    ghost view = { λ l. l.items.items };
-}
-
-impl TxList {
-    /// The transactions as the vector has them.
-    pub fn from_vec(items: Vec<TxDecl>) -> TxList
-        ensures { result ≡ items.items }
-    {
-        TxList { items }
-    }
-
-    /// The transactions as a vector.
-    pub fn into_vec(self) -> Vec<TxDecl>
-        ensures { result.items ≡ self }
-    {
-        self.items
-    }
-
-    /// The transactions as a slice.
-    pub fn as_slice(&self) -> &[TxDecl]
-        ensures { result.now ≡ self.now }
-    {
-        self.items.as_slice()
-    }
-
-    /// How many there are.
-    pub fn len(&self) -> usize
-        ensures { result ≡ length self.now }
-    {
-        self.items.len()
-    }
-
-    /// Whether there is none.
-    pub fn is_empty(&self) -> bool
-        ensures { IsTrue result ↔ (self.now ≡ []) }
-    {
-        self.items.is_empty()
-    }
-
-    /// The one at this place from 0, where there is one.
-    pub fn get(&self, place: usize) -> Option<&TxDecl>
-        ensures { option_copied result ≡ slice_get self.now place }
-    {
-        self.items.get(place)
-    }
-}
+/// The transactions of a script in order.
+pub type TxList = List<TxDecl>;

@@ -11,7 +11,7 @@ mod serial;
 mod steps;
 mod world;
 
-pub use history_book::{Book, IdList};
+pub use history_book::{Book, TxIds};
 pub use lossy_fabric::Links;
 pub use membership::Service;
 pub use report::{Packets, Report};

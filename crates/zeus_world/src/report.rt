@@ -2,7 +2,7 @@
 ghost use Rattle.std.specs.Prelude.{◌≡◌, ◌≤◌, ◌<◌, ◌+◌, ◌++◌, ◌∷◌, [], IfOk, OnOk, length};
 ghost use Rattle.zeus_world.specs.Reports.{HasSpace, SaysSame};
 
-use history_book::IdList;
+use history_book::TxIds;
 use std::alloc::Global;
 use std::marker::Model;
 use zeus_base::NoMemory;
@@ -84,8 +84,8 @@ impl Packets {
 #[derive(Debug, Drop)]
 pub struct Report {
     pub answer: Answer,
-    pub points: IdList,
-    pub acked: IdList,
+    pub points: TxIds,
+    pub acked: TxIds,
     pub sent: Packets,
 }
 
@@ -98,8 +98,8 @@ impl Report {
     {
         Report {
             answer: Answer::Twice,
-            points: IdList::new(alloc),
-            acked: IdList::new(alloc),
+            points: TxIds::new(alloc),
+            acked: TxIds::new(alloc),
             sent: Packets::new(alloc),
         }
     }

@@ -8,11 +8,11 @@ use zeus_base::{NoMemory, TxId};
 
 /// Transactions in order, seen as their list and the room for more.
 #[derive(Debug, Drop)]
-pub struct IdList {
+pub struct TxIds {
     items: Vec<TxId>,
 }
 
-impl Model for IdList {
+impl Model for TxIds {
     ghost use Rattle.std.specs.Prelude.{◌-◌, vec_capacity, vec_len};
     ghost use Rattle.history_book.specs.Ids.{IdsState};
 
@@ -21,12 +21,12 @@ impl Model for IdList {
     ghost view = { λ l. record { ids = l.items.items; room = vec_capacity l.items - vec_len l.items } };
 }
 
-impl IdList {
+impl TxIds {
     /// No transactions yet, and no room.
-    pub fn new(alloc: Global) -> IdList
+    pub fn new(alloc: Global) -> TxIds
         ensures { result.ids ≡ [] }
     {
-        IdList {
+        TxIds {
             items: Vec::new(alloc),
         }
     }
@@ -35,12 +35,12 @@ impl IdList {
     ///
     /// # Errors
     /// `NoMemory` if the room is not there.
-    pub fn with_room(alloc: Global, count: usize) -> Result<IdList, NoMemory>
+    pub fn with_room(alloc: Global, count: usize) -> Result<TxIds, NoMemory>
         ensures ids { IfOk result (λ l. l.ids ≡ []) }
         ensures room { IfOk result (λ l. count ≤ l.room) }
     {
         let items = Vec::with_capacity(alloc, count).map_err(|_| NoMemory)?;
-        Ok(IdList { items })
+        Ok(TxIds { items })
     }
 
     /// Makes room for so many transactions more. The list stays as it is, also at an error.

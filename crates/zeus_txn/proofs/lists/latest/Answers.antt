@@ -1,6 +1,6 @@
 use Rattle.std.proofs.Common.{◌≡◌, ◌==◌, ◌∙◌, true, false, refl, sym, arith}
 use Rattle.zeus_txn.proofs.WriteLemmas.{latest-step, latest-end}
-use Rattle.zeus_txn.proofs.lists.NewValues.latest.Goals as goal
+use Rattle.zeus_txn.proofs.lists.latest.Goals as goal
 
 pub returns-then-eq : goal.returns-then-eq
 returns-then-eq c =
