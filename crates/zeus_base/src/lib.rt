@@ -2,6 +2,7 @@
 #![tactic(auto)]
 
 mod config;
+mod copying;
 mod node_set;
 mod numbers;
 mod order;
@@ -9,6 +10,7 @@ mod step;
 mod value;
 
 pub use config::{Config, Limits, ObjectDecl, ObjectList};
+pub use copying::push_copy;
 pub use node_set::{NodeSet, Nodes};
 pub use numbers::{NodeId, ObjId, SlotId, TxId, TxIds};
 pub use order::{Stamp, Stream};
