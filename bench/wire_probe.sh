@@ -13,7 +13,7 @@ for crate in zeus_base zeus_packet zeus_io zeus_wire; do
 done
 cat >"$folder/crates.txt" <<'END'
 zeus_base: smallvec
-zeus_packet: zeus_base smallvec circular_buffer
+zeus_packet: zeus_base circular_buffer
 zeus_io:
 zeus_wire: zeus_base zeus_packet thiserror
 wire_probe: zeus_base zeus_packet zeus_io zeus_wire

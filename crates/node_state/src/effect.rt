@@ -4,7 +4,7 @@ ghost use Rattle.node_state.specs.Effect.{IsCleared};
 
 use std::alloc::Global;
 use std::marker::Model;
-use zeus_base::{NoMemory, Passed};
+use zeus_base::{NoMemory, Passed, push_copy};
 use zeus_packet::Letter;
 
 /// How many letters one call leaves at most.
@@ -72,7 +72,7 @@ impl Letters {
         ensures { self.new ≡ take 64 (self.old ++ letter ∷ []) }
     {
         if self.items.len() < ROOM {
-            self.items.push_reserved(letter);
+            push_copy(&mut self.items, &letter);
         }
     }
 }

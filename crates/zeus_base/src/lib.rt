@@ -2,6 +2,7 @@
 #![tactic(auto)]
 
 mod config;
+mod copying;
 mod list;
 mod node_set;
 mod numbers;
@@ -11,6 +12,7 @@ mod step;
 mod value;
 
 pub use config::{Config, Limits, ObjectDecl, ObjectList};
+pub use copying::push_copy;
 pub use list::List;
 pub use node_set::{NodeSet, Nodes};
 pub use numbers::{NodeId, ObjId, SlotId, TxId};

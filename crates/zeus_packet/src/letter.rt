@@ -40,7 +40,7 @@ pub enum Cause {
 }
 
 /// An entry of a stream, sent to a follower.
-#[derive(Debug, Drop)]
+#[derive(Clone, Copy, Debug)]
 pub struct RInv {
     pub stream: Stream,
     pub number: u32,
@@ -51,22 +51,16 @@ pub struct RInv {
 }
 
 impl RInv {
-    /// The same once more, without memory.
+    /// The same once more.
     pub fn duplicate(&self) -> RInv
         ensures { result ≡ self.now }
     {
-        RInv {
-            stream: self.stream,
-            number: self.number,
-            done: self.done,
-            followers: self.followers,
-            writes: self.writes.duplicate(),
-        }
+        *self
     }
 }
 
 /// What a letter says.
-#[derive(Debug, Drop)]
+#[derive(Clone, Copy, Debug)]
 pub enum Body {
     /// Store this entry.
     RInv(RInv),
@@ -89,26 +83,16 @@ pub enum Body {
 }
 
 impl Body {
-    /// The same once more, without memory.
+    /// The same once more.
     pub fn duplicate(&self) -> Body
         ensures { result ≡ self.now }
     {
-        match self {
-            Body::RInv(r) => Body::RInv(r.duplicate()),
-            Body::RAck(stream, number) => Body::RAck(*stream, *number),
-            Body::RVal(stream, done) => Body::RVal(*stream, *done),
-            Body::OReq(obj, want) => Body::OReq(*obj, *want),
-            Body::OInv(obj, p) => Body::OInv(*obj, *p),
-            Body::OAck(obj, p, content) => Body::OAck(*obj, *p, *content),
-            Body::ONack(obj, stamp, cause) => Body::ONack(*obj, *stamp, *cause),
-            Body::OVal(obj, stamp, place) => Body::OVal(*obj, *stamp, *place),
-            Body::Recovered => Body::Recovered,
-        }
+        *self
     }
 }
 
 /// A letter of an epoch from one node to another.
-#[derive(Debug, Drop)]
+#[derive(Clone, Copy, Debug)]
 pub struct Letter {
     pub from: NodeId,
     pub to: NodeId,
@@ -117,21 +101,16 @@ pub struct Letter {
 }
 
 impl Letter {
-    /// The same once more, without memory.
+    /// The same once more.
     pub fn duplicate(&self) -> Letter
         ensures { result ≡ self.now }
     {
-        Letter {
-            from: self.from,
-            to: self.to,
-            epoch: self.epoch,
-            body: self.body.duplicate(),
-        }
+        *self
     }
 }
 
 /// A letter with its number on the link from its sender to its receiver.
-#[derive(Debug, Drop)]
+#[derive(Clone, Copy, Debug)]
 pub struct Packet {
     pub number: u32,
     pub letter: Letter,

@@ -1,7 +1,6 @@
 //! Writes of objects, and the content of a copy.
 ghost use Rattle.std.specs.Prelude.{◌≡◌, ◌<◌, ◌≤◌, ◌↔◌, ◌∷◌, ◌++◌, [], IsTrue, length, option_copied, slice_get};
 
-use smallvec::SmallVec;
 use std::alloc::Global;
 use std::marker::Model;
 use zeus_base::{ObjId, Value};
@@ -21,30 +20,44 @@ pub struct Content {
     pub value: Value,
 }
 
+// What stands in a place without a write.
+const NO_WRITE: Write = Write {
+    obj: ObjId(0),
+    ver: 0,
+    value: Value::Num(0),
+};
+
 /// The writes of a transaction, each object once; at most 8, kept inline, seen as a list.
-#[derive(Debug, Drop)]
+#[derive(Clone, Copy, Debug)]
 pub struct Writes {
-    items: SmallVec<Write, 8>,
+    len: u8,
+    items: [Write; 8],
 }
 
 impl Model for Writes {
-    ghost use Rattle.std.specs.Prelude.{List, length, ◌≡◌, ◌≤◌};
+    ghost use Rattle.std.specs.Prelude.{List, take};
+    ghost use Rattle.zeus_packet.specs.Kept.{IsKept, kept_writes, kept_writes-take};
     ghost use Rattle.zeus_packet.specs.declared.write.Write.{Write};
 
     ghost Value = { List Write };
 
-    ghost view = { λ w. w.items.items };
+    ghost view = { λ w. take w.len w.items };
 
-    ghost invariant = { λ w. (w.items.capacity ≡ 8) × (length w.items.items ≤ 8) };
+    ghost invariant = { IsKept };
+
+    ghost inverse = { kept_writes };
+
+    ghost inverse_ok = { kept_writes-take };
 }
 
 impl Writes {
     /// No write.
-    pub fn new(alloc: Global) -> Writes
+    pub fn new(_alloc: Global) -> Writes
         ensures { result ≡ [] }
     {
         Writes {
-            items: SmallVec::new(alloc),
+            len: 0,
+            items: [NO_WRITE; 8],
         }
     }
 
@@ -53,15 +66,15 @@ impl Writes {
         requires { length self.old < 8 }
         ensures { self.new ≡ self.old ++ write ∷ [] }
     {
-        let Write { obj, ver, value } = write;
-        self.items.push_reserved(Write { obj, ver, value });
+        self.items[self.len as usize] = write;
+        self.len += 1;
     }
 
     /// The writes as a slice.
     pub fn as_slice(&self) -> &[Write]
         ensures { result.now ≡ self.now }
     {
-        self.items.as_slice()
+        &self.items[..self.len as usize]
     }
 
     /// How many there are.
@@ -69,14 +82,14 @@ impl Writes {
         ensures value { result ≡ length self.now }
         ensures few { result ≤ 8 }
     {
-        self.items.len()
+        self.len as usize
     }
 
     /// Whether there is none.
     pub fn is_empty(&self) -> bool
         ensures { IsTrue result ↔ (self.now ≡ []) }
     {
-        self.items.is_empty()
+        self.as_slice().is_empty()
     }
 
     /// The write at this place from 0, where there is one.
@@ -86,12 +99,10 @@ impl Writes {
         self.as_slice().get(place)
     }
 
-    /// The same writes once more, without memory.
+    /// The same writes once more.
     pub fn duplicate(&self) -> Writes
         ensures { result ≡ self.now }
     {
-        Writes {
-            items: SmallVec::from_slice(*self.items.allocator(), self.items.as_slice()).unwrap(),
-        }
+        *self
     }
 }

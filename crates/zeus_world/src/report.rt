@@ -5,7 +5,7 @@ ghost use Rattle.zeus_world.specs.Reports.{HasSpace, SaysSame};
 use history_book::TxIds;
 use std::alloc::Global;
 use std::marker::Model;
-use zeus_base::NoMemory;
+use zeus_base::{NoMemory, push_copy};
 use zeus_model::Answer;
 use zeus_packet::Packet;
 
@@ -75,7 +75,7 @@ impl Packets {
         ensures packets { self.new.packets ≡ self.old.packets ++ packet ∷ [] }
         ensures room { self.new.room + 1 ≡ self.old.room }
     {
-        self.items.push_reserved(packet);
+        push_copy(&mut self.items, &packet);
     }
 }
 
