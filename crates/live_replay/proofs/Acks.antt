@@ -4,6 +4,7 @@ use Rattle.std.proofs.Common.{refl, inl, inr, subst}
 use Rattle.std.proofs.lemmas.Bool.{cases_eq}
 use Rattle.zeus_base.specs.declared.order.Stream.{Stream}
 use Rattle.zeus_base.specs.declared.step.Passed.{Passed}
+use Rattle.zeus_base.specs.TableLaws.{nth-put_same}
 use Rattle.zeus_txn.specs.declared.reply.Reply.{Reply}
 use Rattle.zeus_txn.specs.declared.tx.TxDecl.{TxDecl}
 use Rattle.zeus_model.specs.declared.answer.Begin.{Begin as BeginOutcome}
@@ -16,7 +17,8 @@ use Rattle.zeus_model.specs.Tables.{nth, put, numbers_from}
 use Rattle.zeus_model.specs.Book.{Book, BookChange, TxRecord, no_record, record_of, unchanged, changed, change_then, tx_of, point_once, ack_once, pass_tx, pass_numbers, book_passes, book_tried, book_point, book_ack, book_reply, book_read, book_refuse, in_stream_order}
 use Rattle.zeus_model.specs.World.{book_begun}
 use Rattle.zeus_model.specs.Local.{try_slot}
-use Rattle.machine_moves.proofs.Lists.{In-nothing, In-append, nth-put_same, nth-put_other}
+use Rattle.zeus_model.specs.InLaws.{In-append}
+use Rattle.machine_moves.proofs.Lists.{In-nothing, nth-put_other}
 use Rattle.live_model.specs.Cell.{Deed, Began, Tried as TriedDeed, Took, Ticked, Halted, Saw, notes_down}
 
 abbrev pub IsAcked : Book → ℕ → Type 0

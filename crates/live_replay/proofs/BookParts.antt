@@ -4,6 +4,7 @@ use Rattle.std.proofs.Common.{refl, sym, ap, ◌∙◌, inl, inr}
 use Rattle.std.proofs.lemmas.Bool.{cases_eq}
 use Rattle.zeus_base.specs.declared.order.Stream.{Stream}
 use Rattle.zeus_base.specs.declared.step.Passed.{Passed}
+use Rattle.zeus_base.specs.TableLaws.{nth-put_same}
 use Rattle.zeus_txn.specs.declared.reply.Reply.{Reply}
 use Rattle.zeus_txn.specs.declared.tx.TxDecl.{TxDecl}
 use Rattle.zeus_model.specs.declared.answer.Begin.{Begin as BeginOutcome}
@@ -16,7 +17,7 @@ use Rattle.zeus_model.specs.Tables.{nth, put, numbers_from}
 use Rattle.zeus_model.specs.Local.{try_slot}
 use Rattle.zeus_model.specs.Book.{Book, TxRecord, no_record, record_of, unchanged, changed, tx_of, point_once, ack_once, pass_tx, pass_numbers, book_passes, book_tried, book_point, book_reply, book_read, book_refuse, in_stream_order}
 use Rattle.zeus_model.specs.World.{book_begun}
-use Rattle.machine_moves.proofs.Lists.{In-nothing, nth-put_same, nth-put_other}
+use Rattle.machine_moves.proofs.Lists.{In-nothing, nth-put_other}
 use Rattle.live_model.specs.Items.{Job, Note, Refused}
 use Rattle.live_model.specs.Cell.{Deed, Began, Tried as TriedDeed, Took, Ticked, Halted, Saw, does, notes_down}
 use Rattle.live_model.specs.Ends.{refused_by, refused_at}

@@ -6,7 +6,7 @@ use Rattle.std.proofs.lemmas.Bool.{and_parts, cases_Bool, ltb-true, ltb-false}
 use Rattle.std.proofs.lemmas.List.Elements.{All-append, All-tail, All-head}
 use Rattle.std.proofs.lemmas.List.{length-replicate}
 use Rattle.zeus_base.specs.Limits.{KeepsLimits, limits_of}
-use Rattle.zeus_base.specs.TableLaws.{length-put, nth-put_same, nth-put_other, nth-past, nth-replicate, nth-append_old, nth-append_new}
+use Rattle.zeus_base.specs.TableLaws.{length-put, nth-put_same, nth-put_other, nth-replicate}
 use Rattle.zeus_base.specs.declared.config.Config.{Config}
 use Rattle.zeus_base.specs.declared.config.Limits.{Limits}
 use Rattle.zeus_base.specs.declared.step.Step.{Step}

@@ -10,7 +10,7 @@ use Rattle.zeus_txn.specs.declared.reply.Reply.{Reply}
 use Rattle.zeus_model.specs.In.{In, here, there}
 use Rattle.zeus_model.specs.Tables.{nth, numbers_from}
 use Rattle.zeus_model.specs.Book.{Book, BookChange, EntryId, Point, TxRecord, no_record, record_of, reply_or, book_point, book_ack, point_once, ack_once, is_entry, tx_from, tx_of, pass_tx, pass_numbers, book_passes}
-use Rattle.machine_moves.proofs.Lists.{In-append}
+use Rattle.zeus_model.specs.InLaws.{In-append}
 use Rattle.invariants.proofs.ObjectSeen.{same_or_not}
 use Rattle.soundness.specs.Telling.{how_often, ids_of}
 use Rattle.soundness.proofs.Written.{Writes, leaves, fills, Writes-some}
