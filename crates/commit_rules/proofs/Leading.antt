@@ -1,10 +1,9 @@
 -- What of an act is done, and what of it is left.
-use Rattle.std.specs.Prelude.{ℕ, suc, ◌≡◌, ◌<◌, ◌≤◌, ◌+◌, ◌-◌, List, [], ◌∷◌, ◌++◌, length, take, refl}
-use Rattle.std.proofs.Common.{sym, ap, ◌∙◌, append-nil, append_assoc, add-one, arith, length-append}
+use Rattle.std.specs.Prelude.{ℕ, ◌≡◌, ◌≤◌, ◌+◌, ◌-◌, List, [], ◌∷◌, ◌++◌, length, take, refl}
+use Rattle.std.proofs.Common.{sym, ap, ◌∙◌, append-nil, append_assoc, arith, length-append}
 use Rattle.std.proofs.lemmas.List.{take_all}
 use Rattle.zeus_model.specs.Act.{Act, and_then, in_turn, still}
 use Rattle.zeus_model.specs.State.{Node}
-use Rattle.zeus_model.specs.Tables.{below, numbers_from}
 use Rattle.node_state.specs.declared.effect.Effect.{Effect}
 use Rattle.node_state.specs.Done.{IsActed}
 use Rattle.node_state.specs.EffectLaws.{adds-append, adds_room, cut-append}
@@ -88,22 +87,3 @@ in_turn-append f n [] js = refl
 in_turn-append f n (i ∷ is) js =
     ap (and_then (f n i)) (λ d m. in_turn-append f m is js d)
     ∙ sym (and_then-assoc (f n i) (λ m. in_turn f m is) (λ m. in_turn f m js))
-
--- ---- the numbers that are left
-
-pub numbers-next : (i n : ℕ) → i < n → numbers_from i (n - i) ≡ i ∷ numbers_from (i + 1) (n - (i + 1))
-unfolding numbers_from
-numbers-next i n h =
-    let one : n - i ≡ suc (n - (i + 1)) = omega arith in
-    rw (one, add-one) refl
-
-pub numbers-none : (i n : ℕ) → n ≤ i → numbers_from i (n - i) ≡ []
-unfolding numbers_from
-numbers-none i n h =
-    let none : n - i ≡ 0 = omega arith in
-    rw none refl
-
-pub numbers-all : (n : ℕ) → numbers_from 0 (n - 0) ≡ below n
-numbers-all n =
-    let all : n - 0 ≡ n = omega arith in
-    rw all refl

@@ -4,6 +4,7 @@ use Rattle.std.proofs.Common.{ap, ◌∙◌, arith}
 use Rattle.zeus_base.specs.Nodes.{has, with_node, without}
 use Rattle.zeus_base.specs.declared.config.Limits.{Limits}
 use Rattle.zeus_base.specs.declared.order.Stream.{Stream}
+use Rattle.zeus_base.specs.LoopLaws.{numbers-all, numbers-next, numbers-none}
 use Rattle.zeus_packet.specs.Fits.{stream_fits}
 use Rattle.zeus_packet.specs.declared.letter.Body.{Body}
 use Rattle.zeus_packet.specs.declared.letter.Body.TheVariants.{Recovered}
@@ -19,7 +20,7 @@ use Rattle.node_state.specs.declared.effect.Effect.{Effect}
 use Rattle.node_state.specs.Done.{Adds, IsActed}
 use Rattle.node_state.specs.EffectLaws.{adds_nothing}
 use Rattle.commit_rules.proofs.Answering.{not_false, not_true}
-use Rattle.commit_rules.proofs.Leading.{Leads, acted-few, acted_then, in_turn-append, in_turn-next, in_turn-none, leads-end, leads-same, leads-start, leads-step, numbers-all, numbers-next, numbers-none}
+use Rattle.commit_rules.proofs.Leading.{Leads, acted-few, acted_then, in_turn-append, in_turn-next, in_turn-none, leads-end, leads-same, leads-start, leads-step}
 
 -- ---- at most one pass
 

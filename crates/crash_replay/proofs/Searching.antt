@@ -1,30 +1,12 @@
 -- The search over the streams of the nodes that are no members.
-use Rattle.std.proofs.Common.{ℕ, suc, ◌≡◌, ◌∙◌, ◌<◌, ◌≤◌, ◌+◌, ◌-◌, Bool, true, false, not, ◌&&◌, ◌==◌, List, [], ◌∷◌, ◌++◌, Option, Some, None, is_none, is_some, length, refl, sym, ap, add-one, arith}
+use Rattle.std.proofs.Common.{ℕ, ◌≡◌, ◌∙◌, ◌<◌, ◌≤◌, ◌+◌, ◌-◌, Bool, true, false, not, ◌&&◌, ◌==◌, List, [], ◌∷◌, ◌++◌, Option, Some, None, is_none, is_some, length, refl, sym, ap, arith}
 use Rattle.zeus_base.specs.Nodes.{has}
 use Rattle.zeus_base.specs.declared.order.Stream.{Stream}
+use Rattle.zeus_base.specs.LoopLaws.{numbers-next, numbers-none, numbers-all}
 use Rattle.zeus_model.specs.Commit.{none_stored, outside, streams_of, streams_outside}
 use Rattle.zeus_model.specs.State.{Node, StreamLog}
 use Rattle.zeus_model.specs.Tables.{below, first_of, numbers_from, or_else, where_true}
 use Rattle.crash_replay.specs.Replay.{IsNodeWith, is_after, is_stored, next_in, next_stored}
-
--- ---- the numbers that are left
-
-pub numbers-next : (i n : ℕ) → i < n → numbers_from i (n - i) ≡ i ∷ numbers_from (i + 1) (n - (i + 1))
-unfolding numbers_from
-numbers-next i n h =
-    let one : n - i ≡ suc (n - (i + 1)) = omega arith in
-    rw (one, add-one) refl
-
-pub numbers-none : (i n : ℕ) → n ≤ i → numbers_from i (n - i) ≡ []
-unfolding numbers_from
-numbers-none i n h =
-    let none : n - i ≡ 0 = omega arith in
-    rw none refl
-
-pub numbers-all : (n : ℕ) → numbers_from 0 (n - 0) ≡ below n
-numbers-all n =
-    let all : n - 0 ≡ n = omega arith in
-    rw all refl
 
 -- ---- the first of some streams
 

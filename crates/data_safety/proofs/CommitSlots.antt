@@ -3,7 +3,7 @@ use Rattle.std.specs.Prelude.{ℕ, suc, ◌≡◌, ◌≢◌, ◌+◌, ◌-◌, 
 use Rattle.std.proofs.Common.{arith, sym, ap, subst, ◌∙◌, inl, inr, length-append}
 use Rattle.std.proofs.lemmas.Bool.{cases_lt}
 use Rattle.zeus_base.specs.Nodes.{without}
-use Rattle.zeus_base.specs.TableLaws.{nth-append_old, nth-append_new, nth-put_same, nth-put_other}
+use Rattle.zeus_base.specs.TableLaws.{nth-append, nth-last, nth-put_same, nth-put_other}
 use Rattle.zeus_base.specs.declared.order.Stream.{Stream}
 use Rattle.zeus_txn.specs.Ops.{named, is_write}
 use Rattle.zeus_model.specs.Tables.{nth}
@@ -93,10 +93,10 @@ module _ (y z : RunState) (n s : ℕ) (c : Current) (h : CommitsTx y z n s c) wh
       let inside' : i < length (ps ++ p ∷ []) = rw same at inside in
       let size : length (ps ++ p ∷ []) ≡ length ps + 1 = length-append ps (p ∷ []) in
       elim (cases_lt i (length ps)) [
-        | inl old ↦ inl (old, ap (λ (l : List Pending). nth no_pending l i) same ∙ nth-append_old no_pending ps (p ∷ []) i old)
+        | inl old ↦ inl (old, ap (λ (l : List Pending). nth no_pending l i) same ∙ nth-append no_pending ps (p ∷ []) i old)
         | inr past ↦
             let at : i ≡ length ps = omega (arith, inside', size, past) in
-            inr (at, ap (λ (l : List Pending). nth no_pending l i) same ∙ ap (λ (j : ℕ). nth no_pending (ps ++ p ∷ []) j) at ∙ nth-append_new no_pending ps p)
+            inr (at, ap (λ (l : List Pending). nth no_pending l i) same ∙ ap (λ (j : ℕ). nth no_pending (ps ++ p ∷ []) j) at ∙ nth-last no_pending ps p)
       ]
 
   -- what is pending was pending, or is the new entry
@@ -132,7 +132,7 @@ module _ (y z : RunState) (n s : ℕ) (c : Current) (h : CommitsTx y z n s c) wh
   entry_here j above below =
       let ps : List Pending = (slot (y.system.node n) s).pending in
       ap (λ (l : Slot). nth no_pending l.pending (j - l.done)) commit-slot
-      ∙ nth-append_old no_pending ps (made (y.system.node n) n c ∷ []) (j - (slot (y.system.node n) s).done) (omega (arith, above, below, home-end y.system record { node = n; slot = s }))
+      ∙ nth-append no_pending ps (made (y.system.node n) n c ∷ []) (j - (slot (y.system.node n) s).done) (omega (arith, above, below, home-end y.system record { node = n; slot = s }))
 
   -- entries from before stay
   pub commit-entry_old : (t : Stream) (j : ℕ) → (slot (y.system.node t.node) t.slot).done ≤ j → j < end (stream_state y.system t) → pending_at z t j ≡ pending_at y t j
@@ -148,7 +148,7 @@ module _ (y z : RunState) (n s : ℕ) (c : Current) (h : CommitsTx y z n s c) wh
       let ps : List Pending = (slot (y.system.node n) s).pending in
       let place : end (stream_state y.system t) - (slot (y.system.node n) s).done ≡ length ps = omega (arith, home-end y.system t) in
       ap (λ (l : Slot). nth no_pending l.pending (end (stream_state y.system t) - l.done)) commit-slot
-      ∙ ap (λ (j : ℕ). nth no_pending (ps ++ made (y.system.node n) n c ∷ []) j) place ∙ nth-append_new no_pending ps (made (y.system.node n) n c)
+      ∙ ap (λ (j : ℕ). nth no_pending (ps ++ made (y.system.node n) n c ∷ []) j) place ∙ nth-last no_pending ps (made (y.system.node n) n c)
 
   -- ---- the book
 

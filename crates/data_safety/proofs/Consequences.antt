@@ -6,6 +6,7 @@ use Rattle.std.proofs.lemmas.Bool.Decides.{nat_tests}
 use Rattle.std.proofs.lemmas.List.{length-map}
 use Rattle.zeus_base.specs.Nodes.{has, is_subset}
 use Rattle.zeus_base.specs.declared.order.Stream.{Stream}
+use Rattle.zeus_base.specs.TableLaws.{nth-past}
 use Rattle.zeus_packet.specs.Place.{source}
 use Rattle.zeus_packet.specs.declared.letter.State.TheVariants.{Valid}
 use Rattle.zeus_packet.specs.declared.place.Place.{Place}
@@ -23,7 +24,6 @@ use Rattle.zeus_model.specs.declared.state.Pending.{Pending}
 use Rattle.machine_moves.specs.SystemState.{SystemState, IsLive, IsNumbered}
 use Rattle.machine_moves.specs.Move.{own_kept}
 use Rattle.machine_moves.proofs.Causes.{or_else-none}
-use Rattle.machine_moves.proofs.Lists.{nth-past}
 use Rattle.machine_moves.proofs.Steady.{IsNumbered-steady}
 use Rattle.ownership_safety.proofs.Arbiters.{source-owner}
 use Rattle.replication_safety.specs.StreamState.{Has, IsAlive, end, entry, entry_of, kept_at, Entry}

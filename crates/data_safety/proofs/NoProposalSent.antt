@@ -3,7 +3,7 @@ use Rattle.std.specs.Prelude.{ℕ, ◌≡◌, ◌<◌, true, false, List, [], �
 use Rattle.std.proofs.Common.{refl, inl, inr}
 use Rattle.std.proofs.lemmas.Bool.{cases_lt}
 use Rattle.zeus_base.specs.Nodes.{has, with_node}
-use Rattle.zeus_base.specs.TableLaws.{nth-put_same, nth-put_other, length-put, nth-append_old}
+use Rattle.zeus_base.specs.TableLaws.{nth-put_same, nth-put_other, length-put, nth-append, nth-past}
 use Rattle.zeus_base.specs.declared.order.Stamp.{Stamp}
 use Rattle.zeus_base.specs.declared.order.Stream.{Stream}
 use Rattle.zeus_packet.specs.declared.place.Place.{Place}
@@ -17,7 +17,6 @@ use Rattle.zeus_model.specs.declared.state.Kept.{Kept}
 use Rattle.zeus_model.specs.declared.state.Pending.{Pending}
 use Rattle.machine_moves.specs.SystemState.{SystemState, Changes, NewView, nothing, view}
 use Rattle.machine_moves.specs.Move.{Move, IsTellable}
-use Rattle.machine_moves.proofs.Lists.{nth-past}
 use Rattle.ownership_safety.specs.Object.{Acknowledges, Validates}
 use Rattle.replication_safety.specs.StreamState.{entry_of}
 use Rattle.invariants.specs.Objects.{object}
@@ -163,7 +162,7 @@ first-stays : (y z : SystemState) (set : List ℕ) (n : ℕ) → z.views ≡ y.v
 unfolding has
 first-stays y z set n views h =
     elim (cases_lt 0 (length y.views)) [
-      | inl some ↦ rw (views, nth-append_old [] y.views (set ∷ []) 0 some) h
+      | inl some ↦ rw (views, nth-append [] y.views (set ∷ []) 0 some) h
       | inr none ↦
           let past : nth [] y.views 0 ≡ [] = nth-past [] y.views 0 none in
           let no : false ≡ true = rw past at h in

@@ -4,12 +4,13 @@ use Rattle.std.proofs.Common.{arith, refl, sym, ap, ◌∙◌, inl, inr, eq-eqb}
 use Rattle.std.proofs.lemmas.Bool.{cases_eq, ne_eqb}
 use Rattle.zeus_base.specs.declared.order.Stream.{Stream}
 use Rattle.zeus_base.specs.declared.step.Passed.{Passed}
+use Rattle.zeus_base.specs.TableLaws.{nth-put_same}
 use Rattle.zeus_packet.specs.declared.write.Write.{Write}
 use Rattle.zeus_model.specs.Tables.{nth, put}
 use Rattle.zeus_model.specs.declared.state.Copy.{Copy}
 use Rattle.zeus_model.specs.State.{Node, Slot, StreamLog, no_slot, no_log, slot, log}
 use Rattle.zeus_model.specs.Commit.{validated, each_write, writes_of, as_kept, pass_own, pass_kept}
-use Rattle.machine_moves.proofs.Lists.{nth-put_same, nth-put_other, put-put}
+use Rattle.machine_moves.proofs.Lists.{nth-put_other, put-put}
 use Rattle.machine_moves.proofs.Within.{slot-with_slot_other, log-with_log_other, stream_cases}
 use Rattle.machine_moves.proofs.Passing.{node_by, node_with_logs, pass_of, pass_kept_of}
 

@@ -9,7 +9,8 @@ use Rattle.zeus_model.specs.Tables.{below, numbers_from}
 use Rattle.zeus_model.specs.State.{Node, own_stream}
 use Rattle.zeus_model.specs.Act.{Act, joined, in_turn}
 use Rattle.zeus_model.specs.Commit.{advance_own, advance_kept, streams_of, streams_outside, outside}
-use Rattle.machine_moves.proofs.Lists.{In-append, In-nothing}
+use Rattle.zeus_model.specs.InLaws.{In-append}
+use Rattle.machine_moves.proofs.Lists.{In-nothing}
 use Rattle.machine_moves.proofs.Within.{Keeps-trans}
 use Rattle.machine_moves.proofs.Finish.{streams_outside-node}
 use Rattle.data_safety.proofs.OrderAdvance.{advanced, all_advanced}

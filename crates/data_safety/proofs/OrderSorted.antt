@@ -7,7 +7,7 @@ use Rattle.zeus_base.specs.declared.step.Passed.{Passed}
 use Rattle.zeus_model.specs.In.{In, here, there}
 use Rattle.zeus_model.specs.Book.{inserted, in_stream_order}
 use Rattle.zeus_model.specs.State.{Node}
-use Rattle.machine_moves.proofs.Lists.{In-append}
+use Rattle.zeus_model.specs.InLaws.{In-append}
 use Rattle.data_safety.proofs.OrderAdvance.{advanced, all_advanced, advanced-swap}
 
 -- the stream is none of those of the passes

@@ -12,8 +12,9 @@ use Rattle.zeus_model.specs.Tables.{front}
 use Rattle.zeus_model.specs.State.{Node, slot, log, own_stream}
 use Rattle.zeus_model.specs.Act.{Act, still, joined, letter}
 use Rattle.zeus_model.specs.Commit.{as_kept, passes, passes_at, passing, followers_of, told, pass_own, advance_own_by, advance_own, pass_kept, advance_kept_by, advance_kept}
+use Rattle.zeus_model.specs.InLaws.{In-append}
 use Rattle.machine_moves.specs.Move.{own_kept, IsTellable, own_passed, kept_passed}
-use Rattle.machine_moves.proofs.Lists.{In-append, In-nothing}
+use Rattle.machine_moves.proofs.Lists.{In-nothing}
 use Rattle.machine_moves.proofs.Within.{Keeps, Keeps-refl, Keeps-trans, Keeps-pass_own, Keeps-pass_kept, slot-with_slot_other, log-with_log_other, stream_cases}
 use Rattle.machine_moves.proofs.Passing.{to_each-each, front-length, length-take_most, pass_own-slot, pass_kept-log, without-other, without-member, meet-right}
 use Rattle.data_safety.proofs.OrderAdvance.{advanced, all_advanced, advanced-own, advanced-kept, two_streams}

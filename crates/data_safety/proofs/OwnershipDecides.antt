@@ -4,7 +4,7 @@ use Rattle.std.proofs.Common.{arith, refl, sym, ap, subst, ◌∙◌, inl, inr}
 use Rattle.std.proofs.lemmas.Bool.{cases_Bool, cases_lt, eq-eqb, ne_eqb, true≢false}
 use Rattle.std.proofs.lemmas.List.{length-append}
 use Rattle.zeus_base.specs.Nodes.{has}
-use Rattle.zeus_base.specs.TableLaws.{nth-put_same, nth-put_other, nth-append_new}
+use Rattle.zeus_base.specs.TableLaws.{nth-put_same, nth-put_other, nth-last}
 use Rattle.zeus_base.specs.declared.order.Stream.{Stream}
 use Rattle.zeus_packet.specs.Place.{new_place}
 use Rattle.zeus_packet.specs.declared.place.Place.{Place}
@@ -225,7 +225,7 @@ longer-place z u x p =
     ap (λ (v : ℕ). place_at (object z.system x) (longer u x p x) v) (longer-length u x p)
     ∙ ap (λ (c : List Proposal). place_at (object z.system x) c (suc (length (u.chain x)))) (longer-same u x p)
     ∙ chain_place-suc (object z.system x).declared (u.chain x ++ p ∷ []) (length (u.chain x))
-    ∙ ap new_place (nth-append_new no_proposal (u.chain x) p)
+    ∙ ap new_place (nth-last no_proposal (u.chain x) p)
 
 -- what is brought is a copy of the content, but for a leaver
 brought-some : (want : Want) (co : Content) → want ≢ Leave → is_some (brought want co) ≡ true

@@ -10,9 +10,9 @@ use Rattle.zeus_model.specs.Commit.{no_kept, no_pending, writes_of}
 use Rattle.zeus_model.specs.declared.state.Entry.{Entry}
 use Rattle.zeus_model.specs.declared.state.Gather.{Gather}
 use Rattle.zeus_model.specs.declared.state.Kept.{Kept}
+use Rattle.zeus_model.specs.InLaws.{In-append}
 use Rattle.machine_moves.specs.SystemState.{SystemState, IsLive, Changes, nothing}
 use Rattle.machine_moves.proofs.Steady.{IsNumbered-steady}
-use Rattle.ownership_safety.proofs.Basics.{In-append}
 use Rattle.replication_safety.specs.StreamState.{Has, end, kept_at, entry_of}
 use Rattle.invariants.specs.Streams.{stream_state}
 use Rattle.invariants.proofs.StreamFrames.{stream-home}

@@ -3,6 +3,7 @@ use Rattle.std.specs.Prelude.{ℕ, zero, suc, ◌≡◌, ◌≢◌, ◌==◌, �
 use Rattle.std.proofs.Common.{arith, refl, sym, ap, ◌∙◌, inl, inr, eq-eqb}
 use Rattle.std.proofs.lemmas.Bool.{ne_eqb}
 use Rattle.zeus_base.specs.declared.value.Value.{Value}
+use Rattle.zeus_base.specs.TableLaws.{nth-put_same}
 use Rattle.zeus_packet.specs.declared.write.Content.{Content}
 use Rattle.zeus_txn.specs.Ops.{is_write}
 use Rattle.zeus_txn.specs.Run.{run}
@@ -15,7 +16,7 @@ use Rattle.zeus_model.specs.Local.{with_current, hindrance, run_here}
 use Rattle.zeus_model.specs.Sound.{times}
 use Rattle.zeus_model.specs.declared.state.Current.{Current}
 use Rattle.machine_moves.specs.SystemState.{Changes, nothing}
-use Rattle.machine_moves.proofs.Lists.{nth-put_same, nth-put_other}
+use Rattle.machine_moves.proofs.Lists.{nth-put_other}
 use Rattle.invariants.proofs.ObjectSeen.{same_or_not}
 use Rattle.data_safety.specs.RunState.{RunState, Witness, tx_ops, overwritten}
 use Rattle.data_safety.specs.DataInvariant.{DataInvariant, IsBooked, left, raised}

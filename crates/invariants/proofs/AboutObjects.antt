@@ -12,10 +12,10 @@ use Rattle.zeus_packet.specs.declared.place.Proposal.{Proposal}
 use Rattle.zeus_packet.specs.declared.write.Content.{Content}
 use Rattle.zeus_model.specs.In.{In, here, there}
 use Rattle.zeus_model.specs.State.{entry, gather}
+use Rattle.zeus_model.specs.InLaws.{In-append_left, In-append_right, In-append}
 use Rattle.machine_moves.specs.SystemState.{SystemState, Sends}
 use Rattle.ownership_safety.specs.Object.{Invalidates, Acknowledges, Validates, Letter as Said}
 use Rattle.ownership_safety.specs.Moves as moves
-use Rattle.ownership_safety.proofs.Basics.{In-append_left, In-append_right, In-append}
 use Rattle.invariants.specs.Objects.{object, about, said_of, only_about}
 
 -- what a letter says of the object

@@ -9,10 +9,10 @@ use Rattle.zeus_packet.specs.declared.letter.Body.TheVariants.{RInv, RAck, RVal,
 use Rattle.zeus_packet.specs.declared.letter.Letter.{Letter}
 use Rattle.zeus_packet.specs.declared.letter.RInv.{RInv as Invalidation}
 use Rattle.zeus_model.specs.In.{In, here, there}
+use Rattle.zeus_model.specs.InLaws.{In-append_left, In-append_right, In-append}
 use Rattle.machine_moves.specs.SystemState.{SystemState, Sends}
 use Rattle.replication_safety.specs.StreamState.{Stores, Stored, Passes, Reports, Letter as Said}
 use Rattle.replication_safety.specs.Moves as moves
-use Rattle.ownership_safety.proofs.Basics.{In-append_left, In-append_right, In-append}
 use Rattle.invariants.specs.Streams.{stream_state, about, said_of, only_of}
 use Rattle.invariants.proofs.AboutObjects.{In-one}
 

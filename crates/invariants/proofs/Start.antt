@@ -10,6 +10,7 @@ use Rattle.zeus_base.specs.NodeLaws.{RisesFrom}
 use Rattle.zeus_base.specs.declared.config.Config.{Config}
 use Rattle.zeus_base.specs.declared.config.ObjectDecl.{ObjectDecl}
 use Rattle.zeus_base.specs.declared.order.Stream.{Stream}
+use Rattle.zeus_base.specs.TableLaws.{nth-past}
 use Rattle.zeus_packet.specs.declared.letter.Letter.{Letter}
 use Rattle.zeus_txn.specs.declared.tx.TxDecl.{TxDecl}
 use Rattle.zeus_model.specs.Commit.{as_kept}
@@ -19,7 +20,7 @@ use Rattle.zeus_model.specs.World.{no_node, start, start_node, start_entry, star
 use Rattle.zeus_model.specs.declared.state.Kept.{Kept}
 use Rattle.machine_moves.specs.SystemState.{system, all_of}
 use Rattle.machine_moves.specs.Move.{own_kept}
-use Rattle.machine_moves.proofs.Lists.{In-nothing, nth-past, nth-map_numbers, length-map_numbers, nth-replicate, has-numbers_from}
+use Rattle.machine_moves.proofs.Lists.{In-nothing, nth-map_numbers, length-map_numbers, nth-replicate, has-numbers_from}
 use Rattle.ownership_safety.specs.Kept.{IsStart}
 use Rattle.ownership_safety.specs.Object.{first_stamp}
 use Rattle.ownership_safety.specs.OwnershipInvariant.{IsPlaced}

@@ -14,7 +14,7 @@ use Rattle.zeus_model.specs.Act.{Did}
 use Rattle.zeus_model.specs.Local.{begin, try_slot}
 use Rattle.zeus_model.specs.Membership.{install, tick, stop}
 use Rattle.zeus_model.specs.Receive.{receive}
-use Rattle.zeus_model.specs.Book.{Book, BookChange, no_record, record_of, counted, unchanged, change_then, book_tried, book_passes, in_stream_order}
+use Rattle.zeus_model.specs.Book.{Book, BookChange, no_record, record_of, counted, book_only, change_then, book_tried, book_passes, in_stream_order}
 use Rattle.zeus_model.specs.World.{start_node, no_tx, first_64, book_begun}
 use Rattle.live_model.specs.Items.{Stamped, Job, Sight, travels}
 
@@ -96,8 +96,8 @@ notes_down me degree txs b n (Tried s) =
     change_then (book_tried b record { node = me; slot = s } degree (try_slot n s).answer)
     (λ c. book_passes c me (in_stream_order (try_slot n s).passed))
 notes_down me degree txs b n (Took sender p) = book_passes b me (in_stream_order (receive n p.letter).passed)
-notes_down me degree txs b n Ticked = unchanged b
-notes_down me degree txs b n Halted = unchanged b
+notes_down me degree txs b n Ticked = book_only b
+notes_down me degree txs b n Halted = book_only b
 notes_down me degree txs b n (Saw v) =
     book_passes b me (in_stream_order (install n record { epoch = v.epoch; members = v.members }).passed)
 

@@ -6,6 +6,7 @@ use Rattle.zeus_base.specs.declared.order.Stream.{Stream}
 use Rattle.zeus_base.specs.declared.step.Passed.{Passed}
 use Rattle.zeus_base.specs.declared.step.Step.{Step}
 use Rattle.zeus_base.specs.declared.step.Step.TheVariants.{Begin, Try, Deliver, Tick, Stop, View, Install}
+use Rattle.zeus_base.specs.TableLaws.{nth-put_same}
 use Rattle.zeus_packet.specs.declared.letter.Letter.{Letter}
 use Rattle.zeus_txn.specs.declared.ops.Op.{Op}
 use Rattle.zeus_txn.specs.declared.reply.Reply.{Reply}
@@ -18,9 +19,9 @@ use Rattle.zeus_model.specs.declared.answer.Tried.TheVariants.{NoCopy, Read, Com
 use Rattle.zeus_model.specs.State.{Node, slot}
 use Rattle.zeus_model.specs.Tables.{nth, put, numbers_from}
 use Rattle.zeus_model.specs.Local.{begin, begin_free, try_slot}
-use Rattle.zeus_model.specs.Book.{Book, TxRecord, no_record, record_of, unchanged, changed, tx_of, point_once, ack_once, pass_tx, pass_numbers, book_passes, book_tried, book_point, book_reply, book_read, book_refuse, in_stream_order}
+use Rattle.zeus_model.specs.Book.{Book, TxRecord, no_record, record_of, book_only, tx_of, point_once, ack_once, pass_tx, pass_numbers, book_passes, book_tried, book_point, book_reply, book_read, book_refuse, in_stream_order}
 use Rattle.zeus_model.specs.World.{World, Event, node, tx_decl, link, nth_letter, begin_refused, begin_or_not, step_begin, tried_at, deliver_or_not, received_at, ticked_at, stopped_at, view_refused, view_or_not, step_install, installed_at, refuse_step, book_begun, happens, stepped}
-use Rattle.machine_moves.proofs.Lists.{nth-put_same, nth-put_other}
+use Rattle.machine_moves.proofs.Lists.{nth-put_other}
 use Rattle.live_model.specs.Drive.{can_begin}
 use Rattle.live_replay.proofs.Driving.{both_parts, not_false, can_begin-free}
 
@@ -79,7 +80,7 @@ read-stays b id reply = λ k h.
     begun-put d.records id k (record (record_of d id) { acked = Some d.steps }) (λ g. g)
     (begun-put c.records id k (record (record_of c id) { point = Some c.steps }) (λ g. g) (begun-put b.records id k (record (record_of b id) { reply = Some reply }) (λ g. g) h))
 
-refuse-stays : (none : Bool) (b : Book) (id : ℕ) → Stays b (if none then changed (book_refuse b id) else unchanged b).book
+refuse-stays : (none : Bool) (b : Book) (id : ℕ) → Stays b (if none then book_only (book_refuse b id) else book_only b).book
 refuse-stays true b id = λ k h. begun-put b.records id k (record (record_of b id) { refused = true }) (λ g. g) h
 refuse-stays false b id = λ k h. h
 

@@ -4,6 +4,7 @@ use Rattle.std.proofs.Common.{refl, sym, ap, ◌∙◌, inl, inr}
 use Rattle.std.proofs.lemmas.Bool.{cases_eq}
 use Rattle.zeus_base.specs.declared.order.Stream.{Stream}
 use Rattle.zeus_base.specs.declared.step.Passed.{Passed}
+use Rattle.zeus_base.specs.TableLaws.{nth-put_same}
 use Rattle.zeus_txn.specs.declared.reply.Reply.{Reply}
 use Rattle.zeus_txn.specs.declared.tx.TxDecl.{TxDecl}
 use Rattle.zeus_model.specs.declared.answer.Begin.{Begin as BeginOutcome}
@@ -14,9 +15,9 @@ use Rattle.zeus_model.specs.In.{In, here, there}
 use Rattle.zeus_model.specs.State.{Node}
 use Rattle.zeus_model.specs.Tables.{nth, put, numbers_from}
 use Rattle.zeus_model.specs.Local.{try_slot}
-use Rattle.zeus_model.specs.Book.{Book, TxRecord, no_record, record_of, unchanged, changed, tx_of, point_once, ack_once, pass_tx, pass_numbers, book_passes, book_tried, book_point, book_reply, book_read, book_refuse, in_stream_order}
+use Rattle.zeus_model.specs.Book.{Book, TxRecord, no_record, record_of, book_only, tx_of, point_once, ack_once, pass_tx, pass_numbers, book_passes, book_tried, book_point, book_reply, book_read, book_refuse, in_stream_order}
 use Rattle.zeus_model.specs.World.{book_begun}
-use Rattle.machine_moves.proofs.Lists.{In-nothing, nth-put_same, nth-put_other}
+use Rattle.machine_moves.proofs.Lists.{In-nothing, nth-put_other}
 use Rattle.live_model.specs.Items.{Job, Note, Refused}
 use Rattle.live_model.specs.Cell.{Deed, Began, Tried as TriedDeed, Took, Ticked, Halted, Saw, does, notes_down}
 use Rattle.live_model.specs.Ends.{refused_by, refused_at}
@@ -88,7 +89,7 @@ begun-unpassed : IsUnpassed begun_of
 unfolding begun_of
 begun-unpassed = record { point = λ r o. refl; acked = λ r o. refl }
 
-refuse-begun : (none : Bool) (b : Book) (id : ℕ) → Keeps begun_of b (if none then changed (book_refuse b id) else unchanged b).book
+refuse-begun : (none : Bool) (b : Book) (id : ℕ) → Keeps begun_of b (if none then book_only (book_refuse b id) else book_only b).book
 unfolding begun_of
 refuse-begun true b id k = keeps-put begun_of b.records id _ k refl
 refuse-begun false b id k = refl
@@ -149,7 +150,7 @@ IsRefusedIn b k = (record_of b k).refused ≡ true
 abbrev pub refusal : ℕ → ℕ → Note
 refusal clock k = record { tx = k; clock = clock; end = Refused }
 
-refuse-kept : (none : Bool) (b : Book) (id k : ℕ) → IsRefusedIn b k → IsRefusedIn (if none then changed (book_refuse b id) else unchanged b).book k
+refuse-kept : (none : Bool) (b : Book) (id k : ℕ) → IsRefusedIn b k → IsRefusedIn (if none then book_only (book_refuse b id) else book_only b).book k
 refuse-kept true b id k h =
     elim (cases_eq k id) [
       | inl is ↦ rw (is, nth-put_same no_record b.records id (record (record_of b id) { refused = true })) refl
@@ -158,13 +159,13 @@ refuse-kept true b id k h =
 refuse-kept false b id k h = h
 
 refuse-made : (none : Bool) (b : Book) (id clock : ℕ) (n : Note) → In n (if none then refusal clock id ∷ [] else [])
-    → IsRefusedIn (if none then changed (book_refuse b id) else unchanged b).book n.tx
+    → IsRefusedIn (if none then book_only (book_refuse b id) else book_only b).book n.tx
 refuse-made true b id clock n (here _ _ e) =
     rw (ap (λ (m : Note). m.tx) e, nth-put_same no_record b.records id (record (record_of b id) { refused = true })) refl
 refuse-made true b id clock n (there _ _ is) = In-nothing n is
 refuse-made false b id clock n is = In-nothing n is
 
-refuse-back : (none : Bool) (b : Book) (id clock k : ℕ) → IsRefusedIn (if none then changed (book_refuse b id) else unchanged b).book k
+refuse-back : (none : Bool) (b : Book) (id clock k : ℕ) → IsRefusedIn (if none then book_only (book_refuse b id) else book_only b).book k
     → IsRefusedIn b k ⊎ In (refusal clock k) (if none then refusal clock id ∷ [] else [])
 refuse-back true b id clock k h =
     elim (cases_eq k id) [

@@ -11,7 +11,7 @@ use Rattle.zeus_model.specs.declared.answer.Begin.TheVariants.{Begun}
 use Rattle.zeus_model.specs.declared.answer.Tried.{Tried}
 use Rattle.zeus_model.specs.declared.answer.Tried.TheVariants.{NoCopy, Read, Committed}
 use Rattle.zeus_model.specs.Tables.{numbers_from}
-use Rattle.zeus_model.specs.Book.{Book, BookChange, EntryId, record_of, unchanged, changed, change_then, is_entry, tx_of, point_once, ack_once, pass_tx, pass_numbers, book_passes, book_tried, book_point, book_reply, book_read, book_refuse}
+use Rattle.zeus_model.specs.Book.{Book, BookChange, EntryId, record_of, book_only, change_then, is_entry, tx_of, point_once, ack_once, pass_tx, pass_numbers, book_passes, book_tried, book_point, book_reply, book_read, book_refuse}
 use Rattle.zeus_model.specs.World.{book_begun}
 use Rattle.live_model.specs.Cell.{declared}
 use Rattle.live_replay.proofs.Books.{Agree, both-change, world-change, cell-change, tx_from-same, tx_from-none, tx_from-found, is_entry-node}
@@ -63,7 +63,7 @@ ack_once-both None None txs me id b q a own same =
       acked = refl;
     }
 
-ack_once-foreign : (o : Option ℕ) (id : ℕ) (b : Book) → ack_once b id false o ≡ unchanged b
+ack_once-foreign : (o : Option ℕ) (id : ℕ) (b : Book) → ack_once b id false o ≡ book_only b
 unfolding ack_once
 ack_once-foreign (Some i) id b = refl
 ack_once-foreign None id b = refl
@@ -166,7 +166,7 @@ pass_numbers-both txs me s (k ∷ ks) b q a own =
     (pass_tx-both (tx_of b s k) txs me b q a (λ id is. tx_of-node txs me b q s k id a is ∙ own)))
     (λ c d agree. pass_numbers-both txs me s ks c d agree own)
 
-pass_tx-none : (own : Bool) (q : Book) → pass_tx q own None ≡ unchanged q
+pass_tx-none : (own : Bool) (q : Book) → pass_tx q own None ≡ book_only q
 unfolding pass_tx
 pass_tx-none own q = refl
 
@@ -253,7 +253,7 @@ read-both txs me id reply b q a own =
     }
 
 refuse-both : (degree : Option ℕ) (txs : List TxDecl) (me id : ℕ) (b q : Book) → Agrees txs me b q → (declared txs id).node ≡ me
-    → AgreeAfter txs me (if is_none degree then changed (book_refuse b id) else unchanged b) (if is_none degree then changed (book_refuse q id) else unchanged q)
+    → AgreeAfter txs me (if is_none degree then book_only (book_refuse b id) else book_only b) (if is_none degree then book_only (book_refuse q id) else book_only q)
 refuse-both None txs me id b q a own =
     record {
       books = both-change txs me b.records q.records id (λ r. record r { refused = true }) (λ r. record r { refused = true }) a own
@@ -285,7 +285,7 @@ read-other txs me id reply b q a other =
     world-change txs me (book_point c id).records q.records id _ pointed (λ is. absurd (other is)) (pointed.entries id)
 
 refuse-other : (degree : Option ℕ) (txs : List TxDecl) (me id : ℕ) (b q : Book) → Agrees txs me b q → (declared txs id).node ≢ me
-    → Agrees txs me (if is_none degree then changed (book_refuse b id) else unchanged b).book q
+    → Agrees txs me (if is_none degree then book_only (book_refuse b id) else book_only b).book q
 refuse-other None txs me id b q a other = world-change txs me b.records q.records id _ a (λ is. absurd (other is)) (a.entries id)
 refuse-other (Some d) txs me id b q a other = a
 

@@ -9,7 +9,7 @@ use Rattle.zeus_model.specs.In.{In, here, there}
 use Rattle.zeus_model.specs.Scripts.{FitTxs, FitsTx}
 use Rattle.zeus_model.specs.Tables.{nth}
 use Rattle.zeus_model.specs.World.{last_view, no_tx}
-use Rattle.machine_moves.proofs.Lists.{In-append_left, In-append_right}
+use Rattle.zeus_model.specs.InLaws.{In-append_left, In-append_right}
 use Rattle.live_model.specs.Items.{Stamped, Job, Note, Acked, Sight, travels}
 use Rattle.live_model.specs.Cell.{CellEvent, Core, Began, Took, Saw, stamp, declared, after, core_from, AreClocks, BeginsFresh, BeginFresh, DeedFits, DeedsFit, taken_from, takes, job_of, jobs, seen_in, sights_seen, sends, travelling, halts}
 use Rattle.live_model.specs.Ends.{ClientId, notes}

@@ -2,13 +2,13 @@
 use Rattle.std.specs.Prelude.{ℕ, zero, suc, ◌≡◌, ◌<◌, Bool, ◌||◌, List, [], ◌∷◌, length, Option, Some, None}
 use Rattle.std.proofs.Common.{arith, refl, ap, ◌∙◌, inl, inr}
 use Rattle.std.proofs.lemmas.Bool.{cases_lt}
+use Rattle.zeus_base.specs.TableLaws.{nth-past}
 use Rattle.zeus_txn.specs.declared.tx.TxDecl.{TxDecl}
 use Rattle.zeus_model.specs.Book.{record_of}
 use Rattle.zeus_model.specs.Readers.{is_acked, is_ended, waits_in_vain, is_closed, each_closed, all_closed}
 use Rattle.zeus_model.specs.State.{Node}
 use Rattle.zeus_model.specs.Tables.{below}
 use Rattle.zeus_model.specs.World.{World, node, tx_decl, no_tx, run, start}
-use Rattle.machine_moves.proofs.Lists.{nth-past}
 use Rattle.live_model.specs.Cell.{declared}
 use Rattle.live_model.specs.Cluster.{Plan, Cluster, Events}
 use Rattle.live_model.specs.Merge.{merged}

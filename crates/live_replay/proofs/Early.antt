@@ -4,6 +4,7 @@ use Rattle.std.proofs.Common.{arith, refl, sym, ap, ◌∙◌, inl, inr, subst, 
 use Rattle.std.proofs.lemmas.Bool.{cond_both}
 use Rattle.zeus_base.specs.Nodes.{has}
 use Rattle.zeus_base.specs.declared.config.Config.{Config}
+use Rattle.zeus_base.specs.TableLaws.{nth-append, nth-last}
 use Rattle.zeus_txn.specs.declared.tx.TxDecl.{TxDecl}
 use Rattle.zeus_model.specs.declared.answer.Answer.{Answer}
 use Rattle.zeus_model.specs.declared.answer.Answer.TheVariants.{Try}
@@ -12,7 +13,8 @@ use Rattle.zeus_model.specs.declared.answer.Tried.TheVariants.{NoCopy}
 use Rattle.zeus_model.specs.In.{In, here, there}
 use Rattle.zeus_model.specs.Tables.{nth, below}
 use Rattle.zeus_model.specs.World.{is_empty}
-use Rattle.machine_moves.proofs.Lists.{In-nothing, In-append, nth-append, nth-last}
+use Rattle.zeus_model.specs.InLaws.{In-append}
+use Rattle.machine_moves.proofs.Lists.{In-nothing}
 use Rattle.live_model.specs.Items.{Note, Acked, Refused, Stopped, Sight, travels}
 use Rattle.live_model.specs.Cell.{CellEvent, Core, Deed, Halted, after, core_from, does, notes_down, is_halt, halt_of, halts}
 use Rattle.live_model.specs.Ends.{ClientId, acked_at, refused_by, refused_at, ends_at, is_awaited, awaited, is_open_at, stopped_at, stops_at, notes_from}
@@ -224,7 +226,7 @@ sight_at-view m views e v is =
     let members : v.members ≡ e.members = ap (λ (x : Sight). x.members) h.0 in
     let more : length (views ++ e.members ∷ []) ≡ length views + 1 = length-append views (e.members ∷ []) in
     let place : v.epoch - 1 ≡ length views = omega arith in
-    (ap (λ (x : Sight). x.clock) h.0, rw some (record { first = omega arith; made = omega arith; is = rw (place, members) (nth-last [] views [] e.members) }))
+    (ap (λ (x : Sight). x.clock) h.0, rw some (record { first = omega arith; made = omega arith; is = rw (place, members) (nth-last [] views e.members) }))
 
 pub sights-late : (m bound : ℕ) (views : List (List ℕ)) (es : List ServiceEvent) (v : Sight) → NoneServedBefore bound es → In v (sights_from m views es) → bound ≤ v.clock
 unfolding sights_from NoneServedBefore

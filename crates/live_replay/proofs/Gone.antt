@@ -4,6 +4,7 @@ use Rattle.std.proofs.Common.{arith, refl, sym, ap, ◌∙◌, inl, inr, subst, 
 use Rattle.std.proofs.lemmas.Bool.{cases_eq, cases_lt, cond_both, ne_eqb}
 use Rattle.std.proofs.lemmas.Option.{IfSome_then}
 use Rattle.zeus_base.specs.declared.config.Config.{Config}
+use Rattle.zeus_base.specs.TableLaws.{nth-past}
 use Rattle.zeus_txn.specs.declared.tx.TxDecl.{TxDecl}
 use Rattle.zeus_model.specs.In.{In, here, there}
 use Rattle.zeus_model.specs.Book.{no_record, record_of}
@@ -11,7 +12,8 @@ use Rattle.zeus_model.specs.Readers.{is_closed}
 use Rattle.zeus_model.specs.Sound.{Sound}
 use Rattle.zeus_model.specs.Tables.{below}
 use Rattle.zeus_model.specs.World.{no_tx, run, start}
-use Rattle.machine_moves.proofs.Lists.{In-nothing, In-append, In-append_right, nth-past}
+use Rattle.zeus_model.specs.InLaws.{In-append_right, In-append}
+use Rattle.machine_moves.proofs.Lists.{In-nothing}
 use Rattle.invariants.proofs.Start.{nth-none}
 use Rattle.live_model.specs.Items.{Job, Note, Acked, Stopped}
 use Rattle.live_model.specs.Cell.{CellEvent, Core, Began, Halted, Kill, declared, does, notes_down, after, core_from, core, start_core, HaltsOnly, IsEmpty, is_halt, job_of, jobs}

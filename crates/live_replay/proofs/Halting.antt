@@ -6,6 +6,7 @@ use Rattle.std.proofs.lemmas.List.Elements.{All-head, All-tail}
 use Rattle.zeus_base.specs.declared.config.Config.{Config}
 use Rattle.zeus_base.specs.declared.step.Step.{Step}
 use Rattle.zeus_base.specs.declared.step.Step.TheVariants.{Begin, Try, Deliver, Tick, Stop, View, Install}
+use Rattle.zeus_base.specs.TableLaws.{nth-put_same}
 use Rattle.zeus_txn.specs.declared.tx.TxDecl.{TxDecl}
 use Rattle.zeus_model.specs.declared.answer.Install.{Install as Installing}
 use Rattle.zeus_model.specs.declared.answer.Install.TheVariants.{Installed, Stopped as InstallStopped, Old}
@@ -21,19 +22,18 @@ use Rattle.machine_moves.specs.Fits.{StepFits}
 use Rattle.machine_moves.specs.Move.{Move, installs}
 use Rattle.machine_moves.specs.SystemState.{SystemState, system, view, IsLive, nothing}
 use Rattle.machine_moves.proofs.Finish.{finish-reached}
-use Rattle.machine_moves.proofs.Lists.{In-nothing, nth-put_same, nth-put_other}
+use Rattle.machine_moves.proofs.Lists.{In-nothing, nth-put_other}
 use Rattle.machine_moves.proofs.Reach.{Became-changed, Changes-became, changed, Reaches, IsReady}
 use Rattle.machine_moves.proofs.Steady.{IsSteady, move_keep}
 use Rattle.machine_moves.proofs.Steps.{IsStep, IsUsual, step_is_moves, viewed}
 use Rattle.data_safety.specs.RunState.{run_state}
 use Rattle.data_safety.proofs.StepRuns.{moves_txs}
 use Rattle.data_safety.proofs.StepMoves.{step_is_run_moves}
-use Rattle.soundness.proofs.Runs.{IsReached}
+use Rattle.soundness.proofs.Runs.{IsReached, step-reached}
 use Rattle.live_model.specs.Cell.{CellEvent, Deed, Began, Tried, Took, Ticked, Halted, Saw, step_of}
 use Rattle.live_model.specs.Merge.{Turn, cell_turn, service_turn, entry_of, turn_step}
 use Rattle.live_replay.specs.Parts.{part, of_cell, cell_part}
 use Rattle.live_replay.proofs.LiveRuns.{quiet-begin, quiet-try, quiet-deliver, quiet-tick}
-use Rattle.live_replay.proofs.Reached.{step-reached}
 
 -- ---- an install stops no node
 

@@ -8,6 +8,7 @@ use Rattle.zeus_base.specs.NodeLaws.{IsRising, IsBelow}
 use Rattle.zeus_base.specs.declared.config.Config.{Config}
 use Rattle.zeus_base.specs.declared.step.Step.{Step}
 use Rattle.zeus_base.specs.declared.step.Step.TheVariants.{Begin, Try, Deliver, Tick, Stop, View, Install}
+use Rattle.zeus_base.specs.TableLaws.{nth-put_same}
 use Rattle.zeus_packet.specs.declared.letter.Letter.{Letter}
 use Rattle.zeus_txn.specs.declared.tx.TxDecl.{TxDecl}
 use Rattle.zeus_model.specs.declared.answer.Answer.{Answer}
@@ -21,19 +22,18 @@ use Rattle.zeus_model.specs.Membership.{tick}
 use Rattle.zeus_model.specs.World.{World, Event, no_node, node, tx_decl, link, last_view, begin_refused, begin_or_not, step_begin, tried_at, nth_letter, deliver_or_not, received_at, ticked_at, stopped_at, view_refused, view_or_not, step_install, installed_at, refuse_step, happens, stepped, run, start, start_node}
 use Rattle.machine_moves.specs.Fits.{StepFits}
 use Rattle.machine_moves.specs.SystemState.{system}
-use Rattle.machine_moves.proofs.Lists.{nth-put_same, nth-put_other}
+use Rattle.machine_moves.proofs.Lists.{nth-put_other}
 use Rattle.machine_moves.proofs.Links.{In-from_link, nth_letter-In, HasEnds}
 use Rattle.machine_moves.proofs.Receiving.{receive-answered}
 use Rattle.machine_moves.proofs.Steps.{IsUsual}
 use Rattle.machine_moves.proofs.Ticking.{tick-answered}
 use Rattle.machine_moves.proofs.Trying.{begin-answered, try_slot-answered}
-use Rattle.soundness.proofs.Runs.{IsReached}
+use Rattle.soundness.proofs.Runs.{IsReached, step-reached}
 use Rattle.live_model.specs.Cell.{Kill}
 use Rattle.live_model.specs.Cluster.{Plan}
 use Rattle.live_model.specs.Drive.{is_due, counts_as, count_of}
 use Rattle.live_replay.specs.LiveRun.{NoneMissed, is_stop, needs_stop, has_stop, StopsAtKill, IsLiveRun}
 use Rattle.live_replay.specs.Replayed.{IsMissed}
-use Rattle.live_replay.proofs.Reached.{step-reached}
 use Rattle.live_replay.proofs.Serving.{start-mirrors, start-node, last_view-more}
 
 -- ---- one more step

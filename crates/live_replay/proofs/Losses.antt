@@ -7,6 +7,7 @@ use Rattle.zeus_base.specs.Limits.{KeepsLimits}
 use Rattle.zeus_base.specs.declared.config.Config.{Config}
 use Rattle.zeus_base.specs.declared.order.Stream.{Stream}
 use Rattle.zeus_base.specs.declared.step.Step.{Step}
+use Rattle.zeus_base.specs.TableLaws.{nth-put_same}
 use Rattle.zeus_txn.specs.declared.reply.Reply.{Reply}
 use Rattle.zeus_txn.specs.declared.tx.TxDecl.{TxDecl}
 use Rattle.zeus_model.specs.Book.{Book, TxRecord, no_record, record_of, tx_of, point_once, ack_once, pass_tx, book_point, book_reply, book_read, is_entry}
@@ -14,7 +15,7 @@ use Rattle.zeus_model.specs.Scripts.{FitTxs}
 use Rattle.zeus_model.specs.Tables.{nth, put}
 use Rattle.zeus_model.specs.World.{World, stepped, run, start}
 use Rattle.machine_moves.specs.Fits.{StepFits}
-use Rattle.machine_moves.proofs.Lists.{nth-put_same, nth-put_other}
+use Rattle.machine_moves.proofs.Lists.{nth-put_other}
 use Rattle.machine_moves.proofs.Steps.{IsStep, step_is_moves}
 use Rattle.machine_moves.proofs.Start.{start-config}
 use Rattle.invariants.proofs.Start.{nth-none}
@@ -25,9 +26,8 @@ use Rattle.data_safety.proofs.OwnershipPlain.{HasDataInvariant}
 use Rattle.data_safety.proofs.StepRuns.{moves_txs, start-txs}
 use Rattle.data_safety.proofs.StepMoves.{step_is_run_moves}
 use Rattle.data_safety.proofs.RunKeeps.{move-invariant}
-use Rattle.soundness.proofs.Runs.{IsReached, start-reached}
+use Rattle.soundness.proofs.Runs.{IsReached, start-reached, step-reached}
 use Rattle.live_replay.proofs.Books.{tx_from-found, is_entry-node}
-use Rattle.live_replay.proofs.Reached.{step-reached}
 
 -- what is refused has no entry, and is not acknowledged
 abbrev IsApart : TxRecord → Type 0

@@ -5,6 +5,7 @@ use Rattle.std.proofs.lemmas.Bool.{cases_eq, cases_lt, lt-ltb, ltb-true, ne_eqb}
 use Rattle.zeus_base.specs.declared.config.Config.{Config}
 use Rattle.zeus_base.specs.declared.step.Step.{Step}
 use Rattle.zeus_base.specs.declared.step.Step.TheVariants.{Stop}
+use Rattle.zeus_base.specs.TableLaws.{nth-past}
 use Rattle.zeus_txn.specs.declared.tx.TxDecl.{TxDecl}
 use Rattle.zeus_model.specs.In.{In, here, there}
 use Rattle.zeus_model.specs.Scripts.{FitTxs}
@@ -12,11 +13,12 @@ use Rattle.zeus_model.specs.Book.{no_record, record_of}
 use Rattle.zeus_model.specs.State.{Node}
 use Rattle.zeus_model.specs.Tables.{below, numbers_from}
 use Rattle.zeus_model.specs.World.{node, no_tx, run, start, start_node}
+use Rattle.zeus_model.specs.InLaws.{In-append_left, In-append_right}
 use Rattle.invariants.proofs.Start.{nth-none}
 use Rattle.machine_moves.proofs.Start.{start-config}
 use Rattle.data_safety.proofs.StepRuns.{start-txs}
 use Rattle.soundness.proofs.Runs.{start-reached}
-use Rattle.machine_moves.proofs.Lists.{In-nothing, In-append_left, In-append_right, nth-past}
+use Rattle.machine_moves.proofs.Lists.{In-nothing}
 use Rattle.live_model.specs.Items.{Note, Acked, Refused, Stopped, travels}
 use Rattle.live_model.specs.Cell.{CellEvent, Core, Deed, Halted, Kill, declared, does, notes_down, after, core_from, core, start_core, AreClocks, HaltsOnly, is_halt}
 use Rattle.live_model.specs.Ends.{ClientId, acked_at, refused_at, ends_at, awaited, is_awaited, is_of, is_open_at, some_waits, stopped_at, stops_at, notes_from, notes, waits_from, waits_behind}

@@ -6,7 +6,8 @@ use Rattle.zeus_base.specs.declared.step.Step.{Step}
 use Rattle.zeus_txn.specs.declared.tx.TxDecl.{TxDecl}
 use Rattle.zeus_model.specs.In.{In}
 use Rattle.zeus_model.specs.World.{World, stepped, run, start}
-use Rattle.machine_moves.proofs.Lists.{In-nothing, In-append, In-append_left, In-append_right}
+use Rattle.zeus_model.specs.InLaws.{In-append_left, In-append_right, In-append}
+use Rattle.machine_moves.proofs.Lists.{In-nothing}
 use Rattle.live_model.specs.Items.{Sight, travels}
 use Rattle.live_model.specs.Cell.{CellEvent, Core, Deed, Began, Tried, Took, Ticked, Halted, Saw, Kill, step_of, stamp, is_halt, is_killed, HaltsOnly, BeginsFresh, halts, halt_of}
 use Rattle.live_model.specs.Service.{sights, HaltsFit, AreServiceClocks, ServiceEvent, sights_from, start_views}

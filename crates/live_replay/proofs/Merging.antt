@@ -4,8 +4,9 @@ use Rattle.std.proofs.Common.{arith, refl, sym, ap, ◌∙◌, inl, inr, append_
 use Rattle.std.proofs.lemmas.List.{length-map}
 use Rattle.std.proofs.lemmas.Bool.{cond_both, ltb-true, ltb-false}
 use Rattle.zeus_model.specs.In.{In, here, there}
+use Rattle.zeus_model.specs.InLaws.{In-append_left, In-append_right, In-append}
 use Rattle.machine_moves.specs.SystemState.{all_of}
-use Rattle.machine_moves.proofs.Lists.{In-nothing, In-append, In-append_left, In-append_right}
+use Rattle.machine_moves.proofs.Lists.{In-nothing}
 use Rattle.live_replay.specs.Parts.{part}
 use Rattle.live_replay.specs.Replayed.{Rises}
 use Rattle.live_model.specs.Merge.{Pick, behind_empty, earlier, pick, first_in, rest_in, merge_of, merge, count_all}

@@ -4,13 +4,14 @@ use Rattle.std.proofs.Common.{refl, sym, ap, ◌∙◌, inl, inr, subst, append-
 use Rattle.std.proofs.lemmas.Bool.{cases_eq, ne_eqb}
 use Rattle.zeus_base.specs.NodeLaws.{IsRising, IsBelow}
 use Rattle.zeus_base.specs.declared.config.Config.{Config}
+use Rattle.zeus_base.specs.TableLaws.{nth-put_same}
 use Rattle.zeus_txn.specs.declared.tx.TxDecl.{TxDecl}
 use Rattle.zeus_packet.specs.declared.letter.Letter.{Letter}
 use Rattle.zeus_model.specs.State.{Node}
 use Rattle.zeus_model.specs.World.{World, Event, no_node, node, link, last_view, happens, stepped}
 use Rattle.machine_moves.specs.Fits.{StepFits}
-use Rattle.machine_moves.proofs.Lists.{nth-put_same, nth-put_other}
-use Rattle.soundness.proofs.Runs.{IsReached}
+use Rattle.machine_moves.proofs.Lists.{nth-put_other}
+use Rattle.soundness.proofs.Runs.{IsReached, step-reached}
 use Rattle.live_model.specs.Cell.{Posted, CellEvent, Core, step_of, does, notes_down, after, core_from, core, start_core, posts, posts_from, posts_to}
 use Rattle.live_model.specs.Service.{ServiceEvent, views_made}
 use Rattle.live_model.specs.Merge.{Turn, cell_turn}
@@ -21,7 +22,6 @@ use Rattle.live_replay.proofs.BookSteps.{Agrees, AgreeAfter}
 use Rattle.live_replay.proofs.Early.{core_from-append}
 use Rattle.live_replay.proofs.Merging.{part-append}
 use Rattle.live_replay.proofs.Posting.{letters, letters-append, all_posted-own, all_posted-other, posts_from-append}
-use Rattle.live_replay.proofs.Reached.{step-reached}
 use Rattle.live_replay.proofs.Senders.{AllFrom}
 
 -- the world is what the events so far have made of it

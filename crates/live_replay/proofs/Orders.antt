@@ -4,8 +4,9 @@ use Rattle.std.proofs.Common.{arith, refl, sym, ap, ◌∙◌, inl, inr, subst, 
 use Rattle.std.proofs.lemmas.Bool.{cases_eq, ne_eqb}
 use Rattle.zeus_model.specs.In.{In, here, there}
 use Rattle.zeus_model.specs.Tables.{below, numbers_from}
+use Rattle.zeus_model.specs.InLaws.{In-append}
 use Rattle.machine_moves.specs.SystemState.{all_of}
-use Rattle.machine_moves.proofs.Lists.{In-nothing, In-append}
+use Rattle.machine_moves.proofs.Lists.{In-nothing}
 use Rattle.live_model.specs.Cell.{CellEvent, Entry, entry, AreClocks}
 use Rattle.live_model.specs.Service.{ServiceEvent, service_entry, AreServiceClocks}
 use Rattle.live_model.specs.Cluster.{Plan, Cluster, Events, IsCluster}

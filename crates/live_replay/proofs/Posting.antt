@@ -7,7 +7,8 @@ use Rattle.zeus_packet.specs.declared.letter.Letter.{Letter}
 use Rattle.zeus_txn.specs.declared.tx.TxDecl.{TxDecl}
 use Rattle.zeus_model.specs.In.{In, here, there}
 use Rattle.zeus_model.specs.World.{link, posted, all_posted, nth_letter}
-use Rattle.machine_moves.proofs.Lists.{In-nothing, In-append}
+use Rattle.zeus_model.specs.InLaws.{In-append}
+use Rattle.machine_moves.proofs.Lists.{In-nothing}
 use Rattle.machine_moves.proofs.Links.{link-posted_same, link-posted_other}
 use Rattle.live_model.specs.Items.{Stamped}
 use Rattle.live_model.specs.Cell.{CellEvent, Core, Posted, posts_to, posts_from, numbered, after, core_from, does}

@@ -7,6 +7,7 @@ use Rattle.zeus_base.specs.Nodes.{has, without}
 use Rattle.zeus_base.specs.NodeLaws.{RisesFrom, IsRising, IsBelow, RisesFrom-without, IsBelow-without, has-without, has-without_other, has-head, has-tail}
 use Rattle.zeus_base.specs.declared.config.Config.{Config}
 use Rattle.zeus_base.specs.declared.step.Step.TheVariants.{View}
+use Rattle.zeus_base.specs.TableLaws.{nth-past}
 use Rattle.zeus_txn.specs.declared.tx.TxDecl.{TxDecl}
 use Rattle.zeus_packet.specs.declared.letter.Letter.{Letter}
 use Rattle.zeus_model.specs.declared.answer.Answer.TheVariants.{View as ViewAnswer}
@@ -18,10 +19,10 @@ use Rattle.zeus_model.specs.State.{Node}
 use Rattle.zeus_model.specs.Book.{TxRecord, counted, no_record}
 use Rattle.zeus_model.specs.World.{World, Event, no_node, node, link, start_node, start, last_view, is_empty, view_refused, view_or_not, happens, stepped}
 use Rattle.machine_moves.specs.Fits.{StepFits}
-use Rattle.machine_moves.proofs.Lists.{nth-map_numbers, nth-replicate, nth-past, has-numbers_bound}
+use Rattle.machine_moves.proofs.Lists.{nth-map_numbers, nth-replicate, has-numbers_bound}
 use Rattle.machine_moves.proofs.Start.{start-config}
 use Rattle.data_safety.proofs.StepRuns.{start-txs}
-use Rattle.soundness.proofs.Runs.{IsReached, start-reached}
+use Rattle.soundness.proofs.Runs.{IsReached, start-reached, step-reached}
 use Rattle.live_model.specs.Cell.{CellEvent, core_from, core, posts, posts_from}
 use Rattle.live_model.specs.Service.{ServiceEvent, made, viewed, views_from, views_made, start_views}
 use Rattle.live_model.specs.Merge.{Turn, service_turn}
@@ -29,7 +30,6 @@ use Rattle.live_replay.specs.Parts.{part, of_cell, of_service, cell_part, servic
 use Rattle.live_replay.proofs.Books.{Agree, same-refl}
 use Rattle.live_replay.proofs.Mirrors.{Mirrors, part-one}
 use Rattle.live_replay.proofs.Posting.{letters}
-use Rattle.live_replay.proofs.Reached.{step-reached}
 
 -- ---- the start
 

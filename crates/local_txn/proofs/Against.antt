@@ -1,5 +1,5 @@
 -- What stands against a transaction: the first that applies.
-use Rattle.std.proofs.Common.{ℕ, suc, ◌≡◌, ◌≢◌, ◌<◌, ◌≤◌, ◌+◌, ◌-◌, ◌^◌, Bool, true, false, List, [], ◌∷◌, Option, Some, None, length, drop, refl, sym, ap, ◌∙◌, add-one, drop-cons}
+use Rattle.std.proofs.Common.{ℕ, ◌≡◌, ◌≢◌, ◌<◌, ◌≤◌, ◌+◌, ◌-◌, ◌^◌, Bool, true, false, List, [], ◌∷◌, Option, Some, None, length, drop, refl, sym, ap, ◌∙◌}
 use Rattle.std.specs.Prelude.{◌==◌, ◌||◌, not, is_some}
 use Rattle.std.specs.List.{list_any}
 use Rattle.std.proofs.Math.ListN.{get_or}
@@ -14,6 +14,7 @@ use Rattle.zeus_model.specs.declared.state.Pending.{Pending}
 use Rattle.zeus_model.specs.Local.{full_cause, held_elsewhere, holder_cause, owner_cause, worn_cause, write_cause}
 use Rattle.zeus_model.specs.State.{Node, holder, next_number, owns, slot}
 use Rattle.zeus_model.specs.Tables.{first_of, nth, or_else, where_true}
+use Rattle.zeus_model.specs.TableLaws.{first_of-at}
 use Rattle.object_table.specs.declared.hold.Hold.{Hold}
 use Rattle.object_table.specs.Table.{Table, hold_slot}
 use Rattle.commit_pipeline.specs.Pipes.{Waiting}
@@ -23,14 +24,6 @@ use Rattle.local_txn.specs.Tries.{IsNodeOf, cause_as, held_at, node_of, owner_at
 use Rattle.local_txn.proofs.Worn.{worn_is}
 
 -- ---- the first of a list
-
-first_of-cons : {A B : Type 0} (f : A → Option B) (x : A) (xs : List A) → first_of f (x ∷ xs) ≡ or_else (f x) (first_of f xs)
-unfolding first_of
-first_of-cons f x xs = refl
-
-first_of-at : {A B : Type 0} (f : A → Option B) (xs : List A) (i : ℕ) (x : A) → i < length xs → x ≡ get_or xs i x → first_of f (drop i xs) ≡ or_else (f x) (first_of f (drop (i + 1) xs))
-first_of-at f xs i x h e =
-    rw (add-one, drop-cons xs i x h, ← e) (first_of-cons f x (drop (suc i) xs))
 
 or_else-some : {A : Type 0} (a : A) (o b : Option A) → Some a ≡ o → Some a ≡ or_else o b
 unfolding or_else

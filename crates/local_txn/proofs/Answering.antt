@@ -23,6 +23,7 @@ use Rattle.object_table.specs.Table.{Table, each_held}
 use Rattle.commit_pipeline.specs.Pipes.{Waiting}
 use Rattle.local_txn.specs.declared.attempt.WriteTry.{WriteTry}
 use Rattle.local_txn.specs.Tries.{IsNodeOf, after_try, cause_as, entry_here, followers_here, holds_after, node_of, tried_as, writes_here}
+use Rattle.local_txn.specs.TriesLaws.{told_back}
 use Rattle.local_txn.proofs.Committing.{new_writes_same, replicas_same}
 
 -- ---- the entry that the code makes
@@ -40,19 +41,6 @@ entry_made me entries copies id tx reply followers writes r w f =
     λ i. record { id = id; reply = r i; named = named tx; followers = same i; writes = w i; acks = [] }
 
 -- ---- where something stands against the transaction
-
-told_back : (n : Node) (s : ℕ) (c : Current) (t : Tried) → t ≡ (write_row n s c (Some t)).answer
-unfolding write_row
-told_back n s c rules.Stopped = refl
-told_back n s c rules.Nothing = refl
-told_back n s c (rules.NoCopy k x) = refl
-told_back n s c (rules.NotValid x state) = refl
-told_back n s c (rules.Read k reply) = refl
-told_back n s c rules.PipeFull = refl
-told_back n s c (rules.NotOwner x) = refl
-told_back n s c (rules.Held x t) = refl
-told_back n s c rules.WornOut = refl
-told_back n s c (rules.Committed k number reply) = refl
 
 after-some : (n : Node) (s : ℕ) (c : Current) (id : ℕ) (t : WriteTry) (o : Option Tried) → cause_as id (Some t) ≡ o → n ≡ after_try n s c o
 unfolding cause_as after_try
@@ -87,7 +75,7 @@ holds-none s holds tx id o e = rw (← e) refl
 module _ (me : ℕ) (entries : List Entry) (table : Table) (s : ℕ) (waiting : Waiting) (n : Node) (is : IsNodeOf me entries table s waiting n) (id : ℕ) (tx : List Op) (o : Option Tried) where
   pub refused_answer : (t : WriteTry) → cause_as id (Some t) ≡ o → tried_as id t ≡ (write_row n s record { id = id; tx = tx } o).answer
   unfolding cause_as
-  refused_answer t e = rw (← e) (told_back n s record { id = id; tx = tx } (tried_as id t))
+  refused_answer t e = rw (← e) (sym (told_back n s record { id = id; tx = tx } (tried_as id t)))
 
   pub refused_copies : (t : WriteTry) → cause_as id (Some t) ≡ o → table.copies ≡ (after_try n s record { id = id; tx = tx } o).copies
   refused_copies t e = sym is.copies ∙ ap (λ (m : Node). m.copies) (after-some n s record { id = id; tx = tx } id t o e)

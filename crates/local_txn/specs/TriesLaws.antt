@@ -6,6 +6,7 @@ use Rattle.zeus_base.specs.Nodes.{meet}
 use Rattle.zeus_packet.specs.declared.letter.Body.TheVariants.{RInv}
 use Rattle.zeus_model.specs.declared.answer.Tried.{Tried}
 use Rattle.zeus_model.specs.declared.answer.Tried.TheVariants.{Committed, Held}
+use Rattle.zeus_model.specs.declared.answer.Tried.TheVariants as rules
 use Rattle.zeus_model.specs.declared.state.Current.{Current}
 use Rattle.zeus_model.specs.declared.state.Entry.{Entry}
 use Rattle.zeus_model.specs.Act.{did_then, sends, to_each}
@@ -27,6 +28,20 @@ use Rattle.local_txn.specs.Tries.{IsNodeOf, after_try, followers_here, holds_aft
 pub write_row-committed : (n : Node) (s : ℕ) (c : Current) → write_row n s c None ≡ did_then (sends (after_try n s c None) (Committed c.id (next_number (slot n s)) (run_here n c.tx).reply) (to_each n (meet (followers_here n c.tx) n.members) (RInv (invalidation n s (followers_here n c.tx) (writes_here n c.tx))))) (λ m. advance_own m s)
 unfolding write_row commit commit_entry after_try
 write_row-committed n s c = refl
+
+-- what stands against a transaction is the answer
+pub told_back : (n : Node) (s : ℕ) (c : Current) (t : Tried) → (write_row n s c (Some t)).answer ≡ t
+unfolding write_row
+told_back n s c rules.Stopped = refl
+told_back n s c rules.Nothing = refl
+told_back n s c (rules.NoCopy k x) = refl
+told_back n s c (rules.NotValid x state) = refl
+told_back n s c (rules.Read k reply) = refl
+told_back n s c rules.PipeFull = refl
+told_back n s c (rules.NotOwner x) = refl
+told_back n s c (rules.Held x t) = refl
+told_back n s c rules.WornOut = refl
+told_back n s c (rules.Committed k number reply) = refl
 
 -- ---- what the slots hold
 

@@ -1,5 +1,5 @@
 pub mod Largest
 mod Rooms
 mod Runs
-mod Sending
+pub mod Sending
 mod Staying

@@ -6,6 +6,7 @@ use Rattle.zeus_base.specs.Nodes.{has, without, with_node}
 use Rattle.zeus_base.specs.Order.{is_below, same_stamp}
 use Rattle.zeus_base.specs.OrderLaws.{same_stamp-true}
 use Rattle.zeus_base.specs.declared.order.Stamp.{Stamp}
+use Rattle.zeus_base.specs.TableLaws.{nth-put_same}
 use Rattle.zeus_packet.specs.Place.{new_place}
 use Rattle.zeus_packet.specs.declared.letter.Body.{Body}
 use Rattle.zeus_packet.specs.declared.letter.Body.TheVariants.{OAck, OVal, Recovered}
@@ -27,7 +28,6 @@ use Rattle.zeus_model.specs.Receive.{on_recovered}
 use Rattle.machine_moves.specs.SystemState.{SystemState}
 use Rattle.machine_moves.specs.Move.{placement, IsTellable, settles, gathers, decides, hears, IsSettling, by_acknowledgement, by_decision}
 use Rattle.machine_moves.specs.Plain.{IsPlain}
-use Rattle.machine_moves.proofs.Lists.{nth-put_same}
 use Rattle.machine_moves.proofs.Within.{Keeps, Keeps-settle, Keeps-bring, Keeps-trans, Keeps-with_gather, Keeps-reported}
 use Rattle.machine_moves.proofs.Steady.{fair_acknowledgement}
 use Rattle.machine_moves.proofs.Reach.{PlainReached as Reached, PlainAnswered as Answered, IsReady, still_reaches, plain_reaches, then_reaches, cut_none, quiet_then_tells}

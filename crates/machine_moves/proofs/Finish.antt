@@ -5,6 +5,7 @@ use Rattle.std.proofs.lemmas.Bool.{cases_eq, cases_lt, cond_both, and_parts, eqb
 use Rattle.zeus_base.specs.Nodes.{has, without, with_node}
 use Rattle.zeus_base.specs.NodeLaws.{has-with_same}
 use Rattle.zeus_base.specs.declared.order.Stream.{Stream}
+use Rattle.zeus_base.specs.TableLaws.{nth-past}
 use Rattle.zeus_packet.specs.declared.letter.Body.TheVariants.{Recovered}
 use Rattle.zeus_packet.specs.declared.letter.Letter.{Letter}
 use Rattle.zeus_model.specs.In.{In, here, there}
@@ -12,10 +13,10 @@ use Rattle.zeus_model.specs.Tables.{below, numbers_from}
 use Rattle.zeus_model.specs.State.{Node, StreamLog, no_log, log}
 use Rattle.zeus_model.specs.Act.{Act, in_turn, to_each, still, and_then}
 use Rattle.zeus_model.specs.Commit.{advance_own, advance_kept, streams_of, streams_outside, outside, none_stored, report_recovered, finish}
+use Rattle.zeus_model.specs.InLaws.{In-append_left, In-append_right, In-append}
 use Rattle.machine_moves.specs.SystemState.{SystemState}
 use Rattle.machine_moves.specs.Move.{reported, reports, IsTellable}
 use Rattle.machine_moves.specs.Plain.{IsPlain}
-use Rattle.machine_moves.proofs.Lists.{In-append, In-append_left, In-append_right, nth-past}
 use Rattle.machine_moves.proofs.Within.{IsWithin, Keeps-reported}
 use Rattle.machine_moves.proofs.Reach.{Reached, PlainReaches, PlainReached, IsReady, known, any_reaches, still_reaches, plain_reaches, cut_none, quiet_then_tells, act_then}
 use Rattle.machine_moves.proofs.Passing.{to_each-each, advance_own-reached, advance_kept-reached}

@@ -2,12 +2,14 @@
 use Rattle.std.specs.Prelude.{ℕ, zero, suc, ◌≡◌, ◌≢◌, List, [], ◌∷◌, ◌++◌, Some, ◌⊎◌}
 use Rattle.std.proofs.Common.{refl, sym, ap, inl, inr}
 use Rattle.std.proofs.lemmas.Bool.{cases_eq}
+use Rattle.zeus_base.specs.TableLaws.{nth-put_same}
 use Rattle.zeus_packet.specs.declared.letter.Letter.{Letter}
 use Rattle.zeus_model.specs.In.{In, here, there}
 use Rattle.zeus_model.specs.Tables.{nth, put}
 use Rattle.zeus_model.specs.World.{link, posted, all_posted, nth_letter}
+use Rattle.zeus_model.specs.InLaws.{In-append_left, In-append_right, In-append}
 use Rattle.machine_moves.specs.SystemState.{all_of}
-use Rattle.machine_moves.proofs.Lists.{In-append_left, In-append_right, In-append, nth-put_same, nth-put_other}
+use Rattle.machine_moves.proofs.Lists.{nth-put_other}
 
 -- the letter stands on one of the links
 pub record IsOn (links : List (List (List Letter))) (l : Letter) : Type 0 where

@@ -13,20 +13,6 @@ use Rattle.zeus_model.specs.Tables.{nth, put, numbers_from}
 pub In-nothing : {A : Type 0} {P : Type 0} (a : A) → In a [] → P
 In-nothing a m = elim m [ ]
 
-pub In-append_left : {A : Type 0} (a : A) (xs ys : List A) → In a xs → In a (xs ++ ys)
-In-append_left a [] ys m = elim m [ ]
-In-append_left a (x ∷ xs) ys (here _ _ e) = here x (xs ++ ys) e
-In-append_left a (x ∷ xs) ys (there _ _ m) = there x (xs ++ ys) (In-append_left a xs ys m)
-
-pub In-append_right : {A : Type 0} (a : A) (xs ys : List A) → In a ys → In a (xs ++ ys)
-In-append_right a [] ys m = m
-In-append_right a (x ∷ xs) ys m = there x (xs ++ ys) (In-append_right a xs ys m)
-
-pub In-append : {A : Type 0} (a : A) (xs ys : List A) → In a (xs ++ ys) → In a xs ⊎ In a ys
-In-append a [] ys m = inr m
-In-append a (x ∷ xs) ys (here _ _ e) = inl (here x xs e)
-In-append a (x ∷ xs) ys (there _ _ m) = elim (In-append a xs ys m) [ inl l ↦ inl (there x xs l) | inr r ↦ inr r ]
-
 pub In-take : {A : Type 0} (a : A) (k : ℕ) (xs : List A) → In a (take k xs) → In a xs
 In-take a zero xs m = elim m [ ]
 In-take a (suc k) [] m = elim m [ ]
@@ -53,13 +39,6 @@ take-append {A = A} (suc k) (x ∷ xs) ys =
 
 -- ---- tables
 
-pub nth-put_same : {A : Type 0} (d : A) (xs : List A) (i : ℕ) (v : A) → nth d (put d xs i v) i ≡ v
-unfolding nth put
-nth-put_same d [] zero v = refl
-nth-put_same d [] (suc i) v = nth-put_same d [] i v
-nth-put_same d (x ∷ xs) zero v = refl
-nth-put_same d (x ∷ xs) (suc i) v = nth-put_same d xs i v
-
 pub nth-put_other : {A : Type 0} (d : A) (xs : List A) (i j : ℕ) (v : A) → j ≢ i → nth d (put d xs i v) j ≡ nth d xs j
 unfolding nth put
 nth-put_other d [] zero zero v ne = absurd (ne refl)
@@ -83,23 +62,6 @@ unfolding put
 length-put d [] i v = omega arith
 length-put d (x ∷ xs) zero v = omega arith
 length-put d (x ∷ xs) (suc i) v = omega (arith, length-put d xs i v)
-
-pub nth-past : {A : Type 0} (d : A) (xs : List A) (i : ℕ) → length xs ≤ i → nth d xs i ≡ d
-unfolding nth
-nth-past d [] i h = refl
-nth-past d (x ∷ xs) zero h = absurd (omega arith)
-nth-past d (x ∷ xs) (suc i) h = nth-past d xs i (omega arith)
-
-pub nth-append : {A : Type 0} (d : A) (xs ys : List A) (i : ℕ) → i < length xs → nth d (xs ++ ys) i ≡ nth d xs i
-unfolding nth
-nth-append d [] ys i h = absurd (omega arith)
-nth-append d (x ∷ xs) ys zero h = refl
-nth-append d (x ∷ xs) ys (suc i) h = nth-append d xs ys i (omega arith)
-
-pub nth-last : {A : Type 0} (d : A) (xs ys : List A) (y : A) → nth d (xs ++ y ∷ ys) (length xs) ≡ y
-unfolding nth
-nth-last d [] ys y = refl
-nth-last d (x ∷ xs) ys y = nth-last d xs ys y
 
 -- ---- the numbers below a bound
 

@@ -5,6 +5,7 @@ use Rattle.std.proofs.lemmas.List.{length-map}
 use Rattle.zeus_base.specs.Nodes.{has, without, meet}
 use Rattle.zeus_base.specs.NodeLaws.{has-head, has-tail, has-without, has-meet, has-without_same}
 use Rattle.zeus_base.specs.declared.order.Stream.{Stream}
+use Rattle.zeus_base.specs.TableLaws.{nth-put_same}
 use Rattle.zeus_packet.specs.declared.letter.Body.{Body}
 use Rattle.zeus_packet.specs.declared.letter.Body.TheVariants.{RVal}
 use Rattle.zeus_packet.specs.declared.letter.Letter.{Letter}
@@ -18,7 +19,7 @@ use Rattle.zeus_model.specs.Act.{letter, to_each}
 use Rattle.zeus_model.specs.Commit.{validated, each_write, writes_of, as_kept, no_kept, passes, passes_at, passing, followers_of, pass_own, advance_own, advance_own_by, pass_kept, advance_kept, advance_kept_by, told}
 use Rattle.machine_moves.specs.SystemState.{SystemState}
 use Rattle.machine_moves.specs.Move.{own_kept, own_passed, kept_passed, passes_own, passes_kept, IsTellable}
-use Rattle.machine_moves.proofs.Lists.{put-put, nth-put_same}
+use Rattle.machine_moves.proofs.Lists.{put-put}
 use Rattle.machine_moves.proofs.Within.{slot-with_slot_same, log-with_log_same, Keeps-pass_own, Keeps-pass_kept}
 use Rattle.machine_moves.proofs.Reach.{Reaches, Reached, IsReady, known, still_reaches, quiet_reaches, then_reaches, cut_none, quiet_then_tells}
 

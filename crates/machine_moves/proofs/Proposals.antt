@@ -21,10 +21,11 @@ use Rattle.zeus_model.specs.declared.answer.Outcome.{Outcome}
 use Rattle.zeus_model.specs.State.{Node, entry, is_open, with_entry, with_gather}
 use Rattle.zeus_model.specs.Act.{Did, letter, to_each}
 use Rattle.zeus_model.specs.Ownership.{settle, settled_entry, gather_above, holding, is_source, unready_cause, driven, invalidations, acknowledgement, drive, answer_request, request_cause, on_oreq, answer_settled, takes_over, rebased, hold_cause, advice as advice_letters, refuse_proposal, collector, hold_or_refuse, oinv_on_base, on_oinv}
+use Rattle.zeus_model.specs.InLaws.{In-append}
 use Rattle.machine_moves.specs.SystemState.{SystemState, IsReceivable}
 use Rattle.machine_moves.specs.Move.{advice, placement, to_arbiter, to_collector, IsTellable, IsAboutProposal, drives, accepts, settles, IsSettling, by_invalidation}
 use Rattle.machine_moves.specs.Plain.{IsPlain}
-use Rattle.machine_moves.proofs.Lists.{In-append, In-take, In-take_last}
+use Rattle.machine_moves.proofs.Lists.{In-take, In-take_last}
 use Rattle.machine_moves.proofs.Within.{entry-with_entry_same, Keeps-settle, Keeps-holding}
 use Rattle.machine_moves.proofs.Steady.{fair_proposal}
 use Rattle.machine_moves.proofs.Reach.{Became-changed, Changes-became, changed, PlainReaches as Reaches, PlainAnswered as Answered, IsReady, known, still_reaches, move_reaches, plain_reaches, then_reaches, cut_none, cut_tells}

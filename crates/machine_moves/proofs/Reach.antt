@@ -6,10 +6,11 @@ use Rattle.zeus_packet.specs.declared.letter.Letter.{Letter}
 use Rattle.zeus_model.specs.In.{In}
 use Rattle.zeus_model.specs.State.{Node}
 use Rattle.zeus_model.specs.Act.{Act, Did, joined, did_joined}
+use Rattle.zeus_model.specs.InLaws.{In-append_left, In-append_right, In-append}
 use Rattle.machine_moves.specs.SystemState.{SystemState, IsLive, Changes, Same, nothing}
 use Rattle.machine_moves.specs.Move.{Move, Moves, none, next, IsTellable, tells}
 use Rattle.machine_moves.specs.Plain.{IsPlain, PlainMoves, stays, moves_on}
-use Rattle.machine_moves.proofs.Lists.{In-nothing, In-append, In-append_left, In-append_right, In-take, take-append, take-none}
+use Rattle.machine_moves.proofs.Lists.{In-nothing, In-take, take-append, take-none}
 use Rattle.machine_moves.proofs.Within.{Keeps, Keeps-refl, Keeps-trans}
 use Rattle.machine_moves.proofs.Steady.{IsSteady, IsKnown, moves_keep}
 

@@ -8,6 +8,7 @@ use Rattle.zeus_base.specs.Nodes.{has}
 use Rattle.zeus_base.specs.NodeLaws.{length-below}
 use Rattle.zeus_base.specs.declared.config.Config.{Config}
 use Rattle.zeus_base.specs.declared.config.ObjectDecl.{ObjectDecl}
+use Rattle.zeus_base.specs.TableLaws.{nth-past}
 use Rattle.zeus_packet.specs.declared.letter.Letter.{Letter}
 use Rattle.zeus_txn.specs.declared.tx.TxDecl.{TxDecl}
 use Rattle.zeus_model.specs.In.{In}
@@ -15,7 +16,7 @@ use Rattle.zeus_model.specs.Tables.{nth, below}
 use Rattle.zeus_model.specs.State.{Slot, StreamLog, no_entry, no_slot, no_log}
 use Rattle.zeus_model.specs.World.{no_node, node, link, start, start_node, start_entry}
 use Rattle.machine_moves.specs.SystemState.{system}
-use Rattle.machine_moves.proofs.Lists.{In-nothing, nth-past, nth-map_numbers, length-map_numbers, nth-replicate, has-numbers_from}
+use Rattle.machine_moves.proofs.Lists.{In-nothing, nth-map_numbers, length-map_numbers, nth-replicate, has-numbers_from}
 use Rattle.machine_moves.proofs.Links.{HasEnds, In-to_link}
 use Rattle.machine_moves.proofs.Within.{IsWithin}
 use Rattle.machine_moves.proofs.Steady.{IsSteady, IsKnown}

@@ -7,6 +7,7 @@ use Rattle.zeus_base.specs.Order.{is_below}
 use Rattle.zeus_base.specs.OrderLaws.{is_below-lower}
 use Rattle.zeus_base.specs.declared.config.Config.{Config}
 use Rattle.zeus_base.specs.declared.order.Stream.{Stream}
+use Rattle.zeus_base.specs.TableLaws.{nth-append, nth-last}
 use Rattle.zeus_packet.specs.declared.letter.RInv.{RInv as Invalidation}
 use Rattle.zeus_packet.specs.declared.write.Content.{Content}
 use Rattle.zeus_packet.specs.declared.write.Write.{Write}
@@ -27,7 +28,6 @@ use Rattle.zeus_model.specs.Local.{committed, with_current, run_here}
 use Rattle.zeus_model.specs.Ownership.{settle, holding, driven}
 use Rattle.machine_moves.specs.SystemState.{SystemState, IsLive, IsNumbered, Changes, NewView, Same, nothing}
 use Rattle.machine_moves.specs.Move.{IsTellable, request, advice, placement, reported, own_entry, kept_entry, stored, own_passed, kept_passed, IsAboutProposal, to_arbiter, to_collector, Move, makes_view, stops, installs, tells, turns, settles, drives, accepts, redrives, gathers, decides, raises, stores, notes_own, notes_kept, passes_own, passes_kept, reports, hears, commits, Moves, none, next}
-use Rattle.machine_moves.proofs.Lists.{nth-append, nth-last}
 use Rattle.machine_moves.proofs.Within.{IsWithin, Keeps, not_empty, IsWithin-with_slot, IsWithin-with_log, IsWithin-with_copies, IsWithin-with_gather, IsWithin-settle, IsWithin-holding, IsWithin-bring, IsWithin-raise, IsWithin-store, IsWithin-pass_own, IsWithin-pass_kept, Keeps-trans, Keeps-with_slot, Keeps-with_log, Keeps-with_gather, Keeps-settle, Keeps-holding, Keeps-bring, Keeps-raise, Keeps-store, Keeps-pass_own, Keeps-pass_kept, Keeps-reported, Keeps-committed}
 
 -- a live node of this number: what it knows of the configuration and of the views, and that it is in each view
@@ -201,7 +201,7 @@ view-older : (views : List (List ℕ)) (set : List ℕ) (e : ℕ) → 1 ≤ e �
 view-older views set e h g = nth-append [] views (set ∷ []) (e - 1) (omega arith)
 
 view-newest : (views : List (List ℕ)) (set : List ℕ) (e : ℕ) → e ≡ suc (length views) → nth [] (views ++ set ∷ []) (e - 1) ≡ set
-view-newest views set e is = let last : e - 1 ≡ length views = omega arith in rw last (nth-last [] views [] set)
+view-newest views set e is = let last : e - 1 ≡ length views = omega arith in rw last (nth-last [] views set)
 
 in_each_view : (views : List (List ℕ)) (set : List ℕ) (n e : ℕ) → has n set ≡ true → ((f : ℕ) → 1 ≤ f → f ≤ length views → has n (nth [] views (f - 1)) ≡ true) → 1 ≤ e → e ≤ suc (length views) → has n (nth [] (views ++ set ∷ []) (e - 1)) ≡ true
 in_each_view views set n e last before h g =

@@ -6,6 +6,7 @@ use Rattle.zeus_base.specs.Nodes.{has}
 use Rattle.zeus_base.specs.NodeLaws.{IsRising, is_subset-from_members}
 use Rattle.zeus_base.specs.declared.step.Step.{Step}
 use Rattle.zeus_base.specs.declared.step.Step.TheVariants.{Begin, Try, Deliver, Tick, Stop, View, Install}
+use Rattle.zeus_base.specs.TableLaws.{nth-put_same}
 use Rattle.zeus_packet.specs.declared.letter.Letter.{Letter}
 use Rattle.zeus_txn.specs.declared.tx.TxDecl.{TxDecl}
 use Rattle.zeus_model.specs.Tables.{nth, put, first_of}
@@ -26,7 +27,7 @@ use Rattle.zeus_model.specs.World.{World, Event, no_node, node, tx_decl, link, a
 use Rattle.machine_moves.specs.SystemState.{SystemState, system, view, IsLive, NewView, nothing}
 use Rattle.machine_moves.specs.Move.{Move, Moves, none, next, makes_view, stops, installs}
 use Rattle.machine_moves.specs.Fits.{StepFits}
-use Rattle.machine_moves.proofs.Lists.{nth-put_same, nth-put_other, In-nothing}
+use Rattle.machine_moves.proofs.Lists.{nth-put_other, In-nothing}
 use Rattle.machine_moves.proofs.Links.{HasEnds, HasEnds-all_posted, In-from_link, nth_letter-In, sent-stay, sent-new, sent-only}
 use Rattle.machine_moves.proofs.Steady.{IsSteady, move_keep}
 use Rattle.machine_moves.proofs.Reach.{Became, Became-changed, Became-trans, Changes-became, changed, Reaches, IsReady, Moves-reaches, any_reaches, Same-became, Same-refl, still_reaches}

@@ -25,10 +25,11 @@ use Rattle.zeus_model.specs.Commit.{as_kept, no_kept, outside}
 use Rattle.zeus_model.specs.Local.{requests, not_owned, not_copied}
 use Rattle.zeus_model.specs.Ownership.{is_source, unready_cause, invalidations, acknowledgement, collector}
 use Rattle.zeus_model.specs.Membership.{letters_of, others, apart, repeat_report, repeat_entries, repeat_own, repeat_kept, repeat_requests, own_acknowledgement, repeat_proposal, repeat_proposals, repeat_done, leaves, repeat_leave, repeats, tick}
+use Rattle.zeus_model.specs.InLaws.{In-append}
 use Rattle.machine_moves.specs.SystemState.{SystemState}
 use Rattle.machine_moves.specs.Move.{own_kept, entry_letter, reported, kept_entry, own_passed, IsTellable, IsAboutProposal, redrives}
 use Rattle.machine_moves.specs.Plain.{IsPlain}
-use Rattle.machine_moves.proofs.Lists.{In-append, In-take}
+use Rattle.machine_moves.proofs.Lists.{In-take}
 use Rattle.machine_moves.proofs.Within.{Keeps-refl}
 use Rattle.machine_moves.proofs.Steady.{IsSteady}
 use Rattle.machine_moves.proofs.Reach.{Became-changed, Changes-became, changed, PlainReaches as Reaches, PlainAnswered as Answered, IsReady, still_reaches, move_reaches, cut_none, cut_then, tells_at}

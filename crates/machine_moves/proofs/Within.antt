@@ -5,6 +5,7 @@ use Rattle.std.proofs.lemmas.Bool.{cases_eq, cond_both}
 use Rattle.zeus_base.specs.Order.{is_below}
 use Rattle.zeus_base.specs.declared.order.Stamp.{Stamp}
 use Rattle.zeus_base.specs.declared.order.Stream.{Stream}
+use Rattle.zeus_base.specs.TableLaws.{nth-put_same}
 use Rattle.zeus_packet.specs.declared.letter.RInv.{RInv as Invalidation}
 use Rattle.zeus_packet.specs.declared.place.Place.{Place}
 use Rattle.zeus_packet.specs.declared.place.Proposal.{Proposal}
@@ -20,7 +21,7 @@ use Rattle.zeus_model.specs.declared.state.Gather.{Gather}
 use Rattle.zeus_model.specs.State.{Node, Slot, StreamLog, no_slot, no_log, no_entry, entry, slot, log, with_slot, with_log, with_entry, with_copies, with_copy, with_gather}
 use Rattle.zeus_model.specs.Commit.{raise, store, pass_own, pass_kept, after_passing}
 use Rattle.zeus_model.specs.Ownership.{settle, settled_entry, proposal_above, gather_above, holding, bring, brought}
-use Rattle.machine_moves.proofs.Lists.{nth-put_same, nth-put_other, length-put}
+use Rattle.machine_moves.proofs.Lists.{nth-put_other, length-put}
 
 -- ---- a part of a node after it was set
 

@@ -1,22 +1,11 @@
 -- A search through the slots in order.
-use Rattle.std.proofs.Common.{ℕ, suc, ◌≡◌, ◌<◌, ◌≤◌, ◌+◌, ◌-◌, true, false, Option, Some, None, [], ◌∷◌, length, refl, add-one, arith}
+use Rattle.std.proofs.Common.{ℕ, ◌≡◌, ◌<◌, ◌≤◌, ◌+◌, ◌-◌, true, false, Option, Some, None, length, refl, arith}
 use Rattle.std.proofs.Math.ListN.{get_or}
 use Rattle.zeus_base.specs.TableLaws.{nth_read}
+use Rattle.zeus_base.specs.LoopLaws.{numbers-next, numbers-none}
 use Rattle.zeus_model.specs.Ownership.{keeper, keeps}
 use Rattle.zeus_model.specs.State.{Node, Slot, no_slot, slot}
 use Rattle.zeus_model.specs.Tables.{below, first_of, numbers_from, or_else, where_true}
-
-numbers-next : (i n : ℕ) → i < n → numbers_from i (n - i) ≡ i ∷ numbers_from (i + 1) (n - (i + 1))
-unfolding numbers_from
-numbers-next i n h =
-    let one : n - i ≡ suc (n - (i + 1)) = omega arith in
-    rw (one, add-one) refl
-
-numbers-none : (i n : ℕ) → n ≤ i → numbers_from i (n - i) ≡ []
-unfolding numbers_from
-numbers-none i n h =
-    let none : n - i ≡ 0 = omega arith in
-    rw none refl
 
 module _ {B : Type 0} (f : ℕ → Option B) (n : ℕ) where
   -- what is found from a number on

@@ -9,6 +9,7 @@ use Rattle.zeus_model.specs.declared.state.Current.{Current}
 use Rattle.zeus_model.specs.Local.{commit, commit_entry, full_cause, held_elsewhere, holder_cause, owner_cause, worn_cause, write_cause, write_row}
 use Rattle.zeus_model.specs.State.{Node, holder}
 use Rattle.zeus_model.specs.Tables.{first_of, or_else, where_true}
+use Rattle.local_txn.specs.TriesLaws.{told_back}
 
 -- ---- what stands against a transaction is no commit
 
@@ -46,20 +47,6 @@ uncommitted-cause n s tx =
     (uncommitted-or _ _ (uncommitted-where _ rules.WornOut tt) (uncommitted-first _ _ (λ x. uncommitted-where _ rules.WornOut tt)))))
 
 -- ---- what the answer says
-
--- what stands against a transaction is the answer
-told_back : (n : Node) (s : ℕ) (c : Current) (t : Tried) → (write_row n s c (Some t)).answer ≡ t
-unfolding write_row
-told_back n s c rules.Stopped = refl
-told_back n s c rules.Nothing = refl
-told_back n s c (rules.NoCopy k x) = refl
-told_back n s c (rules.NotValid x state) = refl
-told_back n s c (rules.Read k reply) = refl
-told_back n s c rules.PipeFull = refl
-told_back n s c (rules.NotOwner x) = refl
-told_back n s c (rules.Held x t) = refl
-told_back n s c rules.WornOut = refl
-told_back n s c (rules.Committed k number reply) = refl
 
 uncommitted_only : (k number : ℕ) (reply : Reply) (r : Tried) → r ≡ rules.Committed k number reply → IsUncommitted (Some r) → ⊥
 unfolding IsUncommitted

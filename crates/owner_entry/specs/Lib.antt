@@ -1,3 +1,2 @@
 pub mod Acceptance
-pub mod AcceptanceLaws
 pub mod Directory

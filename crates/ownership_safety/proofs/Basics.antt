@@ -1,43 +1,14 @@
--- Members of lists, tables by index, and the order of ballots.
-use Rattle.std.specs.Prelude.{ℕ, zero, suc, ◌≡◌, ◌≢◌, ◌<◌, ◌≤◌, true, false, List, [], ◌∷◌, ◌++◌, length, ◌⊎◌}
-use Rattle.std.proofs.Common.{arith, refl, sym, inl, inr}
+-- Tables by index, and the order of ballots.
+use Rattle.std.specs.Prelude.{ℕ, zero, suc, ◌≡◌, ◌≢◌, ◌≤◌, true, false, List, [], ◌∷◌, ◌++◌, ◌⊎◌}
+use Rattle.std.proofs.Common.{arith, sym, inl, inr}
 use Rattle.std.proofs.lemmas.Bool.{cases_order, cases_Bool}
 use Rattle.zeus_base.specs.Order.{is_below}
 use Rattle.zeus_base.specs.OrderLaws.{is_below-irrefl, is_below-total, is_below-lower}
 use Rattle.zeus_base.specs.declared.order.Stamp.{Stamp}
 use Rattle.zeus_model.specs.Tables.{nth}
-use Rattle.ownership_safety.specs.Object.{In, here, there}
 use Rattle.ownership_safety.specs.OwnershipInvariant.{IsLesser}
 
--- ---- members
-
-pub In-append_left : {A : Type 0} (a : A) (xs ys : List A) → In a xs → In a (xs ++ ys)
-In-append_left a [] ys m = elim m [ ]
-In-append_left a (x ∷ xs) ys (here _ _ e) = here x (xs ++ ys) e
-In-append_left a (x ∷ xs) ys (there _ _ m) = there x (xs ++ ys) (In-append_left a xs ys m)
-
-pub In-append_right : {A : Type 0} (a : A) (xs ys : List A) → In a ys → In a (xs ++ ys)
-In-append_right a [] ys m = m
-In-append_right a (x ∷ xs) ys m = there x (xs ++ ys) (In-append_right a xs ys m)
-
-pub In-append : {A : Type 0} (a : A) (xs ys : List A) → In a (xs ++ ys) → In a xs ⊎ In a ys
-In-append a [] ys m = inr m
-In-append a (x ∷ xs) ys (here _ _ e) = inl (here x xs e)
-In-append a (x ∷ xs) ys (there _ _ m) =
-    elim (In-append a xs ys m) [ inl l ↦ inl (there x xs l) | inr r ↦ inr r ]
-
 -- ---- tables
-
-pub nth-append : {A : Type 0} (d : A) (xs ys : List A) (i : ℕ) → i < length xs → nth d (xs ++ ys) i ≡ nth d xs i
-unfolding nth
-nth-append d [] ys i h = absurd (omega arith)
-nth-append d (x ∷ xs) ys zero h = refl
-nth-append d (x ∷ xs) ys (suc i) h = nth-append d xs ys i (omega arith)
-
-pub nth-last : {A : Type 0} (d : A) (xs : List A) (y : A) → nth d (xs ++ y ∷ []) (length xs) ≡ y
-unfolding nth
-nth-last d [] y = refl
-nth-last d (x ∷ xs) y = nth-last d xs y
 
 -- what holds of each element and of the default holds with one more element, of which it holds too
 pub nth-append_each : {A : Type 0} (P : A → Type 0) (d : A) (xs : List A) (y : A) → P d → ((i : ℕ) → P (nth d xs i)) → P y → (i : ℕ) → P (nth d (xs ++ y ∷ []) i)

@@ -6,6 +6,7 @@ use Rattle.std.proofs.lemmas.Bool.{cases_eq, true≢false}
 use Rattle.zeus_base.specs.Order.{is_below}
 use Rattle.zeus_base.specs.OrderLaws.{is_below-irrefl, is_below-trans_not_above, not_below-trans}
 use Rattle.zeus_base.specs.declared.order.Stamp.{Stamp}
+use Rattle.zeus_base.specs.TableLaws.{nth-append}
 use Rattle.zeus_packet.specs.Place.{new_place}
 use Rattle.zeus_packet.specs.declared.place.Place.{Place}
 use Rattle.zeus_packet.specs.declared.place.Proposal.{Proposal}
@@ -15,7 +16,6 @@ use Rattle.ownership_safety.specs.Object.{Object, Invalidates, Acknowledges, IsV
 use Rattle.ownership_safety.specs.Moves.{SameOthers}
 use Rattle.ownership_safety.specs.OwnershipInvariant.{IsProposal, IsAck, IsLink, IsDecided}
 use Rattle.ownership_safety.specs.Kept.{Grows, Rises}
-use Rattle.ownership_safety.proofs.Basics.{nth-append}
 
 -- a chain that begins with the other
 pub record Extends (chain longer : List Proposal) : Type 0 where

@@ -6,6 +6,7 @@ use Rattle.zeus_base.specs.NodeLaws.{is_subset-has}
 use Rattle.zeus_base.specs.Order.{is_below}
 use Rattle.zeus_base.specs.OrderLaws.{is_below-irrefl, is_below-asym}
 use Rattle.zeus_base.specs.declared.order.Stamp.{Stamp}
+use Rattle.zeus_base.specs.TableLaws.{nth-last}
 use Rattle.zeus_packet.specs.Place.{arbiters, new_place}
 use Rattle.zeus_packet.specs.declared.place.Proposal.{Proposal}
 use Rattle.zeus_model.specs.declared.state.Entry.{Entry}
@@ -16,7 +17,6 @@ use Rattle.ownership_safety.specs.Object.{Object, Invalidates, Acknowledges, Val
 use Rattle.ownership_safety.specs.Moves.{Acts, Sends, nothing, Settles, Decides}
 use Rattle.ownership_safety.specs.OwnershipInvariant.{OwnershipInvariant, IsHeld, IsGather, IsLink, IsDecided}
 use Rattle.ownership_safety.specs.Kept.{Grows, IsAgain, IsFirst}
-use Rattle.ownership_safety.proofs.Basics.{nth-last}
 use Rattle.ownership_safety.proofs.Chain.{chain_stamp-suc, chain_place-suc, entry_rank-none, stamp_at-less, chosen-said}
 use Rattle.ownership_safety.proofs.Choice.{chosen-chain, chosen-not_below, chosen-clears}
 use Rattle.ownership_safety.proofs.Grows.{Extends, Extends-refl, Extends-append, each_node, decided-grows, chosen-grows, stamp_at-grows, place_at-grows}

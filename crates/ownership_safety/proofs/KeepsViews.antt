@@ -7,6 +7,7 @@ use Rattle.zeus_base.specs.NodeLaws.{IsRising, RisesFrom}
 use Rattle.zeus_base.specs.Order.{is_below}
 use Rattle.zeus_base.specs.OrderLaws.{is_below-irrefl}
 use Rattle.zeus_base.specs.declared.order.Stamp.{Stamp}
+use Rattle.zeus_base.specs.TableLaws.{nth-append, nth-last}
 use Rattle.zeus_packet.specs.declared.place.Place.{Place}
 use Rattle.zeus_packet.specs.declared.place.Proposal.{Proposal}
 use Rattle.zeus_packet.specs.declared.write.Content.{Content}
@@ -15,7 +16,7 @@ use Rattle.zeus_model.specs.Tables.{nth}
 use Rattle.ownership_safety.specs.Object.{Object, Letter, Invalidates, Acknowledges, Validates, In, IsView, IsLive, IsMember, view, rank}
 use Rattle.ownership_safety.specs.Moves.{SameSetting, SameOthers, Sends, nothing, NewView, Stops, Installs}
 use Rattle.ownership_safety.specs.OwnershipInvariant.{OwnershipInvariant, IsViewed, IsGather, IsDecided}
-use Rattle.ownership_safety.proofs.Basics.{nth-append, nth-append_each, nth-last}
+use Rattle.ownership_safety.proofs.Basics.{nth-append_each}
 use Rattle.ownership_safety.specs.Kept.{Grows}
 use Rattle.ownership_safety.proofs.Grows.{Extends-refl, each_node, rank-not_below, settled-not_below, stopped-kept, epoch-kept, decided-grows, member-grows}
 use Rattle.ownership_safety.proofs.Letters.{viewed-grows, live-back, invalidations-viewed, acknowledgements-viewed}

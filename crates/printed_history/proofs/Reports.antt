@@ -18,8 +18,8 @@ use Rattle.zeus_model.specs.Scripts.{FitsScript, FitsStep, FitsValue}
 use Rattle.zeus_model.specs.Serial.{start_map}
 use Rattle.zeus_model.specs.Sound.{history_txs, replies_of, times}
 use Rattle.zeus_model.specs.World.{World, Event, events, start, tx_decl}
+use Rattle.zeus_model.specs.InLaws.{In-append_left, In-append_right, In-append}
 use Rattle.machine_moves.specs.SystemState.{system}
-use Rattle.machine_moves.proofs.Lists.{In-append, In-append_left, In-append_right}
 use Rattle.soundness.specs.History.{IsInOrder}
 use Rattle.soundness.specs.Telling.{Does, IsTold, ids_of, told_acks, told_points}
 use Rattle.soundness.proofs.Runs.{run-sound, run-config}

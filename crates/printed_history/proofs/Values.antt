@@ -9,6 +9,7 @@ use Rattle.zeus_base.specs.declared.config.Config.{Config}
 use Rattle.zeus_base.specs.declared.config.ObjectDecl.{ObjectDecl}
 use Rattle.zeus_base.specs.declared.value.Value.{Value}
 use Rattle.zeus_base.specs.declared.value.Value.TheVariants.{Num, Text}
+use Rattle.zeus_base.specs.TableLaws.{nth-put_same}
 use Rattle.zeus_txn.specs.Map.{declared_content, no_content}
 use Rattle.zeus_txn.specs.Ops.{object_of}
 use Rattle.zeus_txn.specs.Run.{added, reaches, tested, effect, given, latest, rewritten, stored, fails_at, run_from, run}
@@ -21,7 +22,7 @@ use Rattle.zeus_model.specs.Scripts.{FitsValue}
 use Rattle.zeus_model.specs.Serial.{content, start_map, written_map, run_at, applied_map, serial_replies}
 use Rattle.zeus_model.specs.Spelling.{value_text}
 use Rattle.zeus_model.specs.Tables.{nth, put}
-use Rattle.machine_moves.proofs.Lists.{nth-put_same, nth-put_other}
+use Rattle.machine_moves.proofs.Lists.{nth-put_other}
 use Rattle.printed_history.proofs.Lines.{is_line, decimal-is_line}
 
 -- the value is one that a script can have, and so its text lacks byte 10

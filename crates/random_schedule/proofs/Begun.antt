@@ -6,9 +6,10 @@ use Rattle.std.proofs.lemmas.List.{length-replicate}
 use Rattle.std.proofs.lemmas.List.Elements.{All-nil, All-cons, All-append}
 use Rattle.std.proofs.lemmas.Option.{slice_get-map, slice_get_within}
 use Rattle.zeus_base.specs.Order.{same_stream}
-use Rattle.zeus_base.specs.TableLaws.{nth-put_other, nth-set_same, put-set, nth-replicate, nth-past}
+use Rattle.zeus_base.specs.TableLaws.{nth-put_other, nth-set_same, put-set, nth-replicate}
 use Rattle.zeus_base.specs.declared.config.Config.{Config}
 use Rattle.zeus_base.specs.declared.order.Stream.{Stream}
+use Rattle.zeus_base.specs.LoopLaws.{one_more, all_done}
 use Rattle.zeus_txn.specs.declared.tx.TxDecl.{TxDecl}
 use Rattle.zeus_model.specs.Book.{Book}
 use Rattle.zeus_model.specs.Readers.{is_live}
@@ -19,7 +20,7 @@ use Rattle.random_schedule.specs.Ready.{IsSlot, IsQueue, AreQueues, AreBegun, Ar
 use Rattle.random_schedule.specs.declared.queues.Queue.{Queue}
 use Rattle.random_schedule.proofs.Elements.{all_at, all_got, chosen_all, got, streams_slots}
 use Rattle.random_schedule.specs.Lists.{if_there}
-use Rattle.random_schedule.proofs.Making.{one_more, all_done, filter_map-cons}
+use Rattle.random_schedule.proofs.Making.{filter_map-cons}
 
 -- ---- the first that is not begun
 

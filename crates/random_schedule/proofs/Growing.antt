@@ -7,7 +7,7 @@ use Rattle.zeus_base.specs.declared.order.Stream.{Stream}
 use Rattle.zeus_base.specs.declared.step.Passed.{Passed}
 use Rattle.zeus_txn.specs.declared.reply.Reply.{Reply}
 use Rattle.zeus_model.specs.Tables.{nth, put, numbers_from}
-use Rattle.zeus_model.specs.Book.{Book, BookChange, TxRecord, record_of, no_record, unchanged, changed, change_then, book_begin, book_point, book_ack, book_commit, book_reply, book_read, book_refuse, point_once, ack_once, pass_tx, pass_numbers, book_passes, book_tried, tx_of}
+use Rattle.zeus_model.specs.Book.{Book, BookChange, TxRecord, record_of, no_record, book_only, change_then, book_begin, book_point, book_ack, book_commit, book_reply, book_read, book_refuse, point_once, ack_once, pass_tx, pass_numbers, book_passes, book_tried, tx_of}
 use Rattle.zeus_model.specs.World.{book_begun}
 use Rattle.zeus_model.specs.declared.answer.Begin.{Begin as BeginOutcome}
 use Rattle.zeus_model.specs.declared.answer.Begin.TheVariants.{Begun, Stopped, Busy}
@@ -111,7 +111,7 @@ passes-grow (p ∷ ps) me b =
 
 -- ---- tries
 
-refused-grows : (degree : Bool) (b : Book) (id : ℕ) → BookGrows b (if degree then changed (book_refuse b id) else unchanged b).book
+refused-grows : (degree : Bool) (b : Book) (id : ℕ) → BookGrows b (if degree then book_only (book_refuse b id) else book_only b).book
 refused-grows true b id = refuse-grows b id
 refused-grows false b id = book-same b
 

@@ -7,6 +7,5 @@ mod Begun
 mod Settling
 mod Running
 mod Turning
-mod StepKinds
 mod Links
 mod LastView

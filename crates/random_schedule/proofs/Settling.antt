@@ -1,6 +1,7 @@
 -- When all transactions are closed.
-use Rattle.std.proofs.Common.{ℕ, zero, suc, ◌≡◌, ◌<◌, ◌≤◌, ◌+◌, ◌-◌, Bool, true, false, List, [], ◌∷◌, length, arith, refl, ap, sym, ◌∙◌, inl, inr}
+use Rattle.std.proofs.Common.{ℕ, zero, suc, ◌≡◌, ◌<◌, ◌≤◌, ◌+◌, ◌-◌, Bool, true, false, List, [], length, arith, refl, ap, sym, ◌∙◌, inl, inr}
 use Rattle.std.proofs.lemmas.Bool.{cases_eq}
+use Rattle.zeus_base.specs.LoopLaws.{numbers-next}
 use Rattle.zeus_model.specs.Readers.{is_closed, each_closed, all_closed}
 use Rattle.zeus_model.specs.Tables.{numbers_from}
 use Rattle.zeus_model.specs.World.{World}
@@ -19,15 +20,6 @@ settled_more w i s h here = record {
     | inr other ↦ s.each k (omega arith)
   ];
 }
-
--- the numbers from k on, where there is one
-numbers-next : (k n : ℕ) → k < n → numbers_from k (n - k) ≡ k ∷ numbers_from (k + 1) (n - (k + 1))
-unfolding numbers_from
-numbers-next k n h =
-    let s : n - k ≡ suc (n - (k + 1)) = omega arith in
-    let t : numbers_from k (n - k) ≡ k ∷ numbers_from (suc k) (n - (k + 1)) = rw s refl in
-    let u : suc k ≡ k + 1 = omega arith in
-    t ∙ ap (λ j. k ∷ numbers_from j (n - (k + 1))) u
 
 -- a closed one in front changes nothing
 pub closed_on : (w : World) (k n : ℕ) → k < n → is_closed w k ≡ true → each_closed w (numbers_from (k + 1) (n - (k + 1))) ≡ each_closed w (numbers_from k (n - k))

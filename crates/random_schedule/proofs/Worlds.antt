@@ -8,7 +8,7 @@ use Rattle.zeus_base.specs.declared.step.Step.TheVariants.{Begin, Try, Deliver, 
 use Rattle.zeus_packet.specs.declared.letter.Letter.{Letter}
 use Rattle.zeus_model.specs.Tables.{nth, put}
 use Rattle.zeus_model.specs.State.{Node}
-use Rattle.zeus_model.specs.Book.{Book, BookChange, unchanged, counted, book_passes, book_tried, change_then, in_stream_order}
+use Rattle.zeus_model.specs.Book.{Book, BookChange, book_only, counted, book_passes, book_tried, change_then, in_stream_order}
 use Rattle.zeus_model.specs.Local.{begin, try_slot}
 use Rattle.zeus_model.specs.Membership.{install, stop, tick}
 use Rattle.zeus_model.specs.Receive.{receive}
@@ -90,9 +90,9 @@ step-grows w (Try n s) =
 step-grows w (Deliver from to i) = deliver-grows (nth_letter (link w.links from to) i) w from to
 step-grows w (Tick n) =
     let d = tick (node w n) in
-    acted-grows w n d.node (TickAnswer d.answer) (first_64 d.sent) (unchanged w.book) (tick-stays (node w n)) (book-same w.book)
+    acted-grows w n d.node (TickAnswer d.answer) (first_64 d.sent) (book_only w.book) (tick-stays (node w n)) (book-same w.book)
 step-grows w (Stop n) =
     let d = stop (node w n) in
-    acted-grows w n d.node (StopAnswer d.answer) [] (unchanged w.book) (stop-stays (node w n)) (book-same w.book)
+    acted-grows w n d.node (StopAnswer d.answer) [] (book_only w.book) (stop-stays (node w n)) (book-same w.book)
 step-grows w (View set) = view-grows (view_refused w set) w set
 step-grows w (Install n e) = install-grows w n e

@@ -5,7 +5,7 @@ use Rattle.zeus_base.specs.TableLaws.{length-put}
 use Rattle.zeus_base.specs.declared.order.Stream.{Stream}
 use Rattle.zeus_base.specs.declared.step.Passed.{Passed}
 use Rattle.zeus_txn.specs.declared.reply.Reply.{Reply}
-use Rattle.zeus_model.specs.Book.{Book, BookChange, TxRecord, ack_once, book_commit, book_passes, book_point, book_read, book_refuse, book_reply, book_tried, change_then, changed, unchanged, is_entry, no_record, pass_numbers, pass_tx, point_once, record_of, tx_from, tx_of}
+use Rattle.zeus_model.specs.Book.{Book, BookChange, TxRecord, ack_once, book_commit, book_passes, book_point, book_read, book_refuse, book_reply, book_tried, change_then, book_only, is_entry, no_record, pass_numbers, pass_tx, point_once, record_of, tx_from, tx_of}
 use Rattle.zeus_model.specs.Tables.{numbers_from}
 use Rattle.zeus_model.specs.declared.answer.Tried.{Tried}
 use Rattle.zeus_model.specs.declared.answer.Tried.TheVariants.{Stopped, Nothing, NoCopy, NotValid, Read, PipeFull, NotOwner, Held, WornOut, Committed}
@@ -82,7 +82,7 @@ read_sized b id reply h =
     let three = length-put no_record (book_point (book_reply b id reply) id).records id _ (rw (two, one) h) in
     record { records = three ∙ two ∙ one; steps = refl }
 
-refused_sized : (b : Book) (id : ℕ) (degree : Option ℕ) → id < length b.records → IsSized b (if is_none degree then changed (book_refuse b id) else unchanged b).book
+refused_sized : (b : Book) (id : ℕ) (degree : Option ℕ) → id < length b.records → IsSized b (if is_none degree then book_only (book_refuse b id) else book_only b).book
 refused_sized b id None h = put_sized b id (record (record_of b id) { refused = true }) h
 refused_sized b id (Some d) h = sized_same b
 

@@ -6,7 +6,7 @@ use Rattle.std.proofs.lemmas.Bool.{and_parts, cases_Bool, ltb-true, ltb-false}
 use Rattle.std.proofs.lemmas.List.Elements.{All-append, All-tail, All-head}
 use Rattle.std.proofs.lemmas.List.{length-replicate}
 use Rattle.zeus_base.specs.Limits.{KeepsLimits, limits_of}
-use Rattle.zeus_base.specs.TableLaws.{length-put, nth-put_same, nth-put_other, nth-past, nth-replicate, nth-append_old, nth-append_new}
+use Rattle.zeus_base.specs.TableLaws.{length-put, nth-put_same, nth-put_other, nth-replicate}
 use Rattle.zeus_base.specs.declared.config.Config.{Config}
 use Rattle.zeus_base.specs.declared.config.Limits.{Limits}
 use Rattle.zeus_base.specs.declared.step.Step.{Step}
@@ -17,7 +17,7 @@ use Rattle.zeus_packet.specs.declared.letter.Letter.{Letter}
 use Rattle.zeus_packet.specs.declared.place.View.{View as ViewOf}
 use Rattle.zeus_txn.specs.declared.tx.TxDecl.{TxDecl}
 use Rattle.zeus_model.specs.Act.{Did}
-use Rattle.zeus_model.specs.Book.{Book, BookChange, TxRecord, book_begin, book_passes, book_tried, changed, counted, change_then, in_stream_order, no_record, unchanged}
+use Rattle.zeus_model.specs.Book.{Book, BookChange, TxRecord, book_begin, book_passes, book_tried, book_only, counted, change_then, in_stream_order, no_record}
 use Rattle.zeus_model.specs.Local.{begin, try_slot}
 use Rattle.zeus_model.specs.Membership.{install, stop, tick}
 use Rattle.zeus_model.specs.Receive.{receive}
@@ -220,7 +220,7 @@ ranged_tick w n r h =
     let did = tick (node w n) in
     let keeps = tick-keeps (limits_of w.config) (node w n) (r.ranges n h) in
     let by = tick-by n (node w n) (r.numbers n h) in
-    ranged_acted w n did.node (TickAnswer did.answer) (first_64 did.sent) (unchanged w.book) r h keeps.node by.number (AllFit-take (limits_of w.config) 64 did.sent keeps.sent) (sized_same w.book)
+    ranged_acted w n did.node (TickAnswer did.answer) (first_64 did.sent) (book_only w.book) r h keeps.node by.number (AllFit-take (limits_of w.config) 64 did.sent keeps.sent) (sized_same w.book)
 
 ranged_stop : (w : World) (n : ℕ) → IsRanged w → n < w.config.nodes → IsRanged (stopped_at w n (stop (node w n))).world
 unfolding stopped_at
@@ -228,7 +228,7 @@ ranged_stop w n r h =
     let did = stop (node w n) in
     let keeps = stop-keeps (limits_of w.config) (node w n) (r.ranges n h) in
     let by = stop-by n (node w n) (r.numbers n h) in
-    ranged_acted w n did.node (StopAnswer did.answer) [] (unchanged w.book) r h keeps.node by.number (AllFit-none (limits_of w.config)) (sized_same w.book)
+    ranged_acted w n did.node (StopAnswer did.answer) [] (book_only w.book) r h keeps.node by.number (AllFit-none (limits_of w.config)) (sized_same w.book)
 
 below_fits : (c : Config) (set : List ℕ) → IsBelow c.nodes set → nodes_fit (limits_of c) set ≡ true
 below_fits c set h = nodes_fit-members (limits_of c) set h

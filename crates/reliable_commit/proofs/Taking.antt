@@ -1,5 +1,5 @@
 -- What a follower does with the letters of a stream, by its copies and streams alone.
-use Rattle.std.proofs.Common.{ℕ, ◌≡◌, ◌<◌, ◌≤◌, ◌==◌, Bool, true, false, nat_lt, List, [], ◌∷◌, ◌++◌, Option, None, length, refl, sym, ap, ◌∙◌}
+use Rattle.std.proofs.Common.{ℕ, ◌≡◌, ◌<◌, ◌≤◌, ◌==◌, Bool, true, false, nat_lt, List, [], ◌∷◌, ◌++◌, Option, length, refl, sym, ap, ◌∙◌}
 use Rattle.std.proofs.lemmas.Bool.{eq-eqb, eqb-true, false≢true, ne_eqb, lt-ltb, le-ltb}
 use Rattle.zeus_base.specs.declared.order.Stream.{Stream}
 use Rattle.zeus_packet.specs.declared.letter.Body.TheVariants.{RAck}
@@ -12,6 +12,7 @@ use Rattle.zeus_model.specs.declared.state.Copy.{Copy}
 use Rattle.zeus_model.specs.Act.{just, letter}
 use Rattle.zeus_model.specs.Commit.{applied, each_write, next_kept, on_rinv, on_rval, raise, stored_rinv}
 use Rattle.zeus_model.specs.State.{Node, StreamLog, log}
+use Rattle.zeus_model.specs.World.{no_node}
 use Rattle.follower_log.specs.Streams.{log_at}
 use Rattle.object_table.specs.Table.{AreWithin}
 use Rattle.reliable_commit.specs.Following.{IsFollowed, IsNodeWith, raised_copies, raised_logs}
@@ -134,24 +135,6 @@ done_high n cs ls me s d done node is h = rw (node.logs, ← is) h
 
 -- ---- which streams are followed after an entry
 
--- some node with these streams
-abbrev node_with : List (List StreamLog) → Node
-node_with logs =
-    record {
-      me = 0;
-      epoch = 0;
-      members = [];
-      directory = [];
-      degree = None;
-      reported = [];
-      stopped = false;
-      entries = [];
-      copies = [];
-      gathers = [];
-      slots = [];
-      logs = logs;
-    }
-
 followed_by : (k : ℕ) (n : Node) (from : ℕ) (r : RInv) (t : Stream) (a b c : Bool) → nat_lt r.number (next_kept (log n r.stream)) ≡ a → nat_lt (next_kept (log n r.stream)) r.number ≡ b → (length (log n r.stream).kept == 16) ≡ c → IsFollowed k n.logs r.stream → AreWithin k r.writes → IsFollowed k n.logs t → IsFollowed k (stored_rinv n from r).node.logs t
 unfolding stored_rinv
 followed_by k n from r t true b c low high full h w g = rw low g
@@ -165,6 +148,6 @@ followed_by k n from r t false false false low high full h w g =
 
 pub stored_followed : (k : ℕ) (logs after : List (List StreamLog)) (r : RInv) (t : Stream) → IsFollowed k logs r.stream → AreWithin k r.writes → ((n : Node) (from : ℕ) → n.logs ≡ logs → after ≡ (stored_rinv n from r).node.logs) → IsFollowed k logs t → IsFollowed k after t
 stored_followed k logs after r t h w is g =
-    let n = node_with logs in
+    let n : Node = record no_node { logs = logs } in
     rw (is n 0 refl)
     (followed_by k n 0 r t (nat_lt r.number (next_kept (log n r.stream))) (nat_lt (next_kept (log n r.stream)) r.number) (length (log n r.stream).kept == 16) refl refl refl h w g)

@@ -1,5 +1,5 @@
 -- What hinders a read.
-use Rattle.std.proofs.Common.{ℕ, suc, ◌≡◌, ◌<◌, ◌≤◌, ◌+◌, true, false, List, ◌∷◌, Option, Some, None, length, drop, refl, sym, ap, ◌∙◌, add-one, drop-cons}
+use Rattle.std.proofs.Common.{ℕ, ◌≡◌, ◌<◌, ◌≤◌, ◌+◌, true, false, List, Option, Some, None, length, drop, refl, sym, ap, ◌∙◌}
 use Rattle.std.specs.Prelude.{is_some}
 use Rattle.std.proofs.Math.ListN.{get_or}
 use Rattle.std.proofs.lemmas.List.{drop_all}
@@ -13,6 +13,7 @@ use Rattle.zeus_model.specs.Local.{Hindrance, hindrance, hindrance_at, unready}
 use Rattle.zeus_model.specs.Ownership.{not_valid}
 use Rattle.zeus_model.specs.State.{Node}
 use Rattle.zeus_model.specs.Tables.{first_of, nth, or_else}
+use Rattle.zeus_model.specs.TableLaws.{first_of-at}
 use Rattle.replica_reads.specs.declared.reads.Hindrance.{Hindrance as Found}
 use Rattle.replica_reads.specs.declared.reads.Hindrance.TheVariants.{Missing, Unready}
 use Rattle.replica_reads.specs.declared.reads.ReadTry.TheVariants.{Read}
@@ -51,14 +52,6 @@ unfolding told_hindrance or_else
 told_none None b e = refl
 told_none (Some (Missing x)) b e = cc
 told_none (Some (Unready x s)) b e = cc
-
-first_of-cons : {A B : Type 0} (f : A → Option B) (x : A) (xs : List A) → first_of f (x ∷ xs) ≡ or_else (f x) (first_of f xs)
-unfolding first_of
-first_of-cons f x xs = refl
-
-first_of-at : {A B : Type 0} (f : A → Option B) (xs : List A) (i : ℕ) (x : A) → i < length xs → x ≡ get_or xs i x → first_of f (drop i xs) ≡ or_else (f x) (first_of f (drop (i + 1) xs))
-first_of-at f xs i x h e =
-    rw (add-one, drop-cons xs i x h, ← e) (first_of-cons f x (drop (suc i) xs))
 
 pub first_found : (f : ℕ → Option Hindrance) (xs : List ℕ) (i x : ℕ) (o : Option Found) → i < length xs → x ≡ get_or xs i x → told_hindrance o ≡ f x → is_some o ≡ true → told_hindrance o ≡ first_of f (drop i xs)
 first_found f xs i x o h e t s =

@@ -4,7 +4,7 @@ use Rattle.std.proofs.Common.{arith, refl, sym, ap, ◌∙◌, inl, inr}
 use Rattle.std.proofs.lemmas.Bool.{cases_lt, cases_eq}
 use Rattle.std.proofs.lemmas.List.{length-append}
 use Rattle.zeus_base.specs.Nodes.{has}
-use Rattle.zeus_base.specs.TableLaws.{nth-append_old, nth-append_new}
+use Rattle.zeus_base.specs.TableLaws.{nth-append, nth-last}
 use Rattle.zeus_model.specs.Commit.{no_kept}
 use Rattle.zeus_model.specs.declared.state.Kept.{Kept}
 use Rattle.replication_safety.specs.StreamState.{StreamState, Entry, Stores, In, IsView, IsLive, IsMember, IsOut, Has, HasReported, view, top, kept_at, entry_of}
@@ -76,7 +76,7 @@ appends-has_before old new n m k x a h =
 -- the entries of before stand where they stood
 appends-old_here : (old new : StreamState) (n k : ℕ) (x : Entry) → Appends old new n x → Has old n k → kept_at new n k ≡ kept_at old n k
 appends-old_here old new n k x a h =
-    rw (a.done, a.kept) (nth-append_old no_kept (old.kept n) (unacked x ∷ []) (k - old.done n) (omega (arith, h.0, h.1)))
+    rw (a.done, a.kept) (nth-append no_kept (old.kept n) (unacked x ∷ []) (k - old.done n) (omega (arith, h.0, h.1)))
 
 pub appends-old : (old new : StreamState) (n m k : ℕ) (x : Entry) → Appends old new n x → Has old m k → kept_at new m k ≡ kept_at old m k
 appends-old old new n m k x a h =
@@ -88,7 +88,7 @@ appends-old old new n m k x a h =
 pub appends-new : (old new : StreamState) (n : ℕ) (x : Entry) → Appends old new n x → kept_at new n (top old n) ≡ unacked x
 appends-new old new n x a =
     let place : top old n - old.done n ≡ length (old.kept n) = omega arith in
-    rw (a.done, a.kept, place) (nth-append_new no_kept (old.kept n) (unacked x))
+    rw (a.done, a.kept, place) (nth-last no_kept (old.kept n) (unacked x))
 
 appends-kept : (old new : StreamState) (passed n m k : ℕ) (x : Entry) → Appends old new n x → IsAdded new passed n (top old n) → Has new m k → WasKept old new m k ⊎ IsAdded new passed m k
 appends-kept old new passed n m k x a added h =

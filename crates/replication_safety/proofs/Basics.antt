@@ -1,29 +1,13 @@
--- Members of lists, the letters that are sent, what a node keeps, and views that shrink.
-use Rattle.std.specs.Prelude.{ℕ, zero, suc, ◌≡◌, ◌≢◌, ◌+◌, ◌-◌, ◌<◌, ◌≤◌, true, List, [], ◌∷◌, ◌++◌, length, ◌⊎◌}
+-- The letters that are sent, what a node keeps, and views that shrink.
+use Rattle.std.specs.Prelude.{ℕ, zero, suc, ◌≡◌, ◌≢◌, ◌+◌, ◌-◌, ◌<◌, ◌≤◌, true, List, ◌++◌, length}
 use Rattle.std.proofs.Common.{arith, sym, subst, inl, inr}
 use Rattle.std.proofs.lemmas.Bool.{cases_lt, cases_eq}
 use Rattle.zeus_base.specs.Nodes.{is_subset}
 use Rattle.zeus_base.specs.NodeLaws.{is_subset-refl, is_subset-trans, is_subset-has}
-use Rattle.replication_safety.specs.StreamState.{StreamState, Letter, In, here, there, IsView, IsLive, IsMember, IsOut, view, top}
+use Rattle.zeus_model.specs.InLaws.{In-append_left, In-append}
+use Rattle.replication_safety.specs.StreamState.{StreamState, Letter, In, IsView, IsLive, IsMember, IsOut, view, top}
 use Rattle.replication_safety.specs.Moves.{Sends, nothing}
 use Rattle.replication_safety.specs.ReplicationInvariant.{IsViewed, Holds}
-
--- ---- members of lists
-
-pub In-append_left : {A : Type 0} (a : A) (xs ys : List A) → In a xs → In a (xs ++ ys)
-In-append_left a [] ys m = elim m [ ]
-In-append_left a (x ∷ xs) ys (here _ _ e) = here x (xs ++ ys) e
-In-append_left a (x ∷ xs) ys (there _ _ m) = there x (xs ++ ys) (In-append_left a xs ys m)
-
-pub In-append_right : {A : Type 0} (a : A) (xs ys : List A) → In a ys → In a (xs ++ ys)
-In-append_right a [] ys m = m
-In-append_right a (x ∷ xs) ys m = there x (xs ++ ys) (In-append_right a xs ys m)
-
-pub In-append : {A : Type 0} (a : A) (xs ys : List A) → In a (xs ++ ys) → In a xs ⊎ In a ys
-In-append a [] ys m = inr m
-In-append a (x ∷ xs) ys (here _ _ e) = inl (here x xs e)
-In-append a (x ∷ xs) ys (there _ _ m) =
-    elim (In-append a xs ys m) [ inl l ↦ inl (there x xs l) | inr r ↦ inr r ]
 
 -- ---- letters
 

@@ -4,7 +4,7 @@ use Rattle.std.proofs.Common.{arith, ap, inl, inr}
 use Rattle.std.proofs.lemmas.Bool.{cases_lt, cases_eq}
 use Rattle.std.proofs.lemmas.List.{length-append}
 use Rattle.zeus_base.specs.Nodes.{has, is_subset}
-use Rattle.zeus_base.specs.TableLaws.{nth-append_old, nth-append_new}
+use Rattle.zeus_base.specs.TableLaws.{nth-append, nth-last}
 use Rattle.replication_safety.specs.StreamState.{StreamState, Stores, Stored, Passes, Reports, In, IsView, IsLive, IsMember, HasReported, view}
 use Rattle.replication_safety.specs.Moves.{NewView, Stops, Installs}
 use Rattle.replication_safety.specs.ReplicationInvariant.{IsViewed, ReplicationInvariant}
@@ -151,12 +151,12 @@ view-length : (old new : StreamState) (set : List ℕ) → NewView old new set �
 view-length old new set s = omega (arith, ap length s.views, length-append old.views (set ∷ []))
 
 view-old : (old new : StreamState) (set : List ℕ) (e : ℕ) → NewView old new set → IsView old e → view new e ≡ view old e
-view-old old new set e s v = rw s.views (nth-append_old [] old.views (set ∷ []) (e - 1) (omega (arith, v.0, v.1)))
+view-old old new set e s v = rw s.views (nth-append [] old.views (set ∷ []) (e - 1) (omega (arith, v.0, v.1)))
 
 view-last : (old new : StreamState) (set : List ℕ) (e : ℕ) → NewView old new set → e ≡ suc (length old.views) → view new e ≡ set
 view-last old new set e s last =
     let place : e - 1 ≡ length old.views = omega arith in
-    rw (s.views, place) (nth-append_new [] old.views set)
+    rw (s.views, place) (nth-last [] old.views set)
 
 view-cases : (old new : StreamState) (set : List ℕ) (e : ℕ) → NewView old new set → IsView new e → IsView old e ⊎ (e ≡ suc (length old.views))
 view-cases old new set e s v =

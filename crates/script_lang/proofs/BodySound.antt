@@ -22,7 +22,8 @@ use Rattle.script_lang.specs.declared.stage.Stage.{Stage}
 use Rattle.script_lang.specs.declared.stage.Stage.TheVariants as stages
 use Rattle.script_lang.specs.Drafts.{State, degree_taken, object_taken, tx_taken, run_taken, step_taken, tx_line_taken, object_line_taken, degree_line_taken, more, step_line_taken, body_taken, line_taken}
 use Rattle.script_lang.specs.Reads.{◌>>=◌, word_at}
-use Rattle.script_lang.proofs.DraftFits.{config_of, HeadFits, AreObjects, BodyFits, Fits, declared_lines, lines_at, Adds}
+use Rattle.script_lang.specs.Reading.{config_of}
+use Rattle.script_lang.proofs.DraftFits.{HeadFits, AreObjects, BodyFits, Fits, declared_lines, lines_at, Adds}
 use Rattle.script_lang.proofs.DraftSound.{word_at-sound, version_taken-sound, nodes_taken-sound, slots_taken-sound, directory_taken-sound}
 use Rattle.script_lang.proofs.FindLaws.{bytes_eq-true, find-nowhere}
 use Rattle.script_lang.proofs.NumberLaws.{range_at-sound}

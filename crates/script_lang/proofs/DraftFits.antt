@@ -4,7 +4,6 @@ use Rattle.std.specs.Prelude.{codes, decimal, map, IfSome, AllPairs}
 use Rattle.std.specs.List.{AllByRecursion}
 use Rattle.zeus_base.specs.Limits.{KeepsDeclaration}
 use Rattle.zeus_base.specs.NodeLaws.{IsRising, IsBelow}
-use Rattle.zeus_base.specs.declared.config.Config.{Config}
 use Rattle.zeus_base.specs.declared.config.ObjectDecl.{ObjectDecl}
 use Rattle.zeus_model.specs.Names.{IsName}
 use Rattle.zeus_model.specs.Scripts.{FitsValue, FitTxs, FitsStep}
@@ -13,17 +12,7 @@ use Rattle.script_lang.specs.declared.head.Head.{Head}
 use Rattle.script_lang.specs.declared.stage.Stage.{Stage}
 use Rattle.script_lang.specs.declared.stage.Stage.TheVariants as stages
 use Rattle.script_lang.specs.Drafts.{State}
-
--- the configuration so far
-abbrev pub config_of : State → Config
-config_of s = record {
-  version = s.head.version;
-  nodes = s.head.nodes;
-  slots = s.head.slots;
-  directory = s.head.directory;
-  degree = s.head.degree;
-  objects = s.objects;
-}
+use Rattle.script_lang.specs.Reading.{config_of}
 
 -- the version is read
 abbrev pub HasVersion : Head → Type 0

@@ -12,7 +12,8 @@ use Rattle.zeus_model.specs.Tables.{nth}
 use Rattle.zeus_model.specs.Words.{is_among}
 use Rattle.script_lang.specs.Drafts.{State}
 use Rattle.script_lang.specs.Live.{opening}
-use Rattle.script_lang.proofs.DraftFits.{config_of, declared_lines}
+use Rattle.script_lang.specs.Reading.{config_of}
+use Rattle.script_lang.proofs.DraftFits.{declared_lines}
 use Rattle.script_lang.proofs.LineOrder.{words_behind}
 use Rattle.script_lang.proofs.LineRows.{said_of}
 use Rattle.script_lang.proofs.RowLaws.{number_in-decimal}

@@ -16,9 +16,9 @@ use Rattle.script_lang.specs.declared.reading.ReadScript.{ReadScript}
 use Rattle.script_lang.specs.Cut.{cut}
 use Rattle.script_lang.specs.Drafts.{State, line_taken}
 use Rattle.script_lang.specs.Live.{FitsLive}
-use Rattle.script_lang.specs.Reading.{start, fault_at, is_last, line_done, lines_taken, script_of, scripted, script_read, ReadsScript}
+use Rattle.script_lang.specs.Reading.{start, fault_at, is_last, line_done, lines_taken, script_of, scripted, script_read, ReadsScript, config_of}
 use Rattle.script_lang.proofs.BodySound.{Goes, line_taken-sound}
-use Rattle.script_lang.proofs.DraftFits.{config_of, HeadFits, BodyFits, Fits, lines_at, Adds}
+use Rattle.script_lang.proofs.DraftFits.{HeadFits, BodyFits, Fits, lines_at, Adds}
 use Rattle.script_lang.proofs.Sound.{read_is}
 use Rattle.script_lang.proofs.TextLaws.{words_text-cut, lines_of_parts}
 

@@ -1,5 +1,6 @@
 -- Reading a script line by line, to the first fault.
 use Rattle.std.specs.Prelude.{◌≡◌, ℕ, suc, Bool, true, false, nat_lt, List, [], ◌∷◌, None, Result, Ok, Err, length, if◌then◌else◌}
+use Rattle.zeus_base.specs.declared.config.Config.{Config}
 use Rattle.zeus_model.specs.declared.fault.Kind.{Kind}
 use Rattle.zeus_model.specs.declared.fault.Kind.TheVariants as kinds
 use Rattle.zeus_model.specs.declared.fault.ScriptFault.{ScriptFault}
@@ -48,17 +49,21 @@ lines_taken live s n [] = Err (fault_at n kinds.Missing)
 lines_taken live s n (p ∷ []) = Err (fault_at n (unended p))
 lines_taken live s n (p ∷ q ∷ ps) = line_done (line_taken live s s.stage (cut 32 p)) n (q ∷ ps) (λ t. lines_taken live t (suc n) (q ∷ ps))
 
+-- the configuration so far
+abbrev pub config_of : State → Config
+config_of s = record {
+  version = s.head.version;
+  nodes = s.head.nodes;
+  slots = s.head.slots;
+  directory = s.head.directory;
+  degree = s.head.degree;
+  objects = s.objects;
+}
+
 -- the script that the lines say
 unfoldable pub script_of : State → Script
 script_of s = record {
-  config = record {
-    version = s.head.version;
-    nodes = s.head.nodes;
-    slots = s.head.slots;
-    directory = s.head.directory;
-    degree = s.head.degree;
-    objects = s.objects;
-  };
+  config = config_of s;
   names = s.names;
   txs = s.txs;
   steps = s.steps;

@@ -14,11 +14,11 @@ use Rattle.zeus_model.specs.declared.answer.Begin.{Begin as BeginOutcome}
 use Rattle.zeus_model.specs.declared.answer.Begin.TheVariants.{Begun, Stopped as BeginStopped, Busy}
 use Rattle.zeus_model.specs.declared.answer.Tried.{Tried}
 use Rattle.zeus_model.specs.declared.answer.Tried.TheVariants.{NoCopy, Read, Committed}
-use Rattle.zeus_model.specs.Book.{Book, BookChange, EntryId, TxRecord, no_record, record_of, with_record, changed, unchanged, book_point, book_commit, book_reply, book_refuse, book_read, book_tried, point_once, ack_once}
+use Rattle.zeus_model.specs.Book.{Book, BookChange, EntryId, TxRecord, no_record, record_of, with_record, book_only, book_point, book_commit, book_reply, book_refuse, book_read, book_tried, point_once, ack_once}
 use Rattle.zeus_model.specs.World.{book_begun}
 use Rattle.soundness.specs.Telling.{how_often, ids_of}
 use Rattle.soundness.proofs.Written.{Writes, leaves, fills}
-use Rattle.soundness.proofs.BookChanges.{keeps, Said, nothing_said, IsRewritten, IsChange, IsChange-then, IsChange-unchanged}
+use Rattle.soundness.proofs.BookChanges.{keeps, Said, nothing_said, IsRewritten, IsChange, IsChange-then, IsChange-book_only}
 use Rattle.soundness.proofs.BookPasses.{SaysReplies, records_one, how_often-none, how_often-one, point_once-change, ack_once-change, pointed-here}
 
 -- ---- what an answer says
@@ -48,7 +48,7 @@ said step _ _ id = silence
 
 -- a change of one record that tells no point and no acknowledgement
 one_record : (b : Book) (of : ℕ → Said) (id : ℕ) (r : TxRecord) → IsRewritten b.steps (of id) 0 0 (record_of b id) r → ((j : ℕ) → j ≢ id → of j ≡ silence)
-    → IsChange b (changed (with_record b id r)) of
+    → IsChange b (book_only (with_record b id r)) of
 unfolding ids_of
 one_record b of id r at others = record {
   counts = refl;
@@ -65,8 +65,8 @@ one_record b of id r at others = record {
 
 pub begun-change : (b : Book) (k : ℕ) (a : BeginOutcome) → (record_of b k).begun ≡ None → IsChange b (book_begun b k a) (said_begin b.steps k a)
 unfolding book_begun said_begin
-begun-change b k BeginStopped none = IsChange-unchanged b
-begun-change b k (Busy j) none = IsChange-unchanged b
+begun-change b k BeginStopped none = IsChange-book_only b
+begun-change b k (Busy j) none = IsChange-book_only b
 begun-change b k Begun none =
     let r = record_of b k in
     one_record b (said_begin b.steps k Begun) k (record r { begun = Some b.steps })
@@ -94,7 +94,7 @@ pub record IsOpen (r : TxRecord) : Type 0 where
   pub point : r.point ≡ None
   pub acked : r.acked ≡ None
 
-commit-change : (b : Book) (t : Stream) (id number : ℕ) (reply : Reply) → IsOpen (record_of b id) → IsChange b (changed (book_commit b t id number reply)) (said_tried t (Committed id number reply))
+commit-change : (b : Book) (t : Stream) (id number : ℕ) (reply : Reply) → IsOpen (record_of b id) → IsChange b (book_only (book_commit b t id number reply)) (said_tried t (Committed id number reply))
 unfolding said_tried
 commit-change b t id number reply new =
     let r = record_of b id in
@@ -109,7 +109,7 @@ commit-change b t id number reply new =
     })
     (λ j other. rw (ne_eqb id j (λ e. other (sym e))) refl)
 
-reply-change : (b : Book) (t : Stream) (id : ℕ) (reply : Reply) → IsOpen (record_of b id) → IsChange b (changed (book_reply b id reply)) (said_tried t (Read id reply))
+reply-change : (b : Book) (t : Stream) (id : ℕ) (reply : Reply) → IsOpen (record_of b id) → IsChange b (book_only (book_reply b id reply)) (said_tried t (Read id reply))
 unfolding said_tried
 reply-change b t id reply new =
     let r = record_of b id in
@@ -132,13 +132,13 @@ read-change b t id reply new =
     let now : record_of replied id ≡ record (record_of b id) { reply = Some reply } = nth-put_same no_record b.records id (record (record_of b id) { reply = Some reply }) in
     let later : record_of pointed id ≡ record (record_of replied id) { point = Some b.steps } = pointed-here replied id in
     IsChange-then b record { book = pointed; points = id ∷ []; acked = [] } (ack_once pointed id true None) (said_tried t (Read id reply))
-    (IsChange-then b (changed replied) (point_once replied id None) (said_tried t (Read id reply)) (reply-change b t id reply new)
+    (IsChange-then b (book_only replied) (point_once replied id None) (said_tried t (Read id reply)) (reply-change b t id reply new)
     (point_once-change replied id None reply (ap (λ (r : TxRecord). r.point) now ∙ new.point) (ap (λ (r : TxRecord). r.reply) now)))
     (ack_once-change pointed id true None (ap (λ (r : TxRecord). r.acked) later ∙ ap (λ (r : TxRecord). r.acked) now ∙ new.acked))
 
-refuse-change : (b : Book) (t : Stream) (id x : ℕ) (none : Bool) → IsChange b (if none then changed (book_refuse b id) else unchanged b) (said_tried t (NoCopy id x))
+refuse-change : (b : Book) (t : Stream) (id x : ℕ) (none : Bool) → IsChange b (if none then book_only (book_refuse b id) else book_only b) (said_tried t (NoCopy id x))
 unfolding said_tried
-refuse-change b t id x false = IsChange-unchanged b
+refuse-change b t id x false = IsChange-book_only b
 refuse-change b t id x true =
     let r = record_of b id in
     one_record b nothing_said id (record r { refused = true })
@@ -150,7 +150,7 @@ unfolding book_tried said_tried ended_id
 tried-change b t degree (Committed id number reply) new = commit-change b t id number reply (new id refl)
 tried-change b t degree (Read id reply) new = read-change b t id reply (new id refl)
 tried-change b t degree (NoCopy id x) new = refuse-change b t id x (is_none degree)
-tried-change b t degree _ new = IsChange-unchanged b
+tried-change b t degree _ new = IsChange-book_only b
 
 -- ---- what is said comes with its reply
 

@@ -5,8 +5,8 @@ use Rattle.std.proofs.lemmas.Bool.{cases_Bool}
 use Rattle.std.proofs.lemmas.List.{append-nil, append_assoc}
 use Rattle.zeus_txn.specs.declared.reply.Reply.{Reply}
 use Rattle.zeus_model.specs.In.{In}
-use Rattle.zeus_model.specs.Book.{Book, BookChange, EntryId, Point, TxRecord, record_of, unchanged, changes_joined}
-use Rattle.machine_moves.proofs.Lists.{In-append}
+use Rattle.zeus_model.specs.Book.{Book, BookChange, EntryId, Point, TxRecord, record_of, book_only, changes_joined}
+use Rattle.zeus_model.specs.InLaws.{In-append}
 use Rattle.soundness.specs.Telling.{how_often, ids_of}
 use Rattle.soundness.proofs.Written.{Writes, leaves, Writes-none}
 
@@ -105,9 +105,9 @@ IsChange-then b c d said first second = record {
 pub IsRewritten-same : (step : ℕ) (r : TxRecord) → IsRewritten step record { begun = None; entry = None; reply = None } 0 0 r r
 IsRewritten-same step r = record { begun = leaves r.begun; entry = leaves r.entry; reply = leaves r.reply; point = keeps r.point; acked = keeps r.acked }
 
-pub IsChange-unchanged : (b : Book) → IsChange b (unchanged b) nothing_said
+pub IsChange-book_only : (b : Book) → IsChange b (book_only b) nothing_said
 unfolding ids_of how_often
-IsChange-unchanged b = record {
+IsChange-book_only b = record {
   counts = refl;
   added = [];
   points = sym (append-nil b.points);

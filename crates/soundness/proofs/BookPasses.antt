@@ -10,11 +10,11 @@ use Rattle.zeus_txn.specs.declared.reply.Reply.{Reply}
 use Rattle.zeus_model.specs.In.{In, here, there}
 use Rattle.zeus_model.specs.Tables.{nth, numbers_from}
 use Rattle.zeus_model.specs.Book.{Book, BookChange, EntryId, Point, TxRecord, no_record, record_of, reply_or, book_point, book_ack, point_once, ack_once, is_entry, tx_from, tx_of, pass_tx, pass_numbers, book_passes}
-use Rattle.machine_moves.proofs.Lists.{In-append}
+use Rattle.zeus_model.specs.InLaws.{In-append}
 use Rattle.invariants.proofs.ObjectSeen.{same_or_not}
 use Rattle.soundness.specs.Telling.{how_often, ids_of}
 use Rattle.soundness.proofs.Written.{Writes, leaves, fills, Writes-some}
-use Rattle.soundness.proofs.BookChanges.{Notes, keeps, notes, Said, nothing_said, IsRewritten, IsRewritten-same, IsChange, IsChange-then, IsChange-unchanged}
+use Rattle.soundness.proofs.BookChanges.{Notes, keeps, notes, Said, nothing_said, IsRewritten, IsRewritten-same, IsChange, IsChange-then, IsChange-book_only}
 
 -- ---- a history has the replies of its records
 
@@ -156,7 +156,7 @@ reply_added b id reply p has_reply i =
 
 pub point_once-change : (b : Book) (id : ℕ) (o : Option ℕ) (reply : Reply) → (record_of b id).point ≡ o → (record_of b id).reply ≡ Some reply → IsChange b (point_once b id o) nothing_said
 unfolding point_once ids_of
-point_once-change b id (Some step) reply is has_reply = IsChange-unchanged b
+point_once-change b id (Some step) reply is has_reply = IsChange-book_only b
 point_once-change b id None reply is has_reply = record {
   counts = refl;
   added = record { id = id; reply = reply_or (record_of b id).reply } ∷ [];
@@ -169,8 +169,8 @@ point_once-change b id None reply is has_reply = record {
 
 pub ack_once-change : (b : Book) (id : ℕ) (own : Bool) (o : Option ℕ) → (record_of b id).acked ≡ o → IsChange b (ack_once b id own o) nothing_said
 unfolding ack_once ids_of
-ack_once-change b id own (Some step) is = IsChange-unchanged b
-ack_once-change b id false None is = IsChange-unchanged b
+ack_once-change b id own (Some step) is = IsChange-book_only b
+ack_once-change b id false None is = IsChange-book_only b
 ack_once-change b id true None is = record {
   counts = refl;
   added = [];
@@ -189,7 +189,7 @@ some_reply (Some r) h = (r, refl)
 
 pass_tx-change : (b : Book) (own : Bool) (found : Option ℕ) → HasReplies b → ((id : ℕ) → found ≡ Some id → is_some (record_of b id).entry ≡ true) → IsChange b (pass_tx b own found) nothing_said
 unfolding pass_tx
-pass_tx-change b own None r entry = IsChange-unchanged b
+pass_tx-change b own None r entry = IsChange-book_only b
 pass_tx-change b own (Some id) r entry =
     let c = point_once b id (record_of b id).point in
     let reply = some_reply (record_of b id).reply (r.entries id (entry id refl)) in
@@ -224,7 +224,7 @@ tx_of-entry b s k id h =
 
 pub pass_numbers-change : (b : Book) (own : Bool) (s : Stream) (ks : List ℕ) → HasReplies b → IsChange b (pass_numbers b own s ks) nothing_said
 unfolding pass_numbers
-pass_numbers-change b own s [] r = IsChange-unchanged b
+pass_numbers-change b own s [] r = IsChange-book_only b
 pass_numbers-change b own s (k ∷ ks) r =
     let c = pass_tx b own (tx_of b s k) in
     let first = pass_tx-change b own (tx_of b s k) r (λ id h. tx_of-entry b s k id h) in
@@ -232,7 +232,7 @@ pass_numbers-change b own s (k ∷ ks) r =
 
 pub book_passes-change : (b : Book) (me : ℕ) (ps : List Passed) → HasReplies b → IsChange b (book_passes b me ps) nothing_said
 unfolding book_passes
-book_passes-change b me [] r = IsChange-unchanged b
+book_passes-change b me [] r = IsChange-book_only b
 book_passes-change b me (p ∷ ps) r =
     let c = pass_numbers b (p.stream.node == me) p.stream (numbers_from p.first (p.after - p.first)) in
     let first = pass_numbers-change b (p.stream.node == me) p.stream (numbers_from p.first (p.after - p.first)) r in

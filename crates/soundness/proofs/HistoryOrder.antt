@@ -7,7 +7,7 @@ use Rattle.zeus_model.specs.In.{In, here, there}
 use Rattle.zeus_model.specs.Book.{Point, record_of}
 use Rattle.zeus_model.specs.Sound.{IsOneHistory, times}
 use Rattle.zeus_model.specs.World.{World, Event, events, run}
-use Rattle.machine_moves.proofs.Lists.{In-append}
+use Rattle.zeus_model.specs.InLaws.{In-append}
 use Rattle.invariants.proofs.ObjectSeen.{same_or_not}
 use Rattle.soundness.specs.History.{StandsBefore, first, later, IsInOrder}
 use Rattle.soundness.specs.Telling.{IsTold, ids_of, told_points}

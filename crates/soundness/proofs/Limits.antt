@@ -4,7 +4,7 @@ use Rattle.std.proofs.Common.{arith, refl, inl, inr, ◌∙◌}
 use Rattle.std.proofs.lemmas.Bool.{cases_Bool, cases_lt}
 use Rattle.std.proofs.lemmas.Bool.Decides.{nat_tests}
 use Rattle.std.proofs.lemmas.List.Elements.{All-head, All-tail}
-use Rattle.zeus_base.specs.TableLaws.{length-put}
+use Rattle.zeus_base.specs.TableLaws.{length-put, nth-past}
 use Rattle.zeus_base.specs.declared.config.Config.{Config}
 use Rattle.zeus_base.specs.declared.step.Step.{Step}
 use Rattle.zeus_base.specs.declared.step.Step.TheVariants.{Begin, Try, Deliver, Tick, Stop, View, Install}
@@ -19,7 +19,7 @@ use Rattle.zeus_model.specs.World.{World, no_node, no_tx, node, tx_decl, start, 
 use Rattle.zeus_model.specs.declared.answer.Answer.{Answer}
 use Rattle.zeus_model.specs.declared.answer.Made.{Made}
 use Rattle.machine_moves.specs.Fits.{StepFits}
-use Rattle.machine_moves.proofs.Lists.{length-map_numbers, nth-past}
+use Rattle.machine_moves.proofs.Lists.{length-map_numbers}
 use Rattle.data_safety.proofs.Beginning.{NamesDeclared}
 
 -- ---- transactions name declared objects

@@ -6,6 +6,7 @@ use Rattle.std.proofs.lemmas.List.Elements.{All-head, All-tail}
 use Rattle.zeus_base.specs.Limits.{KeepsLimits}
 use Rattle.zeus_base.specs.declared.config.Config.{Config}
 use Rattle.zeus_base.specs.declared.step.Step.{Step}
+use Rattle.zeus_base.specs.TableLaws.{nth-past}
 use Rattle.zeus_packet.specs.declared.letter.Letter.{Letter}
 use Rattle.zeus_txn.specs.declared.tx.TxDecl.{TxDecl}
 use Rattle.zeus_model.specs.In.{In}
@@ -15,7 +16,7 @@ use Rattle.zeus_model.specs.World.{World, no_node, link, start, start_node, star
 use Rattle.machine_moves.specs.Fits.{StepFits}
 use Rattle.machine_moves.specs.SystemState.{system}
 use Rattle.machine_moves.proofs.Links.{In-to_link}
-use Rattle.machine_moves.proofs.Lists.{In-nothing, nth-past, nth-map_numbers, length-map_numbers, nth-replicate}
+use Rattle.machine_moves.proofs.Lists.{In-nothing, nth-map_numbers, length-map_numbers, nth-replicate}
 use Rattle.machine_moves.proofs.Runs.{usual_after}
 use Rattle.machine_moves.proofs.Start.{start_usual, start-config}
 use Rattle.machine_moves.proofs.Steps.{IsStep, IsUsual, step_is_moves}

@@ -7,6 +7,7 @@ use Rattle.zeus_base.specs.Order.{is_below, same_stamp}
 use Rattle.zeus_base.specs.OrderLaws.{is_below-irrefl}
 use Rattle.zeus_base.specs.declared.order.Stamp.{Stamp}
 use Rattle.zeus_base.specs.declared.order.Stream.{Stream}
+use Rattle.zeus_base.specs.TableLaws.{nth-put_same}
 use Rattle.zeus_packet.specs.Place.{arbiters}
 use Rattle.zeus_packet.specs.declared.letter.Body.{Body}
 use Rattle.zeus_packet.specs.declared.letter.Body.TheVariants.{OInv, OAck, OVal}
@@ -29,7 +30,7 @@ use Rattle.zeus_model.specs.Local.{rewritten_copy, committed}
 use Rattle.zeus_model.specs.Membership.{dropped}
 use Rattle.zeus_model.specs.Ownership.{settle, settled_entry, gather_above, holding, is_source, own_content, content_of, gather_for, noted, bring, brought}
 use Rattle.machine_moves.specs.SystemState.{SystemState}
-use Rattle.machine_moves.proofs.Lists.{nth-put_same, nth-put_other}
+use Rattle.machine_moves.proofs.Lists.{nth-put_other}
 use Rattle.ownership_safety.specs.Object.{first_stamp, no_place}
 
 -- a proposal on the placement that an undeclared object has

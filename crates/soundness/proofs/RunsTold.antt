@@ -10,8 +10,8 @@ use Rattle.zeus_model.specs.Book.{Point, record_of}
 use Rattle.zeus_model.specs.In.{In, here, there}
 use Rattle.zeus_model.specs.Scripts.{FitsTxs, FitsStep}
 use Rattle.zeus_model.specs.World.{World, Event, events, happens, run, start, stepped}
+use Rattle.zeus_model.specs.InLaws.{In-append_left, In-append_right}
 use Rattle.machine_moves.specs.Fits.{StepFits}
-use Rattle.machine_moves.proofs.Lists.{In-append_left, In-append_right}
 use Rattle.machine_moves.proofs.Start.{start-config}
 use Rattle.machine_moves.proofs.Steps.{IsStep, step_is_moves}
 use Rattle.data_safety.specs.RunState.{run_state}

@@ -20,7 +20,7 @@ use Rattle.zeus_model.specs.declared.answer.Tried.TheVariants.{Stopped, Read, No
 use Rattle.zeus_model.specs.declared.state.Current.{Current}
 use Rattle.zeus_model.specs.State.{Node, slot}
 use Rattle.zeus_model.specs.Act.{Did, just}
-use Rattle.zeus_model.specs.Book.{Book, BookChange, Point, TxRecord, record_of, unchanged, change_then, counted, book_tried, book_passes, in_stream_order}
+use Rattle.zeus_model.specs.Book.{Book, BookChange, Point, TxRecord, record_of, book_only, change_then, counted, book_tried, book_passes, in_stream_order}
 use Rattle.zeus_model.specs.Local.{begin, Hindrance, Missing, Unready, hindrance, read_missing, read_row, write_cause, write_row, commit, commit_entry, try_current, try_slot}
 use Rattle.zeus_model.specs.Membership.{install}
 use Rattle.zeus_model.specs.World.{World, Event, node, tx_decl, link, refuse_step, acted, book_begun, begun_at, begin_refused, begin_or_not, step_begin, waits_for, tried_at, nth_letter, received_at, deliver_or_not, ticked_at, stopped_at, installed_at, view_refused, view_or_not, step_install, happens}
@@ -248,8 +248,8 @@ install_tells w n e r =
     (λ _. passes_tell w (Install n e) n _ _ _ _ r (λ id. refl))
 
 still_tells : (w : World) (s : Step) (n : ℕ) (after : Node) (a : Answer) (letters : List Letter) → HasReplies w.book → ((id : ℕ) → said w.book.steps s a id ≡ silence)
-    → StepTells w s (acted w n after a letters (unchanged w.book))
-still_tells w s n after a letters r silent = counted_tells w s (acted w n after a letters (unchanged w.book)) r refl refl refl silent
+    → StepTells w s (acted w n after a letters (book_only w.book))
+still_tells w s n after a letters r silent = counted_tells w s (acted w n after a letters (book_only w.book)) r refl refl refl silent
 
 -- each step tells what it writes
 pub step_tells : (w : World) (u : Witness) (s : Step) → DataInvariant (run_state w) u → HasReplies w.book → StepTells w s (happens w s)

@@ -5,6 +5,7 @@ use Rattle.std.proofs.lemmas.Bool.{cases_eq}
 use Rattle.zeus_base.specs.Order.{is_below}
 use Rattle.zeus_base.specs.declared.config.Config.{Config}
 use Rattle.zeus_base.specs.declared.order.Stamp.{Stamp}
+use Rattle.zeus_base.specs.TableLaws.{nth-append}
 use Rattle.zeus_packet.specs.Place.{new_place}
 use Rattle.zeus_packet.specs.declared.letter.Body.{Body}
 use Rattle.zeus_packet.specs.declared.letter.Body.TheVariants.{OInv, OAck}
@@ -19,7 +20,6 @@ use Rattle.zeus_model.specs.Ownership.{settle, holding, driven, own_content, bri
 use Rattle.zeus_model.specs.declared.state.Gather.{Gather}
 use Rattle.machine_moves.specs.SystemState.{SystemState, IsReceivable, Changes, NewView, Same, nothing}
 use Rattle.machine_moves.specs.Move.{IsTellable, request, advice, placement, reported, own_entry, kept_entry, stored, own_passed, kept_passed, IsAboutProposal, to_arbiter, to_collector, IsSettling, by_invalidation, by_acknowledgement, by_decision, Move, makes_view, stops, installs, tells, turns, settles, drives, accepts, redrives, gathers, decides, raises, stores, notes_own, notes_kept, passes_own, passes_kept, reports, hears, commits, Moves, none, next}
-use Rattle.machine_moves.proofs.Lists.{nth-append}
 use Rattle.machine_moves.proofs.Steady.{IsSteady, IsKnown, move_keep}
 use Rattle.ownership_safety.specs.Object.{first_stamp}
 use Rattle.soundness.proofs.NeverUndeclared.{IsUntouchedProposal, HasNoContent, IsUntouchedHeld, IsUntouchedNode, SaysUntouched, IsUntouchedLetter, IsUntouched, untouched-as, untouched-with_slot, untouched-with_log, untouched-raise, untouched-store, untouched-pass_own, untouched-pass_kept, untouched-committed, untouched-holding, untouched-noted, untouched-settle_other, untouched-bring_other, never_settled, untouched-installed, untouched-content}

@@ -1,10 +1,11 @@
 -- What is still to be sent, while letters are added to an effect one after another.
-use Rattle.std.proofs.Common.{ℕ, suc, ◌≡◌, ◌<◌, ◌≤◌, ◌+◌, ◌-◌, true, false, List, [], ◌∷◌, ◌++◌, length, take, refl, sym, ap, ◌∙◌, add-one, append-nil, append_assoc, arith}
+use Rattle.std.proofs.Common.{ℕ, ◌≡◌, ◌<◌, ◌≤◌, ◌+◌, ◌-◌, true, false, List, [], ◌∷◌, ◌++◌, length, take, refl, sym, ap, ◌∙◌, append-nil, append_assoc, arith}
 use Rattle.std.specs.Prelude.{nat_le, if◌then◌else◌}
 use Rattle.std.proofs.lemmas.Bool.{leb-true}
 use Rattle.std.proofs.lemmas.List.{take_all}
 use Rattle.zeus_base.specs.Nodes.{has}
 use Rattle.zeus_base.specs.declared.order.Stream.{Stream}
+use Rattle.zeus_base.specs.LoopLaws.{numbers-next, numbers-none}
 use Rattle.zeus_packet.specs.declared.letter.Letter.{Letter}
 use Rattle.zeus_model.specs.Commit.{streams_of, streams_outside}
 use Rattle.zeus_model.specs.Membership.{letters_of}
@@ -53,18 +54,6 @@ pub adds_full : (xs : List Letter) (out : Effect) → true ≡ nat_le 64 (length
 adds_full xs out full room = StillSends-full xs xs out out full (StillSends-start xs out room)
 
 -- ---- letters of each of the numbers below one
-
-numbers-next : (i n : ℕ) → i < n → numbers_from i (n - i) ≡ i ∷ numbers_from (i + 1) (n - (i + 1))
-unfolding numbers_from
-numbers-next i n h =
-    let one : n - i ≡ suc (n - (i + 1)) = omega arith in
-    rw (one, add-one) refl
-
-numbers-none : (i n : ℕ) → n ≤ i → numbers_from i (n - i) ≡ []
-unfolding numbers_from
-numbers-none i n h =
-    let none : n - i ≡ 0 = omega arith in
-    rw none refl
 
 -- the letters of the numbers from one on
 abbrev pub letters_from : (ℕ → List Letter) → ℕ → ℕ → List Letter

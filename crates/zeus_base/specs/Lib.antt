@@ -1,5 +1,6 @@
 pub mod Bits
 pub mod Limits
+pub mod LoopLaws
 pub mod NodeLaws
 pub mod Nodes
 pub mod Order

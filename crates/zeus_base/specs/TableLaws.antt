@@ -6,16 +6,16 @@ use Rattle.std.proofs.Math.ListN.{get_or, set}
 use Rattle.std.proofs.lemmas.List.{get_or_default}
 use Rattle.zeus_base.specs.Tables.{nth, put}
 
-pub nth-append_old : {A : Type 0} (d : A) (xs ys : List A) (i : ℕ) → i < length xs → nth d (xs ++ ys) i ≡ nth d xs i
+pub nth-append : {A : Type 0} (d : A) (xs ys : List A) (i : ℕ) → i < length xs → nth d (xs ++ ys) i ≡ nth d xs i
 unfolding nth
-nth-append_old d [] ys i h = absurd (omega arith)
-nth-append_old d (x ∷ xs) ys zero h = refl
-nth-append_old d (x ∷ xs) ys (suc i) h = nth-append_old d xs ys i (omega arith)
+nth-append d [] ys i h = absurd (omega arith)
+nth-append d (x ∷ xs) ys zero h = refl
+nth-append d (x ∷ xs) ys (suc i) h = nth-append d xs ys i (omega arith)
 
-pub nth-append_new : {A : Type 0} (d : A) (xs : List A) (y : A) → nth d (xs ++ y ∷ []) (length xs) ≡ y
+pub nth-last : {A : Type 0} (d : A) (xs : List A) (y : A) → nth d (xs ++ y ∷ []) (length xs) ≡ y
 unfolding nth
-nth-append_new d [] y = refl
-nth-append_new d (x ∷ xs) y = nth-append_new d xs y
+nth-last d [] y = refl
+nth-last d (x ∷ xs) y = nth-last d xs y
 
 pub nth-drop : {A : Type 0} (d : A) (j : ℕ) (xs : List A) (i : ℕ) → nth d (drop j xs) i ≡ nth d xs (i + j)
 unfolding nth

@@ -5,7 +5,7 @@ use Rattle.std.specs.List.{AllByRecursion}
 use Rattle.std.proofs.lemmas.Bool.{eqb-true, eqb-false}
 use Rattle.std.proofs.lemmas.List.Elements.{recursion_from_All}
 use Rattle.zeus_base.specs.Nodes.{has, with_node}
-use Rattle.zeus_base.specs.TableLaws.{nth-append_old, nth-append_new, length-put}
+use Rattle.zeus_base.specs.TableLaws.{nth-append, nth-last, length-put}
 use Rattle.zeus_base.specs.declared.step.Step.TheVariants.{View as ViewStep}
 use Rattle.zeus_model.specs.Tables.{nth}
 use Rattle.zeus_model.specs.World.{happens as world_does, last_view, view_refused, view_or_not}
@@ -96,11 +96,11 @@ ask_choice : (m : Machine) (n i : ℕ) → HasRanges m → n < length m.nodes �
     → ((nth no_ask (m.asks ++ new_ask m n ∷ []) i).node < length m.nodes) × ((nth no_ask (m.asks ++ new_ask m n ∷ []) i).clock ≤ suc m.steps * 2 ^ 32)
 ask_choice m n i r node lt true e =
     let low = (within m r).clocks n in
-    rw (eqb-true i (length m.asks) e, nth-append_new) (node, low)
+    rw (eqb-true i (length m.asks) e, nth-last) (node, low)
 ask_choice m n i r node lt false e =
     let other = eqb-false i (length m.asks) e in
     let low : i < length m.asks = omega arith in
-    rw (nth-append_old no_ask m.asks (new_ask m n ∷ []) i low) ((within m r).asks i low)
+    rw (nth-append no_ask m.asks (new_ask m n ∷ []) i low) ((within m r).asks i low)
 
 asked_within : (m : Machine) (n : ℕ) → HasRanges m → n < length m.nodes → Within (suc m.steps) (length m.nodes) (record m { asks = m.asks ++ new_ask m n ∷ [] })
 asked_within m n r there =

@@ -5,7 +5,7 @@ use Rattle.std.proofs.lemmas.Bool.{eqb-true, eqb-false, le-ltb}
 use Rattle.std.proofs.lemmas.Bool.Decides.{nat_tests}
 use Rattle.zeus_base.specs.Nodes.{has, with_node}
 use Rattle.zeus_base.specs.Tables.{numbers_from}
-use Rattle.zeus_base.specs.TableLaws.{nth-append_old, nth-append_new, nth-put_same, nth-put_other, length-put}
+use Rattle.zeus_base.specs.TableLaws.{nth-append, nth-last, nth-put_same, nth-put_other, length-put}
 use Rattle.zeus_model.specs.Tables.{nth, put}
 use Rattle.zeus_model.specs.World.{last_view}
 use Rattle.zeus_model.specs.declared.answer.Made.{Made}
@@ -138,15 +138,15 @@ pass_or_not_safe m ticks None e safe = pass_safe m ticks safe e
 ask_choice : (m : Machine) (n i : ℕ) → IsSafe m → i < suc (length m.asks) → (b : Bool) → (i == length m.asks) ≡ b
     → (nth no_ask (m.asks ++ record { node = n; clock = (node m n).clock } ∷ []) i).clock ≤ (node m (nth no_ask (m.asks ++ record { node = n; clock = (node m n).clock } ∷ []) i).node).clock
 ask_choice m n i safe lt true e =
-    rw (eqb-true i (length m.asks) e, nth-append_new) (omega arith)
+    rw (eqb-true i (length m.asks) e, nth-last) (omega arith)
 ask_choice m n i safe lt false e =
     let other = eqb-false i (length m.asks) e in
     let low : i < length m.asks = omega arith in
-    rw (nth-append_old no_ask m.asks (record { node = n; clock = (node m n).clock } ∷ []) i low) (safe.asks i low)
+    rw (nth-append no_ask m.asks (record { node = n; clock = (node m n).clock } ∷ []) i low) (safe.asks i low)
 
 asked_safe : (m : Machine) (n : ℕ) → IsSafe m → IsSafe (record m { asks = m.asks ++ record { node = n; clock = (node m n).clock } ∷ [] })
 asked_safe m n safe =
-    let old = λ (g : ℕ) (lt : g < length m.grants). nth-append_old no_ask m.asks (record { node = n; clock = (node m n).clock } ∷ []) (nth 0 m.grants g) (safe.answered g lt) in
+    let old = λ (g : ℕ) (lt : g < length m.grants). nth-append no_ask m.asks (record { node = n; clock = (node m n).clock } ∷ []) (nth 0 m.grants g) (safe.answered g lt) in
     let more : length (m.asks ++ record { node = n; clock = (node m n).clock } ∷ []) ≡ length m.asks + 1 = length-append m.asks (record { node = n; clock = (node m n).clock } ∷ []) in
     record {
       asks = λ i lt. ask_choice m n i safe (omega (arith, more, lt)) (i == length m.asks) refl;
@@ -266,11 +266,11 @@ module _ (m : Machine) (i : ℕ) (a : Ask) (safe : IsSafe m) (is : ask_of m i �
   grant_choice : (g : ℕ) → g < suc (length m.grants) → (b : Bool) → (g == length m.grants) ≡ b
       → IsCovered after (ask_of m (nth 0 (m.grants ++ i ∷ []) g)).node ((ask_of m (nth 0 (m.grants ++ i ∷ []) g)).clock + m.length) × (nth 0 (m.grants ++ i ∷ []) g < length m.asks)
   grant_choice g lt true e =
-      rw (eqb-true g (length m.grants) e, nth-append_new, is) (new_covered, there)
+      rw (eqb-true g (length m.grants) e, nth-last, is) (new_covered, there)
   grant_choice g lt false e =
       let other = eqb-false g (length m.grants) e in
       let low : g < length m.grants = omega arith in
-      rw (nth-append_old 0 m.grants (i ∷ []) g low) (kept_covered _ _ (safe.grants g low), safe.answered g low)
+      rw (nth-append 0 m.grants (i ∷ []) g low) (kept_covered _ _ (safe.grants g low), safe.answered g low)
 
   other_expiry : (n : ℕ) → has n (last_view m.views) ≡ false → (node after n).expiry ≤ m.service
   other_expiry n h = go (a.node == n) refl

@@ -57,11 +57,9 @@ pub record BookChange : Type 0 where
   pub points : List ℕ
   pub acked : List ℕ
 
-abbrev pub unchanged : Book → BookChange
-unchanged b = record { book = b; points = []; acked = [] }
-
-abbrev pub changed : Book → BookChange
-changed b = record { book = b; points = []; acked = [] }
+-- this book, and no point and no acknowledgement
+abbrev pub book_only : Book → BookChange
+book_only b = record { book = b; points = []; acked = [] }
 
 abbrev pub changes_joined : BookChange → BookChange → BookChange
 changes_joined a b = record { book = b.book; points = a.points ++ b.points; acked = a.acked ++ b.acked }
@@ -92,13 +90,13 @@ book_ack b id = with_record b id (record (record_of b id) { acked = Some b.steps
 
 -- an entry's first pass is its transaction's point
 unfoldable pub point_once : Book → ℕ → Option ℕ → BookChange
-point_once b id (Some step) = unchanged b
+point_once b id (Some step) = book_only b
 point_once b id None = record { book = book_point b id; points = id ∷ []; acked = [] }
 
 -- its own node's pass acknowledges it
 unfoldable pub ack_once : Book → ℕ → Bool → Option ℕ → BookChange
-ack_once b id own (Some step) = unchanged b
-ack_once b id own None = if own then record { book = book_ack b id; points = []; acked = id ∷ [] } else unchanged b
+ack_once b id own (Some step) = book_only b
+ack_once b id own None = if own then record { book = book_ack b id; points = []; acked = id ∷ [] } else book_only b
 
 unfoldable pub is_entry : Stream → ℕ → Option EntryId → Bool
 is_entry s number None = false
@@ -113,17 +111,17 @@ abbrev pub tx_of : Book → Stream → ℕ → Option ℕ
 tx_of b s number = tx_from s number 0 b.records
 
 unfoldable pub pass_tx : Book → Bool → Option ℕ → BookChange
-pass_tx b own None = unchanged b
+pass_tx b own None = book_only b
 pass_tx b own (Some id) =
     change_then (point_once b id (record_of b id).point) (λ c. ack_once c id own (record_of c id).acked)
 
 unfoldable pub pass_numbers : Book → Bool → Stream → List ℕ → BookChange
-pass_numbers b own s [] = unchanged b
+pass_numbers b own s [] = book_only b
 pass_numbers b own s (k ∷ ks) = change_then (pass_tx b own (tx_of b s k)) (λ c. pass_numbers c own s ks)
 
 -- the passes of one node in the order of streams, then numbers
 unfoldable pub book_passes : Book → ℕ → List Passed → BookChange
-book_passes b me [] = unchanged b
+book_passes b me [] = book_only b
 book_passes b me (p ∷ ps) =
     change_then (pass_numbers b (p.stream.node == me) p.stream (numbers_from p.first (p.after - p.first)))
     (λ c. book_passes c me ps)
@@ -153,7 +151,7 @@ book_read b id reply = record { book = book_ack (book_point (book_reply b id rep
 
 -- what a try's answer says: a commit, a read, or, without a degree, a refusal
 unfoldable pub book_tried : Book → Stream → Option ℕ → Tried → BookChange
-book_tried b s degree (Committed id number reply) = changed (book_commit b s id number reply)
+book_tried b s degree (Committed id number reply) = book_only (book_commit b s id number reply)
 book_tried b s degree (Read id reply) = book_read b id reply
-book_tried b s degree (NoCopy id x) = if is_none degree then changed (book_refuse b id) else unchanged b
-book_tried b s degree _ = unchanged b
+book_tried b s degree (NoCopy id x) = if is_none degree then book_only (book_refuse b id) else book_only b
+book_tried b s degree _ = book_only b

@@ -1,8 +1,10 @@
 pub mod In
+pub mod InLaws
 pub mod Names
 pub mod Spelling
 pub mod Scripts
 pub mod Tables
+pub mod TableLaws
 pub mod State
 pub mod Act
 pub mod Commit

@@ -25,7 +25,7 @@ use Rattle.zeus_model.specs.Act.{Did}
 use Rattle.zeus_model.specs.Local.{begin, try_slot}
 use Rattle.zeus_model.specs.Membership.{install, tick, stop}
 use Rattle.zeus_model.specs.Receive.{receive}
-use Rattle.zeus_model.specs.Book.{Book, BookChange, no_record, record_of, counted, unchanged, changed, change_then, book_begin, book_tried, book_passes, in_stream_order}
+use Rattle.zeus_model.specs.Book.{Book, BookChange, no_record, record_of, counted, book_only, change_then, book_begin, book_tried, book_passes, in_stream_order}
 
 pub record World : Type 0 where
   pub config : Config
@@ -171,8 +171,8 @@ begin_refused w k =
     (or_else (where_true (node w (tx_decl w k).node).stopped (BeginAnswer Stopped)) (waits_for w (tx_decl w k).after))
 
 unfoldable pub book_begun : Book → ℕ → BeginOutcome → BookChange
-book_begun b k Begun = changed (book_begin b k)
-book_begun b k _ = unchanged b
+book_begun b k Begun = book_only (book_begin b k)
+book_begun b k _ = book_only b
 
 abbrev pub begun_at : World → ℕ → ℕ → Did BeginOutcome → Event
 begun_at w k n d = acted w n d.node (BeginAnswer d.answer) [] (book_begun w.book k d.answer)
@@ -204,10 +204,10 @@ deliver_or_not w from to None = refuse_step w (NoPacket (length (link w.links fr
 deliver_or_not w from to (Some l) = received_at w to (receive (node w to) l)
 
 unfoldable pub ticked_at : World → ℕ → Did Rattle.zeus_model.specs.declared.answer.Ticked.Ticked → Event
-ticked_at w n d = acted w n d.node (TickAnswer d.answer) (first_64 d.sent) (unchanged w.book)
+ticked_at w n d = acted w n d.node (TickAnswer d.answer) (first_64 d.sent) (book_only w.book)
 
 unfoldable pub stopped_at : World → ℕ → Did Rattle.zeus_model.specs.declared.answer.Stop.Stop → Event
-stopped_at w n d = acted w n d.node (StopAnswer d.answer) [] (unchanged w.book)
+stopped_at w n d = acted w n d.node (StopAnswer d.answer) [] (book_only w.book)
 
 unfoldable pub installed_at : World → ℕ → Did Rattle.zeus_model.specs.declared.answer.Install.Install → Event
 installed_at w n d = acted w n d.node (InstallAnswer d.answer) (first_64 d.sent) (book_passes w.book n (in_stream_order d.passed))

@@ -11,7 +11,7 @@ use Rattle.zeus_model.specs.World.{all_posted, link, packets, posted}
 use Rattle.zeus_wire.specs.Ranges.{largest}
 use Rattle.lossy_fabric.specs.Links.{LinkState, letters, numbered, room, row_letters, HasRoom, IsLink}
 use Rattle.zeus_world.specs.Posting.{AreFrom, CanPost}
-use Rattle.zeus_world.proofs.Sending.{letters-nth}
+use Rattle.lossy_fabric.proofs.Sending.{letters-nth}
 
 pub length-letters : (rows : List (List LinkState)) → length (letters rows) ≡ length rows
 unfolding letters

@@ -2,7 +2,6 @@ pub mod Batches
 pub mod Counting
 pub mod Keeping
 pub mod Refusing
-pub mod Sending
 pub mod Standing
 pub mod Starting
 pub mod Settling

@@ -17,7 +17,7 @@ use Rattle.zeus_packet.specs.declared.letter.Letter.{Letter}
 use Rattle.zeus_packet.specs.declared.place.View.{View as ViewOf}
 use Rattle.zeus_txn.specs.declared.tx.TxDecl.{TxDecl}
 use Rattle.zeus_model.specs.Act.{Did}
-use Rattle.zeus_model.specs.Book.{Book, BookChange, book_passes, book_tried, change_then, changed, counted, in_stream_order, unchanged}
+use Rattle.zeus_model.specs.Book.{Book, BookChange, book_passes, book_tried, change_then, book_only, counted, in_stream_order}
 use Rattle.zeus_model.specs.Local.{begin, try_slot}
 use Rattle.zeus_model.specs.Membership.{install, stop, tick}
 use Rattle.zeus_model.specs.Receive.{receive}
@@ -97,12 +97,12 @@ settled_as w n wrap d answer after said passed c b b' L L' r s did h e m none sa
 
 -- ---- what happens
 
-no_passes : (w : World) (n : ℕ) (ps : List Passed) → ps ≡ [] → unchanged w.book ≡ change_then (unchanged w.book) (λ e. book_passes e n (in_stream_order ps))
+no_passes : (w : World) (n : ℕ) (ps : List Passed) → ps ≡ [] → book_only w.book ≡ change_then (book_only w.book) (λ e. book_passes e n (in_stream_order ps))
 unfolding book_passes in_stream_order
 no_passes w n ps h = rw h refl
 
 pub tick_happens : (w : World) (n : ℕ) (k : Node) → IsNodeAt w n k
-    → happens w (Tick n) ≡ acted w n (tick k).node (TickAnswer (tick k).answer) (take 64 (tick k).sent) (change_then (unchanged w.book) (λ e. book_passes e n (in_stream_order (tick k).passed)))
+    → happens w (Tick n) ≡ acted w n (tick k).node (TickAnswer (tick k).answer) (take 64 (tick k).sent) (change_then (book_only w.book) (λ e. book_passes e n (in_stream_order (tick k).passed)))
 unfolding happens ticked_at
 tick_happens w n k at =
     ap (λ (m : Node). ticked_at w n (tick m)) at.same ∙ ap (λ (c : BookChange). acted w n (tick k).node (TickAnswer (tick k).answer) (take 64 (tick k).sent) c) (no_passes w n (tick k).passed (tick-passed k))
@@ -114,7 +114,7 @@ unfolding happens tried_at
 try_happens w n s k at = ap (λ (m : Node). tried_at w n s (try_slot m s)) at.same
 
 pub deliver_happens : (w : World) (from to i : ℕ) (l : Letter) (k : Node) → IsNodeAt w to k → nth_letter (link w.links from to) i ≡ Some l
-    → happens w (Deliver from to i) ≡ acted w to (receive k l).node (ReceiveAnswer (receive k l).answer) (take 64 (receive k l).sent) (change_then (unchanged w.book) (λ e. book_passes e to (in_stream_order (receive k l).passed)))
+    → happens w (Deliver from to i) ≡ acted w to (receive k l).node (ReceiveAnswer (receive k l).answer) (take 64 (receive k l).sent) (change_then (book_only w.book) (λ e. book_passes e to (in_stream_order (receive k l).passed)))
 unfolding happens deliver_or_not received_at
 deliver_happens w from to i l k at is = ap (deliver_or_not w from to) is ∙ ap (λ (m : Node). received_at w to (receive m l)) at.same
 
@@ -129,7 +129,7 @@ either_true : {A : Type 0} (test : Bool) (a b : A) → test ≡ true → (if tes
 either_true test a b h = rw h refl
 
 pub install_happens : (w : World) (n e : ℕ) (v : ViewOf) (k : Node) → IsNodeAt w n k → e ≤ length w.views → v ≡ record { epoch = e; members = nth [] w.views (e - 1) }
-    → happens w (Install n e) ≡ acted w n (install k v).node (InstallAnswer (install k v).answer) (take 64 (install k v).sent) (change_then (unchanged w.book) (λ d. book_passes d n (in_stream_order (install k v).passed)))
+    → happens w (Install n e) ≡ acted w n (install k v).node (InstallAnswer (install k v).answer) (take 64 (install k v).sent) (change_then (book_only w.book) (λ d. book_passes d n (in_stream_order (install k v).passed)))
 unfolding happens step_install installed_at
 install_happens w n e v k at h is =
     let test : nat_lt (length w.views) e ≡ false = grind (arith, nat_tests) in
@@ -142,7 +142,7 @@ install_none w n e h =
     let test : nat_lt (length w.views) e ≡ true = grind (arith, nat_tests) in
     either_true (nat_lt (length w.views) e) (refuse_step w (NoView (length w.views))) _ test
 
-pub stop_happens : (w : World) (n : ℕ) (k : Node) → IsNodeAt w n k → happens w (Stop n) ≡ acted w n (stop k).node (StopAnswer (stop k).answer) [] (unchanged w.book)
+pub stop_happens : (w : World) (n : ℕ) (k : Node) → IsNodeAt w n k → happens w (Stop n) ≡ acted w n (stop k).node (StopAnswer (stop k).answer) [] (book_only w.book)
 unfolding happens stopped_at
 stop_happens w n k at = ap (λ (m : Node). stopped_at w n (stop m)) at.same
 
@@ -199,7 +199,7 @@ install_fits c txs n e h = record { node = h.0; first = h.1 }
 pub stop_taken : (w : World) (n : ℕ) (k after : Node) (t : Stopping) (links : List (List (List Letter))) (b : Book) (r : Report) → IsNodeAt w n k → t ≡ (stop k).answer → after ≡ (stop k).node
     → links ≡ w.links → b ≡ counted w.book → IsAlone (StopAnswer t) r → IsTaken r (world_with w (set w.nodes n after) links b) (happens w (Stop n))
 stop_taken w n k after t links b r at says becomes e f alone =
-    rw (stop_happens w n k at, ← says, ← becomes) (quiet_taken w n after (StopAnswer t) (unchanged w.book) links b r at.place e f refl refl alone)
+    rw (stop_happens w n k at, ← says, ← becomes) (quiet_taken w n after (StopAnswer t) (book_only w.book) links b r at.place e f refl refl alone)
 
 -- a change in which nothing has its point and nothing is acknowledged
 record IsQuietly (c : BookChange) : Type 0 where
@@ -225,7 +225,7 @@ pub tick_taken : (w : World) (n : ℕ) (k after : Node) (t : Ticking) (said : Li
     → IsTaken s (world_with w (set w.nodes n after) (letters L') b'.book) (happens w (Tick n))
 tick_taken w n k after t said passed b b' L L' r s at did e f alone settled =
     rw (tick_happens w n k at)
-    (settled_as w n TickAnswer (tick k) t after said passed (unchanged w.book) b b' L L' r s did at.place e (record { book = f; points = alone.points; acks = alone.acked }) alone.sent alone.says settled)
+    (settled_as w n TickAnswer (tick k) t after said passed (book_only w.book) b b' L L' r s did at.place e (record { book = f; points = alone.points; acks = alone.acked }) alone.sent alone.says settled)
 
 pub deliver_taken : (w : World) (from to i : ℕ) (l : Letter) (k after : Node) (t : Receiving) (said : List Letter) (passed : List Passed) (b b' : BookState) (L L' : List (List LinkState)) (r s : Report) → IsNodeAt w to k
     → nth_letter (link w.links from to) i ≡ Some l
@@ -233,7 +233,7 @@ pub deliver_taken : (w : World) (from to i : ℕ) (l : Letter) (k after : Node) 
     → IsTaken s (world_with w (set w.nodes to after) (letters L') b'.book) (happens w (Deliver from to i))
 deliver_taken w from to i l k after t said passed b b' L L' r s at is did e f alone settled =
     rw (deliver_happens w from to i l k at is)
-    (settled_as w to ReceiveAnswer (receive k l) t after said passed (unchanged w.book) b b' L L' r s did at.place e (record { book = f; points = alone.points; acks = alone.acked }) alone.sent alone.says settled)
+    (settled_as w to ReceiveAnswer (receive k l) t after said passed (book_only w.book) b b' L L' r s did at.place e (record { book = f; points = alone.points; acks = alone.acked }) alone.sent alone.says settled)
 
 pub install_taken : (w : World) (n e : ℕ) (v : ViewOf) (k after : Node) (t : Installing) (said : List Letter) (passed : List Passed) (b b' : BookState) (L L' : List (List LinkState)) (r s : Report) → IsNodeAt w n k
     → e ≤ length w.views → v ≡ record { epoch = e; members = nth [] w.views (e - 1) }
@@ -241,7 +241,7 @@ pub install_taken : (w : World) (n e : ℕ) (v : ViewOf) (k after : Node) (t : I
     → IsTaken s (world_with w (set w.nodes n after) (letters L') b'.book) (happens w (Install n e))
 install_taken w n e v k after t said passed b b' L L' r s at less is did f g alone settled =
     rw (install_happens w n e v k at less is)
-    (settled_as w n InstallAnswer (install k v) t after said passed (unchanged w.book) b b' L L' r s did at.place f (record { book = g; points = alone.points; acks = alone.acked }) alone.sent alone.says settled)
+    (settled_as w n InstallAnswer (install k v) t after said passed (book_only w.book) b b' L L' r s did at.place f (record { book = g; points = alone.points; acks = alone.acked }) alone.sent alone.says settled)
 
 pub try_taken : (w : World) (n slot : ℕ) (k after : Node) (t : Tried) (said : List Letter) (passed : List Passed) (b b' : BookState) (L L' : List (List LinkState)) (r s : Report) → IsNodeAt w n k
     → HasActed (try_slot k slot) t after said passed → letters L ≡ w.links → IsMade (book_tried w.book record { node = n; slot = slot } w.config.degree t) b r.points r.acked → r.sent.packets ≡ [] → r.answer ≡ TryAnswer t

@@ -1,7 +1,8 @@
 use Rattle.std.proofs.Common.{[], ◌∷◌, refl}
 use Rattle.std.specs.Prelude.{map}
+use Rattle.zeus_base.specs.LoopLaws.{count_more, count_done}
 use Rattle.random_schedule.specs.Schedule.{first_packet}
-use Rattle.random_schedule.proofs.Making.{count_more, count_done, map-cons}
+use Rattle.random_schedule.proofs.Making.{map-cons}
 use Rattle.random_schedule.proofs.tables.add_links.Goals as goal
 
 pub loop-to-preserved : goal.loop-to-preserved

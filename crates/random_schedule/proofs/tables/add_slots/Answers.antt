@@ -1,7 +1,8 @@
 use Rattle.std.proofs.Common.{[], ◌∷◌, refl}
 use Rattle.std.specs.Prelude.{map}
+use Rattle.zeus_base.specs.LoopLaws.{count_more, count_done}
 use Rattle.random_schedule.specs.Choices.{stream}
-use Rattle.random_schedule.proofs.Making.{count_more, count_done, map-cons}
+use Rattle.random_schedule.proofs.Making.{map-cons}
 use Rattle.random_schedule.proofs.tables.add_slots.Goals as goal
 
 pub loop-slot-preserved : goal.loop-slot-preserved

@@ -1,8 +1,9 @@
 use Rattle.std.specs.Prelude.{map}
+use Rattle.zeus_base.specs.LoopLaws.{count_more, count_done}
 use Rattle.zeus_model.specs.Tables.{below}
 use Rattle.random_schedule.specs.Choices.{pairs}
 use Rattle.random_schedule.specs.Schedule.{first_packet}
-use Rattle.random_schedule.proofs.Making.{count_more, count_done, pairs-cons, pairs-nil}
+use Rattle.random_schedule.proofs.Making.{pairs-cons, pairs-nil}
 use Rattle.random_schedule.proofs.tables.all_links.Goals as goal
 
 pub loop-from-preserved : goal.loop-from-preserved

@@ -1,7 +1,8 @@
 use Rattle.std.specs.Prelude.{map}
+use Rattle.zeus_base.specs.LoopLaws.{count_more, count_done}
 use Rattle.zeus_model.specs.Tables.{below}
 use Rattle.random_schedule.specs.Choices.{pairs, stream}
-use Rattle.random_schedule.proofs.Making.{count_more, count_done, pairs-cons, pairs-nil}
+use Rattle.random_schedule.proofs.Making.{pairs-cons, pairs-nil}
 use Rattle.random_schedule.proofs.tables.all_slots.Goals as goal
 
 pub loop-node-preserved : goal.loop-node-preserved

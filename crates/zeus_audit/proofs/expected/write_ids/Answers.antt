@@ -1,7 +1,7 @@
 use Rattle.std.proofs.Common.{ℕ, List, refl, map, decimal}
+use Rattle.zeus_base.specs.LoopLaws.{one_more, all_done}
 use Rattle.zeus_model.specs.ReportWords.{number}
 use Rattle.zeus_model.specs.Spelling.{spaced}
-use Rattle.zeus_text.proofs.Pieces.{one_more, all_done}
 use Rattle.zeus_audit.proofs.expected.write_ids.Goals as goal
 
 pub loop-id-preserved : goal.loop-id-preserved

@@ -1,6 +1,6 @@
 use Rattle.std.proofs.Common.{refl, map, decimal}
+use Rattle.zeus_base.specs.LoopLaws.{all_done}
 use Rattle.zeus_model.specs.Spelling.{spaced}
-use Rattle.zeus_text.proofs.Pieces.{all_done}
 use Rattle.zeus_lease.proofs.print.write_ticks.Goals as goal
 
 pub returns : goal.returns

@@ -1,7 +1,7 @@
 use Rattle.std.proofs.Common.{refl}
+use Rattle.zeus_base.specs.LoopLaws.{one_more, all_done}
 use Rattle.zeus_model.specs.ReportText.{packet_lines}
 use Rattle.zeus_report.specs.Lines.{packet_line}
-use Rattle.zeus_text.proofs.Pieces.{one_more, all_done}
 use Rattle.zeus_report.proofs.letters.write_packets.Goals as goal
 
 pub loop-packet-preserved : goal.loop-packet-preserved

@@ -1,7 +1,7 @@
 use Rattle.std.proofs.Common.{refl}
+use Rattle.zeus_base.specs.LoopLaws.{one_more, all_done}
 use Rattle.zeus_model.specs.ReportWords.{writes_text}
 use Rattle.zeus_report.specs.Lines.{write_text}
-use Rattle.zeus_text.proofs.Pieces.{one_more, all_done}
 use Rattle.zeus_report.proofs.letters.write_writes.Goals as goal
 
 pub loop-write-preserved : goal.loop-write-preserved

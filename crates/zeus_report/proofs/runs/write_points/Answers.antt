@@ -1,7 +1,7 @@
 use Rattle.std.proofs.Common.{refl}
+use Rattle.zeus_base.specs.LoopLaws.{one_more, all_done}
 use Rattle.zeus_model.specs.ReportText.{point_lines}
 use Rattle.zeus_report.specs.Lines.{point_of}
-use Rattle.zeus_text.proofs.Pieces.{one_more, all_done}
 use Rattle.zeus_report.proofs.runs.write_points.Goals as goal
 
 pub loop-id-preserved : goal.loop-id-preserved

@@ -1,6 +1,6 @@
 use Rattle.std.proofs.Common.{refl}
+use Rattle.zeus_base.specs.LoopLaws.{count_more, count_done}
 use Rattle.zeus_model.specs.ReportText.{object_text, objects_text}
-use Rattle.zeus_text.proofs.Pieces.{count_more, count_done}
 use Rattle.zeus_report.proofs.standing.write_objects.Goals as goal
 
 pub loop-x-preserved : goal.loop-x-preserved

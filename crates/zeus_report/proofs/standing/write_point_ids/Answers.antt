@@ -1,10 +1,10 @@
 use Rattle.std.proofs.Common.{◌<◌, ◌≤◌, length, refl, arith}
 use Rattle.zeus_base.specs.TableLaws.{nth_here}
+use Rattle.zeus_base.specs.LoopLaws.{one_more, all_done}
 use Rattle.zeus_model.specs.ReportText.{points_text}
 use Rattle.zeus_model.specs.ReportWords.{number}
 use Rattle.zeus_model.specs.Book.{no_reply}
 use Rattle.zeus_report.specs.Lines.{point_at}
-use Rattle.zeus_text.proofs.Pieces.{one_more, all_done}
 use Rattle.zeus_report.proofs.standing.write_point_ids.Goals as goal
 
 pub loop-place-preserved : goal.loop-place-preserved

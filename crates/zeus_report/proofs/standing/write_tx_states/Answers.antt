@@ -1,7 +1,7 @@
 use Rattle.std.proofs.Common.{refl}
+use Rattle.zeus_base.specs.LoopLaws.{count_more, count_done}
 use Rattle.zeus_model.specs.ReportText.{tx_state_lines}
 use Rattle.zeus_report.specs.Lines.{tx_state_line}
-use Rattle.zeus_text.proofs.Pieces.{count_more, count_done}
 use Rattle.zeus_report.proofs.standing.write_tx_states.Goals as goal
 
 pub loop-k-preserved : goal.loop-k-preserved

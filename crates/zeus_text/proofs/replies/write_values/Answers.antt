@@ -1,7 +1,7 @@
 use Rattle.std.proofs.Common.{refl}
+use Rattle.zeus_base.specs.LoopLaws.{one_more, all_done}
 use Rattle.zeus_model.specs.ReportWords.{values_text}
 use Rattle.zeus_model.specs.Spelling.{word, value_text}
-use Rattle.zeus_text.proofs.Pieces.{one_more, all_done}
 use Rattle.zeus_text.proofs.replies.write_values.Goals as goal
 
 pub loop-value-preserved : goal.loop-value-preserved

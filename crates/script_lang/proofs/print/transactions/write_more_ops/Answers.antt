@@ -1,7 +1,7 @@
 use Rattle.std.proofs.Common.{refl}
+use Rattle.zeus_base.specs.LoopLaws.{one_more, all_done}
 use Rattle.zeus_model.specs.Spelling.{more_op_words, spaced}
 use Rattle.script_lang.specs.Lines.{more_op_text}
-use Rattle.zeus_text.proofs.Pieces.{one_more, all_done}
 use Rattle.script_lang.proofs.Printing.{more_op}
 use Rattle.script_lang.proofs.print.transactions.write_more_ops.Goals as goal
 

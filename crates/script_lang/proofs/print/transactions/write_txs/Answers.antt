@@ -1,7 +1,7 @@
 use Rattle.std.proofs.Common.{refl, map}
+use Rattle.zeus_base.specs.LoopLaws.{one_more, all_done}
 use Rattle.zeus_model.specs.Spelling.{lines_text, tx_words}
 use Rattle.script_lang.specs.Lines.{tx_line}
-use Rattle.zeus_text.proofs.Pieces.{one_more, all_done}
 use Rattle.script_lang.proofs.Printing.{lines_text-cons}
 use Rattle.script_lang.proofs.print.transactions.write_txs.Goals as goal
 
