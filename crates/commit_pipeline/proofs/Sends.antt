@@ -46,7 +46,7 @@ pub sends-lacking : (ds : List Due) (number n : ℕ) (ns all acks : List ℕ) �
 unfolding sends apart
 sends-lacking ds number n ns all acks is lacks = rw (is, lacks) (append_assoc ds (record { number = number; to = n } ∷ []) (sends number (apart ns acks)))
 
--- if the head node has acknowledged, then the sends to the others are all sends
+-- if the head node has acknowledged, then only sends to the nodes behind it are due
 pub sends-acked : (ds : List Due) (number n : ℕ) (ns all acks : List ℕ) → all ≡ n ∷ ns → has n acks ≡ true → ds ++ sends number (apart ns acks) ≡ ds ++ sends number (apart all acks)
 unfolding apart
 sends-acked ds number n ns all acks is acked = rw (is, acked) refl
