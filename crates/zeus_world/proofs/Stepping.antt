@@ -107,6 +107,7 @@ no_passes : (w : World) (n : ℕ) (ps : List Passed) → ps ≡ [] → unchanged
 unfolding book_passes in_stream_order
 no_passes w n ps h = rw h refl
 
+-- a tick is what the node's tick does, and the book notes its passes
 pub tick_happens : (w : World) (n : ℕ) (k : Node) → IsNodeAt w n k
     → happens w (Tick n) ≡ acted w n (tick k).node (TickAnswer (tick k).answer) (take 64 (tick k).sent) (change_then (unchanged w.book) (λ e. book_passes e n (in_stream_order (tick k).passed)))
 unfolding happens ticked_at
@@ -120,6 +121,7 @@ pub try_happens : (w : World) (n s : ℕ) (k : Node) → IsNodeAt w n k
 unfolding happens tried_at
 try_happens w n s k at = ap (λ (m : Node). tried_at w n s (try_slot m s)) at.same
 
+-- if there is a packet at the place, then a delivery is what the node does with its letter, and the book notes its passes
 pub deliver_happens : (w : World) (from to i : ℕ) (l : Letter) (k : Node) → IsNodeAt w to k → nth_letter (link w.links from to) i ≡ Some l
     → happens w (Deliver from to i) ≡ acted w to (receive k l).node (ReceiveAnswer (receive k l).answer) (take 64 (receive k l).sent) (change_then (unchanged w.book) (λ e. book_passes e to (in_stream_order (receive k l).passed)))
 unfolding happens deliver_or_not received_at
@@ -136,6 +138,7 @@ either_false test a b h = rw h refl
 either_true : {A : Type 0} (test : Bool) (a b : A) → test ≡ true → (if test then a else b) ≡ a
 either_true test a b h = rw h refl
 
+-- if the epoch has a view, then an install is what the node does with it, and the book notes its passes
 pub install_happens : (w : World) (n e : ℕ) (v : ViewOf) (k : Node) → IsNodeAt w n k → e ≤ length w.views → v ≡ record { epoch = e; members = nth [] w.views (e - 1) }
     → happens w (Install n e) ≡ acted w n (install k v).node (InstallAnswer (install k v).answer) (take 64 (install k v).sent) (change_then (unchanged w.book) (λ d. book_passes d n (in_stream_order (install k v).passed)))
 unfolding happens step_install installed_at
@@ -151,6 +154,7 @@ install_none w n e h =
     let test : nat_lt (length w.views) e ≡ true = grind (arith, nat_tests) in
     either_true (nat_lt (length w.views) e) (refuse_step w (NoView (length w.views))) _ test
 
+-- a stop is what the node's stop does, and the book stays
 pub stop_happens : (w : World) (n : ℕ) (k : Node) → IsNodeAt w n k → happens w (Stop n) ≡ acted w n (stop k).node (StopAnswer (stop k).answer) [] (unchanged w.book)
 unfolding happens stopped_at
 stop_happens w n k at = ap (λ (m : Node). stopped_at w n (stop m)) at.same
