@@ -31,6 +31,7 @@ objects_limits a (suc n) =
     All-cons (KeepsDeclaration 1 4) (bank_object a) (bank_object a ∷ objects_from (suc a) n) (declared_limits a)
     (All-cons (KeepsDeclaration 1 4) (bank_object a) (objects_from (suc a) n) (declared_limits a) (objects_limits (suc a) n))
 
+-- n accounts have 2n objects
 pub length-objects_from : (a n : ℕ) → length (objects_from a n) ≡ 2 * n
 unfolding objects_from
 length-objects_from a zero = refl
@@ -62,10 +63,12 @@ values_from a (suc n) =
     let twice : 2 * suc n ≡ suc (suc (2 * n)) = omega arith in
     rw twice (ap (λ (vs : List Value). Num opening ∷ Num opening ∷ vs) (values_from (suc a) n))
 
+-- the map at the start shows the first balances
 pub start_shown : (accounts : ℕ) → Shows (start_map (bank_config accounts)) (first_balances accounts)
 unfolding start_map
 start_shown accounts = record { same = values_from 0 accounts }
 
+-- n objects with the first balance make n times that
 pub total-opening : (n : ℕ) → total (replicate n opening) ≡ n * opening
 unfolding total
 total-opening zero = refl

@@ -47,6 +47,7 @@ record AreSame (r : Reply) (rs : List Reply) (q : Reply) (qs : List Reply) : Typ
 are_same : (r : Reply) (rs : List Reply) (q : Reply) (qs : List Reply) → r ∷ rs ≡ q ∷ qs → AreSame r rs q qs
 are_same r rs q qs e = record { head = cc; tail = cc }
 
+-- if all points are the bank's, and their replies those of a serial run, then they leave the balances, and the money adds up
 pub leaves : (accounts : ℕ) (txs : List BankTx) (w : World) (ps : List Point) (m : List Versioned) (bs : List ℕ) → AreIts accounts txs w ps → Shows m bs
     → length bs ≡ 2 * accounts → total bs + 100 * length ps < 2 ^ 64 → replies_of ps ≡ serial_replies m (history_txs w ps) → Leaves txs w ps m bs
 unfolding AreIts serial_map serial_replies history_txs history_of replies_of balances paid_in paid_out

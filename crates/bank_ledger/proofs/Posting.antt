@@ -112,6 +112,7 @@ move_posts m bs x y v false is s low few = paid_on m bs x y v (y == x) refl is s
 
 -- ---- each transaction
 
+-- if a map shows low balances, then a transaction's operations leave those that the bank posts, and fail where it lacks
 pub posts : (accounts : ℕ) (m : List Versioned) (bs : List ℕ) (t : BankTx) → FitsBank accounts t → Shows m bs → IsLow bs
     → Posts m (operations t) (posted bs t) (failed_at (lacks bs t))
 unfolding operations lacks moved FitsBank written_map

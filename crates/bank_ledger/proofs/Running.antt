@@ -33,10 +33,12 @@ taken n v enough low small =
 
 -- ---- runs
 
+-- two gets reply both values and write nothing
 pub run_get : (found : ℕ → Value) (x y : ℕ) → run found (Get x ∷ Get y ∷ []) ≡ succeeds (found x ∷ found y ∷ []) []
 unfolding run run_from effect object_of given stored latest
 run_get found x y = refl
 
+-- an add replies the sum modulo 2^64 and writes it
 pub run_add : (found : ℕ → Value) (x v n s : ℕ) → found x ≡ Num n → (n + v) % 2 ^ 64 ≡ s → run found (Add x v ∷ []) ≡ succeeds (Num s ∷ []) ((x, Num s) ∷ [])
 unfolding run run_from object_of given stored rewritten latest
 run_add found x v n s is e =

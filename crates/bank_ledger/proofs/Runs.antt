@@ -114,6 +114,7 @@ leaves_money accounts txs w config few points l =
       even = omega arith;
     }
 
+-- if a configuration and transactions are a bank's, then each run of steps that fit keeps its money
 pub keeps_money : (accounts : ℕ) (txs : List BankTx) (declared : List TxDecl) (steps : List Step) → IsBank accounts txs declared
     → FitsTxs (bank_config accounts) declared → All (FitsStep (bank_config accounts) (length declared)) steps
     → KeepsMoney accounts txs (run (start (bank_config accounts) declared) steps)

@@ -47,6 +47,7 @@ move_even bs x y v false is h k few =
     let into = add_even (debited bs x v) y v (omega arith) few in
     record { size = into.size ∙ out.size; even = omega arith; few = omega arith }
 
+-- the total after a transaction, with what it took out, is the total before, with what it brought; if it fails, both are none
 pub posted_even : (accounts : ℕ) (bs : List ℕ) (t : BankTx) → FitsBank accounts t → length bs ≡ 2 * accounts
     → IsEven bs (posted bs t) (unless_failed (failed_at (lacks bs t)) (brings t)) (unless_failed (failed_at (lacks bs t)) (takes_out t))
 unfolding FitsBank lacks moved brings takes_out unless_failed

@@ -48,6 +48,7 @@ pub record IsBank (accounts : ℕ) (txs : List BankTx) (declared : List TxDecl) 
   pub each : All (FitsBank accounts) txs
   pub operations : map ops_of declared ≡ map operations txs
 
+-- the value of a versioned one
 abbrev pub value_of : Versioned → Value
 value_of v = v.value
 

@@ -9,6 +9,7 @@ use Rattle.bank_ledger.specs.declared.bank_tx.BankTx.TheVariants.{Balance, Depos
 abbrev pub checking : ℕ → ℕ
 checking a = 2 * a
 
+-- the object of the savings of an account
 abbrev pub savings : ℕ → ℕ
 savings a = 2 * a + 1
 

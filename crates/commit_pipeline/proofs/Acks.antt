@@ -9,6 +9,7 @@ use Rattle.zeus_model.specs.Commit.{acked_pending, is_within, no_pending}
 use Rattle.zeus_model.specs.Tables.{nth, put}
 use Rattle.commit_pipeline.specs.Pipes.{Waiting, counts}
 
+-- if the index is within the list, then writing there is std's slice_set
 pub put_within : {A : Type 0} (d : A) (xs : List A) (i : ℕ) (v : A) → i < length xs → put d xs i v ≡ slice_set xs i v
 unfolding put
 put_within d [] i v h = absurd (omega arith)
@@ -21,6 +22,7 @@ set_read [] i x e = absurd cc
 set_read (y ∷ xs) zero x e = let same : y ≡ x = cc in rw same refl
 set_read (y ∷ xs) (suc i) x e = ap (λ l. y ∷ l) (set_read xs i x e)
 
+-- if nothing is read at an index, then the list ends before it
 pub read_past : {A : Type 0} (xs : List A) (i : ℕ) → slice_get xs i ≡ None → length xs ≤ i
 read_past [] i e = omega arith
 read_past (x ∷ xs) zero e = absurd cc
@@ -38,6 +40,7 @@ counts_past w number from h e =
     let past = read_past w.pending (number - w.done) e in
     rw (le-ltb number w.done h, le-ltb number (w.done + length w.pending) (omega arith)) refl
 
+-- an acknowledgement of a pending entry counts exactly if its sender has not acknowledged it yet
 pub counts_here : (w : Waiting) (number from : ℕ) (p : Pending) → w.done ≤ number → slice_get w.pending (number - w.done) ≡ Some p → counts w number from ≡ not (has from p.acks)
 unfolding counts is_within
 counts_here w number from p h e =
@@ -51,6 +54,7 @@ sub-zero n = omega arith
 pub counts_none : (ps : List Pending) (place from : ℕ) → slice_get ps place ≡ None → counts record { done = 0; pending = ps } place from ≡ false
 counts_none ps place from e = counts_past record { done = 0; pending = ps } place from (omega arith) (rw (sub-zero place) e)
 
+-- the same by the entry's place: it counts exactly if the sender has not acknowledged the entry yet
 pub counts_some : (ps : List Pending) (place from : ℕ) (p : Pending) → slice_get ps place ≡ Some p → counts record { done = 0; pending = ps } place from ≡ not (has from p.acks)
 counts_some ps place from p e = counts_here record { done = 0; pending = ps } place from p (omega arith) (rw (sub-zero place) e)
 
@@ -59,6 +63,7 @@ counts_place-by : (w : Waiting) (number from : ℕ) (o : Option Pending) → w.d
 counts_place-by w number from None h e = counts_past w number from h e ∙ sym (counts_none w.pending (number - w.done) from e)
 counts_place-by w number from (Some p) h e = counts_here w number from p h e ∙ sym (counts_some w.pending (number - w.done) from p e)
 
+-- an acknowledgement counts by its number exactly if it counts by its place
 pub counts_place : (w : Waiting) (number from : ℕ) → w.done ≤ number → counts w number from ≡ counts record { done = 0; pending = w.pending } (number - w.done) from
 counts_place w number from h = counts_place-by w number from (slice_get w.pending (number - w.done)) h refl
 
@@ -67,6 +72,7 @@ place_within-by : (ps : List Pending) (place from : ℕ) (o : Option Pending) �
 place_within-by ps place from None e h = absurd (false≢true (sym (counts_none ps place from e) ∙ h))
 place_within-by ps place from (Some p) e h = slice_get_within ps place p e
 
+-- if an acknowledgement counts by its place, then the place is within the pending entries
 pub place_within : (ps : List Pending) (place from : ℕ) → counts record { done = 0; pending = ps } place from ≡ true → place < length ps
 place_within ps place from h = place_within-by ps place from (slice_get ps place) refl h
 

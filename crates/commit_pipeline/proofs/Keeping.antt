@@ -84,5 +84,6 @@ acked_by done ps rest number from false low is by =
     let no : counts (waiting done ps) number from ≡ false = counts_place (waiting done ps) number from low ∙ sym is in
     rw (no, by) refl
 
+-- if an acknowledgement does not count, then taking it only if it counts changes nothing
 pub uncounted : (w : Waiting) (number from : ℕ) → counts w number from ≡ false → w ≡ (if counts w number from then acknowledged w number from else w)
 uncounted w number from none = rw none refl

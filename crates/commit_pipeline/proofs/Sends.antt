@@ -21,11 +21,13 @@ unfolding apart without
 apart-with_node k [] acks = refl
 apart-with_node k (n ∷ ns) acks = grind (arith, nat_tests, has-with_node n k acks, apart-with_node k ns acks)
 
+-- the members among nodes without those that acknowledged are the members among them, without those that acknowledged
 pub meet-apart : (ns acks members : List ℕ) → meet (apart ns acks) members ≡ apart (meet ns members) acks
 unfolding apart meet
 meet-apart [] acks members = refl
 meet-apart (n ∷ ns) acks members = grind (arith, nat_tests, meet-apart ns acks members)
 
+-- nodes without those that acknowledged are not more than the nodes
 pub length-apart : (ns acks : List ℕ) → length (apart ns acks) ≤ length ns
 unfolding apart
 length-apart [] acks = omega arith
@@ -33,6 +35,7 @@ length-apart (n ∷ ns) acks = grind (arith, length-apart ns acks)
 
 -- ---- the sends of one entry
 
+-- there are as many sends of an entry as nodes
 pub length-sends : (number : ℕ) (ns : List ℕ) → length (sends number ns) ≡ length ns
 unfolding sends
 length-sends number [] = refl
@@ -43,10 +46,12 @@ pub sends-lacking : (ds : List Due) (number n : ℕ) (ns all acks : List ℕ) �
 unfolding sends apart
 sends-lacking ds number n ns all acks is lacks = rw (is, lacks) (append_assoc ds (record { number = number; to = n } ∷ []) (sends number (apart ns acks)))
 
+-- if the head node has acknowledged, then only sends to the nodes behind it are due
 pub sends-acked : (ds : List Due) (number n : ℕ) (ns all acks : List ℕ) → all ≡ n ∷ ns → has n acks ≡ true → ds ++ sends number (apart ns acks) ≡ ds ++ sends number (apart all acks)
 unfolding apart
 sends-acked ds number n ns all acks is acked = rw (is, acked) refl
 
+-- if there are no nodes, then there are no sends
 pub sends-none : (ds : List Due) (number : ℕ) (all acks : List ℕ) → all ≡ [] → ds ++ sends number (apart all acks) ≡ ds
 unfolding sends apart
 sends-none ds number all acks is = rw is (append-nil ds)
@@ -151,25 +156,30 @@ sends_of-append nodes number n (q ∷ ps) p e =
 
 -- ---- how many sends are due
 
+-- if each entry has at most 8 followers, then there are at most 8 sends for each entry
 pub length-sends_of : (number : ℕ) (ps : List Pending) → HaveFewFollowers ps → length (sends_of lacking number ps) ≤ 8 * length ps
 unfolding sends_of HaveFewFollowers
 length-sends_of number [] h = omega arith
 length-sends_of number (p ∷ ps) h =
     omega (arith, length-append (sends number (lacking p)) (sends_of lacking (suc number) ps), length-sends number (lacking p), length-apart p.followers p.acks, h.0, length-sends_of (suc number) ps h.1)
 
+-- a set of nodes has at most 8 of them
 pub few_nodes : (ns : List ℕ) → IsNodeSet ns → length ns ≤ 8
 few_nodes ns h = omega (arith, length-below 0 8 ns h.rising h.below (omega arith))
 
+-- if an entry with at most 8 followers comes behind such entries, then all have at most 8
 pub HaveFewFollowers-append : (ps : List Pending) (p : Pending) → HaveFewFollowers ps → length p.followers ≤ 8 → HaveFewFollowers (ps ++ p ∷ [])
 unfolding HaveFewFollowers
 HaveFewFollowers-append [] p h k = (k, tt)
 HaveFewFollowers-append (q ∷ ps) p h k = (h.0, HaveFewFollowers-append ps p h.1 k)
 
+-- if all entries have at most 8 followers, then so have those behind the head
 pub HaveFewFollowers-rest : (ps : List Pending) → HaveFewFollowers ps → HaveFewFollowers (drop 1 ps)
 unfolding HaveFewFollowers
 HaveFewFollowers-rest [] h = h
 HaveFewFollowers-rest (p ∷ ps) h = h.1
 
+-- if all entries have at most 8 followers, then so they have after one is acknowledged once more
 pub HaveFewFollowers-acked : (ps : List Pending) (i k : ℕ) → i < length ps → HaveFewFollowers ps → HaveFewFollowers (put no_pending ps i (acked_pending (nth no_pending ps i) k))
 unfolding HaveFewFollowers nth put
 HaveFewFollowers-acked [] i k h f = absurd (omega arith)

@@ -171,6 +171,7 @@ booked_start c txs names = record {
   replies = refl;
 }
 
+-- if a configuration keeps its limits and its transactions name declared objects, then the invariant holds at the start
 pub start-invariant : (c : Config) (txs : List TxDecl) → KeepsLimits c → NamesDeclared c txs → DataInvariant (run_state (start c txs)) untold
 start-invariant c txs keeps names = record {
   limits = rw (start_config c txs).0 keeps;

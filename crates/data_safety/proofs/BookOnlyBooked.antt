@@ -48,10 +48,12 @@ turn_here m s c = record {
   ];
 }
 
+-- a node that stays as it is differs in current transactions at most
 pub no_turn : (m : Node) → IsTurn m m
 no_turn m =
     record { me = refl; epoch = refl; reported = refl; stopped = refl; entries = refl; copies = refl; gathers = refl; logs = refl; done = λ r. refl; pending = λ r. refl }
 
+-- if one slot has another current transaction, then each node differs in current transactions at most
 pub slot_turns : (y : RunState) (nodes : ℕ → Node) (n s : ℕ) (c : Option Current) → TurnsSlot y nodes n s c → (m : ℕ) → IsTurn (y.system.node m) (nodes m)
 slot_turns y nodes n s c t m = elim (same_or_not m n) [
   | inl same ↦ rw (same, t.at) (turn_here (y.system.node n) s c)
@@ -121,6 +123,7 @@ module _ (y : RunState) (u : Witness) (b : IsBooked y u) (nodes : ℕ → Node) 
       let r : record_of book p.id ≡ record_of y.book p.id = fixed p.id _ was.0 in
       rw ((q t.node).pending t.slot, (q t.node).done t.slot) (ap (λ (x : TxRecord). x.entry) r ∙ was.0, ap (λ (x : TxRecord). x.reply) r ∙ was.1, was.2)
 
+  -- if current transactions turn and no record with an entry changes, then what holds of the book still holds
   pub turned-booked : IsBooked (turned y nodes book) u
   turned-booked = record {
     objects = b.objects;
@@ -166,5 +169,6 @@ module _ (y : RunState) (u : Witness) (b : IsBooked y u) (nodes : ℕ → Node) 
     | inr there ↦ let was = b.current m r c there.0 in rw (noted.others c.id (other_slot m r c there.0 there.1)) was
   ]
 
+  -- if a slot turns and the new book is a history, then what holds of the book still holds
   pub noted-booked : IsHistory (turned y nodes book) → IsBooked (turned y nodes book) u
   noted-booked h = turned-booked y u b nodes book (slot_turns y nodes n s o t) noted_entries noted_fixed noted_current h

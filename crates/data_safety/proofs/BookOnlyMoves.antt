@@ -33,10 +33,12 @@ resaid y z =
       book = y.book;
     }
 
+-- if the configuration, the views and the letters stay, up to order, then the invariant holds of the run said again
 pub resaid-invariant : (y z : RunState) (u : Witness) → DataInvariant y u → z.system.config ≡ y.system.config → z.system.views ≡ y.system.views → Sends y.system z.system nothing → z.txs ≡ y.txs → DataInvariant (resaid y z) u
 resaid-invariant y z u f config views sends txs =
     same-invariant y (resaid y z) u f record { config = config; views = views; nodes = λ m. refl; sends = record { stay = sends.stay; only = sends.only } } txs refl
 
+-- if an optional value is not there, then it is None
 pub none_of : {A : Type 0} (o : Option A) → (is_some o ≡ true → ⊥) → o ≡ None
 none_of None h = refl
 none_of (Some a) h = absurd (h refl)
@@ -53,6 +55,7 @@ pub record SamePoints (y : Book) (z : Book) : Type 0 where
   pub begun_before : (j step : ℕ) → (record_of z j).begun ≡ Some step → step ≤ z.steps
   pub had_begun : (j begin step : ℕ) → (record_of z j).begun ≡ Some begin → (record_of y j).point ≡ Some step → (record_of y j).begun ≡ Some begin
 
+-- if the book has the same points, then it still is a history
 pub points-history : (y : RunState) (u : Witness) (nodes : ℕ → Node) (book : Book) → IsBooked y u → SamePoints y.book book → IsHistory (turned y nodes book)
 points-history y u nodes book b s = record {
   begun = s.begun;
@@ -76,6 +79,7 @@ same_left y nodes book points = λ i. λ x. left-same y (turned y nodes book) x 
 
 -- ---- a rest
 
+-- if only the order of letters and the count of steps change, then the invariant stays
 pub stutters-invariant : (y z : RunState) (u : Witness) → DataInvariant y u → Same y.system z.system → z.txs ≡ y.txs → z.book ≡ record y.book { steps = z.book.steps } → y.book.steps ≤ z.book.steps → DataInvariant z u
 stutters-invariant y z u f s txs book steps =
     let x = resaid y z in
@@ -166,6 +170,7 @@ begin_points y u id b none =
       ];
     }
 
+-- if a slot begins a declared transaction that has not begun, then the invariant stays
 pub begins-invariant : (y z : RunState) (u : Witness) → DataInvariant y u → (n s id : ℕ) (c : Current) → c.id ≡ id → c.tx ≡ (nth no_tx y.txs id).tx → (nth no_tx y.txs id).node ≡ n → (nth no_tx y.txs id).slot ≡ s
     → (record_of y.book id).begun ≡ None → Changes y.system z.system n (with_current (y.system.node n) s (Some c)) nothing → z.txs ≡ y.txs → z.book ≡ book_begin y.book id → DataInvariant z u
 begins-invariant y z u f n s id c named tx at_node at_slot none ch txs book =
@@ -223,6 +228,7 @@ refuse_points y u id b begun =
       had_begun = λ j begin step is pointed. sym (refuse_begun y id j) ∙ is;
     }
 
+-- if a slot's current transaction is refused, then the invariant stays
 pub refuses-invariant : (y z : RunState) (u : Witness) → DataInvariant y u → (n s : ℕ) (c : Current) → (slot (y.system.node n) s).current ≡ Some c
     → Changes y.system z.system n (with_current (y.system.node n) s None) nothing → z.txs ≡ y.txs → z.book ≡ book_refuse y.book c.id → DataInvariant z u
 refuses-invariant y z u f n s c is ch txs book =

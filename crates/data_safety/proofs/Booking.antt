@@ -135,6 +135,7 @@ pass_tx-none b id step pointed =
     by_ack b id None = refl
     by_ack b id (Some k) = refl
 
+-- if a transaction has its point already, then its pass at another node leaves the book
 pub pass_tx-again : (b after : Book) (found : Option ℕ) (id step : ℕ) → found ≡ Some id → (record_of b id).point ≡ Some step
     → after ≡ (pass_tx b false found).book → after ≡ b
 pass_tx-again b after found id step is pointed e = e ∙ ap (λ (f : Option ℕ). (pass_tx b false f).book) is ∙ pass_tx-none b id step pointed

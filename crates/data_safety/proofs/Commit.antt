@@ -213,6 +213,7 @@ module _ (y z : RunState) (u : Witness) (f : DataInvariant y u) (n s : ℕ) (c :
         omega (arith, before, ap (λ (g : Content). g.ver) (commit-left y z u f n s c h w.obj));
   }
 
+  -- if a slot commits a write transaction, then the invariant stays
   pub keeps_commit : DataInvariant z u
   keeps_commit = record {
     limits = subst (λ (k : Config). KeepsLimits k) (sym h.change.config) f.limits;

@@ -247,6 +247,7 @@ module _ (y z : RunState) (u : Witness) (f : DataInvariant y u) (n s : ℕ) (c :
   same_steps : z.book.steps ≡ y.book.steps
   same_steps = ap (λ (b : Book). b.steps) h.book
 
+  -- after a commit, what holds of the book still holds
   pub commit-booked : IsBooked z u
   commit-booked = record {
     objects = λ j x m. rw h.change.config (f.booked.objects j x (rw (tx_ops-same y z j h.txs) at m));

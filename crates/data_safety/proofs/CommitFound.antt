@@ -54,12 +54,15 @@ replicas-in o (v ∷ vs) w g (there _ _ i) m =
     grind (arith, has-join g (entry o v.obj).place.replicas (replicas_of o vs), rest)
 
 module _ (y z : RunState) (u : Witness) (f : DataInvariant y u) (n s : ℕ) (c : Current) (h : CommitsTx y z n s c) where
+  -- the slot's current transaction has the operations that were declared
   pub commit-ops : c.tx ≡ tx_ops y c.id
   commit-ops = (f.booked.current n s c h.current).0
 
+  -- each object that the committed transaction names is one of the configuration
   pub commit-object : (x : ℕ) → mentions x (named c.tx) ≡ true → x < length y.system.config.objects
   commit-object x m = f.booked.objects c.id x (ap (λ (ops : List Op). mentions x (named ops)) (sym commit-ops) ∙ m)
 
+  -- the node owns each object that the committed transaction names
   pub commit-owns : (x : ℕ) → mentions x (named c.tx) ≡ true → owns (y.system.node n) x ≡ true
   commit-owns x m = cause-owns (y.system.node n) s x c.tx h.free m
 
@@ -79,6 +82,7 @@ module _ (y z : RunState) (u : Witness) (f : DataInvariant y u) (n s : ℕ) (c :
   commit-copy x m =
       owner-copy y u f n x record { node = n; slot = s } refl (commit-object x m) h.change.live (commit-owns x m) (commit-alone x m)
 
+  -- the node's copies of the objects that it names are what the entries before it leave
   pub commit-found : (x : ℕ) → mentions x (named c.tx) ≡ true
       → (value_of (copy (y.system.node n) x) ≡ (found_at y u record { node = n; slot = s } (end (stream_state y.system record { node = n; slot = s })) x).value)
       × (version_of (copy (y.system.node n) x) ≡ (found_at y u record { node = n; slot = s } (end (stream_state y.system record { node = n; slot = s })) x).ver)
@@ -86,10 +90,12 @@ module _ (y z : RunState) (u : Witness) (f : DataInvariant y u) (n s : ℕ) (c :
       let b = commit-copy x m in
       value_found (copy (y.system.node n) x) b.0 (found_at y u record { node = n; slot = s } (end (stream_state y.system record { node = n; slot = s })) x) b.1 b.2
 
+  -- the transaction makes of the node's copies what it makes of what the entries before it leave
   pub commit-ran : run_here (y.system.node n) c.tx ≡ run (λ x. (found_at y u record { node = n; slot = s } (end (stream_state y.system record { node = n; slot = s })) x).value) c.tx
   commit-ran =
       run-agree (λ x. value_of (copy (y.system.node n) x)) (λ x. (found_at y u record { node = n; slot = s } (end (stream_state y.system record { node = n; slot = s })) x).value) c.tx (λ x m. (commit-found x m).0)
 
+  -- the committed writes are those of the transaction, with versions one above what the entries before it leave
   pub commit-writes : new_writes (y.system.node n) (run_here (y.system.node n) c.tx).writes
       ≡ raised (found_at y u record { node = n; slot = s } (end (stream_state y.system record { node = n; slot = s }))) (run (λ x. (found_at y u record { node = n; slot = s } (end (stream_state y.system record { node = n; slot = s })) x).value) c.tx).writes
   commit-writes =
@@ -107,6 +113,7 @@ module _ (y z : RunState) (u : Witness) (f : DataInvariant y u) (n s : ℕ) (c :
       let from = raised-from found (run (λ x. (found x).value) c.tx).writes w m in
       (run-named (λ x. (found x).value) c.tx (w.obj, w.value) from.0, from.1)
 
+  -- a commit writes no object twice
   pub commit-once : IsOnce (new_writes (y.system.node n) (run_here (y.system.node n) c.tx).writes)
   commit-once =
       let found : ℕ → Content = found_at y u record { node = n; slot = s } (end (stream_state y.system record { node = n; slot = s })) in

@@ -40,6 +40,7 @@ then_away w ws x b c other (inl rest) = inl (rest.0, none rest.1)
     none more v (there _ _ i) = more v i
 then_away w ws x b c other (inr rest) = inr (rest.0, there w ws rest.1, rest.2, rest.3)
 
+-- if an object has a copy after writes at its owner, then it had one before, left as it was or made by a write
 pub rewritten-was : (copies : List (Option Copy)) (ws : List WriteOf) (x : ℕ) (c : Copy) → nth None (each_write rewritten_copy copies ws) x ≡ Some c
     → (b : Copy) × (nth None copies x ≡ Some b) × Rewritten ws x b c
 unfolding each_write
@@ -63,6 +64,7 @@ unfolding rewritten_copy
 rewritten-is_some w None = refl
 rewritten-is_some w (Some c) = refl
 
+-- writes at an owner neither bring a copy nor take one away
 pub rewritten-some : (copies : List (Option Copy)) (ws : List WriteOf) (x : ℕ) → is_some (nth None (each_write rewritten_copy copies ws) x) ≡ is_some (nth None copies x)
 unfolding each_write
 rewritten-some copies [] x = refl

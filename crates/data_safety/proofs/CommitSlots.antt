@@ -51,11 +51,13 @@ pub record CommitsTx (y z : RunState) (n s : ℕ) (c : Current) : Type 0 where
   pub book : z.book ≡ book_commit y.book record { node = n; slot = s } c.id (next_number (slot (y.system.node n) s)) (run_here (y.system.node n) c.tx).reply
 
 module _ (y z : RunState) (n s : ℕ) (c : Current) (h : CommitsTx y z n s c) where
+  -- after a commit the slot has no current transaction, and its new entry stands at the end of those pending
   pub commit-slot : slot (z.system.node n) s ≡ slot_after (slot (y.system.node n) s) (made (y.system.node n) n c)
   commit-slot = ap (λ (m : Node). slot m s) h.change.node
       ∙ with_slot-same (with_copies (y.system.node n) (each_write rewritten_copy (y.system.node n).copies (new_writes (y.system.node n) (run_here (y.system.node n) c.tx).writes))) s
       (slot_after (slot (y.system.node n) s) (made (y.system.node n) n c))
 
+  -- each slot is the one that committed, or is as before
   pub commit-slots : (m r : ℕ) → ((m ≡ n) × (r ≡ s)) ⊎ (((m ≡ n → r ≢ s)) × (slot (z.system.node m) r ≡ slot (y.system.node m) r))
   commit-slots m r = elim (same_or_not m n) [
     | inr other ↦ inr (λ e. absurd (other e), ap (λ (k : Node). slot k r) (h.change.others m other))
@@ -71,12 +73,14 @@ module _ (y z : RunState) (n s : ℕ) (c : Current) (h : CommitsTx y z n s c) wh
     ]
   ]
 
+  -- a commit leaves the count of what has passed at each slot
   pub commit-done : (m r : ℕ) → (slot (z.system.node m) r).done ≡ (slot (y.system.node m) r).done
   commit-done m r = elim (commit-slots m r) [
     | inl here ↦ rw (here.0, here.1) (ap (λ (l : Slot). l.done) commit-slot)
     | inr away ↦ ap (λ (l : Slot). l.done) away.1
   ]
 
+  -- each other stream has its slot as before
   pub commit-away : (t : Stream) → t ≢ record { node = n; slot = s } → slot (z.system.node t.node) t.slot ≡ slot (y.system.node t.node) t.slot
   commit-away t other = elim (commit-slots t.node t.slot) [
     | inl here ↦ absurd (other (stream_from t n s here.0 here.1))
@@ -111,6 +115,7 @@ module _ (y z : RunState) (n s : ℕ) (c : Current) (h : CommitsTx y z n s c) wh
     ]
   ]
 
+  -- a commit makes its stream one entry longer
   pub commit-end_here : end (stream_state z.system record { node = n; slot = s }) ≡ suc (end (stream_state y.system record { node = n; slot = s }))
   commit-end_here =
       let t : Stream = record { node = n; slot = s } in
@@ -119,9 +124,11 @@ module _ (y z : RunState) (n s : ℕ) (c : Current) (h : CommitsTx y z n s c) wh
       let size : length (ps ++ p ∷ []) ≡ length ps + 1 = length-append ps (p ∷ []) in
       home-end z.system t ∙ rw commit-slot (omega (arith, size, home-end y.system t))
 
+  -- a commit leaves the end of each other stream
   pub commit-end_away : (t : Stream) → t ≢ record { node = n; slot = s } → end (stream_state z.system t) ≡ end (stream_state y.system t)
   commit-end_away t other = home-end z.system t ∙ ap (λ (l : Slot). l.done + length l.pending) (commit-away t other) ∙ sym (home-end y.system t)
 
+  -- no stream's end falls
   pub commit-end : (t : Stream) → end (stream_state y.system t) ≤ end (stream_state z.system t)
   commit-end t = elim (stream_cases t record { node = n; slot = s }) [
     | inl same ↦ subst (λ (q : Stream). end (stream_state y.system q) ≤ end (stream_state z.system q)) (sym same) (omega (arith, commit-end_here))
@@ -142,6 +149,7 @@ module _ (y z : RunState) (n s : ℕ) (c : Current) (h : CommitsTx y z n s c) wh
         (entry_here j (subst (λ (q : Stream). (slot (y.system.node q.node) q.slot).done ≤ j) same above) (subst (λ (q : Stream). j < end (stream_state y.system q)) same below))
   ]
 
+  -- the entry at the old end of the stream is the one that the commit made
   pub commit-entry_new : pending_at z record { node = n; slot = s } (end (stream_state y.system record { node = n; slot = s })) ≡ made (y.system.node n) n c
   commit-entry_new =
       let t : Stream = record { node = n; slot = s } in
@@ -152,10 +160,12 @@ module _ (y z : RunState) (n s : ℕ) (c : Current) (h : CommitsTx y z n s c) wh
 
   -- ---- the book
 
+  -- the record of the committed transaction has its entry and its reply
   pub commit-record : record_of z.book c.id ≡ record (record_of y.book c.id) { entry = Some record { stream = record { node = n; slot = s }; number = next_number (slot (y.system.node n) s) }; reply = Some (run_here (y.system.node n) c.tx).reply }
   commit-record = ap (λ (b : Book). record_of b c.id) h.book
       ∙ nth-put_same no_record y.book.records c.id (record (record_of y.book c.id) { entry = Some record { stream = record { node = n; slot = s }; number = next_number (slot (y.system.node n) s) }; reply = Some (run_here (y.system.node n) c.tx).reply })
 
+  -- a commit leaves each other record
   pub commit-record_other : (j : ℕ) → j ≢ c.id → record_of z.book j ≡ record_of y.book j
   commit-record_other j other = ap (λ (b : Book). record_of b j) h.book
       ∙ nth-put_other no_record y.book.records c.id j (record (record_of y.book c.id) { entry = Some record { stream = record { node = n; slot = s }; number = next_number (slot (y.system.node n) s) }; reply = Some (run_here (y.system.node n) c.tx).reply }) (λ e. other (sym e))

@@ -58,6 +58,7 @@ module _ (y z : RunState) (u : Witness) (f : DataInvariant y u) (n s : ℕ) (c :
       shrunk-quiet y.system z.system t (u.passed t) n (committing (y.system.node n) n s c) (f.replication t) h.change
       (commit_quiet (y.system.node n) t n s c (λ e. other (sym e)))
 
+  -- after a commit the invariant holds of each stream
   pub commit-replication : (t : Stream) → ReplicationInvariant (stream_state z.system t) (u.passed t)
   commit-replication t = elim (stream_cases t record { node = n; slot = s }) [
     | inr other ↦ (shrunk_away t other).goes.replication
@@ -79,6 +80,7 @@ module _ (y z : RunState) (u : Witness) (f : DataInvariant y u) (n s : ℕ) (c :
         ]
   ]
 
+  -- a commit sends no letter that says anything of a stream
   pub commit-letters : (t : Stream) (l : Said) → In l (stream_state z.system t).letters → In l (stream_state y.system t).letters
   commit-letters t l i = elim (stream_cases t record { node = n; slot = s }) [
     | inr other ↦ (shrunk_away t other).goes.letters l i
@@ -132,14 +134,17 @@ module _ (y z : RunState) (u : Witness) (f : DataInvariant y u) (n s : ℕ) (c :
         ap (λ (q : Kept). q.writes) (appends-new old new n x appending),
       )
 
+  -- a commit leaves the objects and their placements
   pub commit-objects : StillObjects y.system z.system u record { chain = u.chain; passed = u.passed }
   commit-objects =
       still-objects y.system z.system u u.passed n (committing (y.system.node n) n s c) (IsNumbered-steady y.system f.steady) h.change
       (λ x. record { stopped = refl; epoch = refl; entry = refl; gather = refl }) f.ownership
 
+  -- a node that is live after a commit was live before
   pub commit-live : (m : ℕ) → IsLive z.system m → IsLive y.system m
   commit-live m live = kept-live y.system z.system n m (committing (y.system.node n) n s c) h.change live
 
+  -- a commit leaves the contents that the history leaves
   pub commit-left : (x : ℕ) → left z x ≡ left y x
   commit-left x = left-same y z x h.change.config h.txs (ap (λ (b : Book). b.points) h.book)
 
@@ -251,6 +256,7 @@ module _ (y z : RunState) (u : Witness) (f : DataInvariant y u) (n s : ℕ) (c :
             ]
       ]
 
+  -- after a commit, what holds of copies still holds
   pub commit-copied : IsCopied z u
   commit-copied = record {
     placed = λ m x within live.

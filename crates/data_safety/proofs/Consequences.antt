@@ -39,18 +39,22 @@ use Rattle.data_safety.proofs.Names.{run-named, raised-from}
 
 -- ---- the entries that a stream's own node keeps
 
+-- to read a list of pending entries as stored ones is to read it and then turn what was read
 pub nth-kept : (ps : List Pending) (i : ℕ) → nth no_kept (map as_kept ps) i ≡ as_kept (nth no_pending ps i)
 unfolding nth
 nth-kept [] i = refl
 nth-kept (p ∷ ps) zero = refl
 nth-kept (p ∷ ps) (suc i) = nth-kept ps i
 
+-- at its home the count of a stream is that of its slot
 pub home-done : (s : SystemState) (t : Stream) → (stream_state s t).done (stream_state s t).home ≡ (slot (s.node t.node) t.slot).done
 home-done s t = rw (stream-home s t) (own_done_is s t t.node refl)
 
+-- at its home the entries of a stream are those that its slot has pending
 pub home-kept : (s : SystemState) (t : Stream) → (stream_state s t).kept (stream_state s t).home ≡ own_kept (s.node t.node) t.slot
 home-kept s t = rw (stream-home s t) (own_kept_is s t t.node refl)
 
+-- a slot's own stream has as many entries as the slot has pending
 pub own-length : (n : Node) (s : ℕ) → length (own_kept n s) ≡ length (slot n s).pending
 unfolding own_kept
 own-length n s = length-map (slot n s).pending as_kept
@@ -129,10 +133,12 @@ unfolding is_node
 node-some None m h = absurd cc
 node-some (Some k) m h = ap (λ (j : ℕ). Some j) (eq_from k m h)
 
+-- if a node is the source of a placement, then the source is there and is this node
 pub is_source-some : (n : Node) (place : Place) → is_source n place ≡ true → source place n.members ≡ Some n.me
 is_source-some n place h = node-some (source place n.members) n.me h
 
 module _ (y : RunState) (u : Witness) (f : DataInvariant y u) where
+  -- in a run where the invariant holds, live nodes are numbered
   pub numbered : IsNumbered y.system
   numbered = IsNumbered-steady y.system f.steady
 
@@ -179,12 +185,15 @@ module _ (y : RunState) (u : Witness) (f : DataInvariant y u) where
 
   -- ---- what a live node keeps
 
+  -- an entry that has not passed, and that a live node has, can still pass
   pub kept-lives : (t : Stream) (n k : ℕ) → IsLive y.system n → Has (stream_state y.system t) n k → u.passed t ≤ k → Lives y u t k
   kept-lives t n k live h above = kept-alive (stream_state y.system t) (u.passed t) n k (f.replication t) (stream-stopped y.system t n ∙ live) h above
 
+  -- an unpassed entry that a node has is the one that its home has pending
   pub kept-entry : (t : Stream) (n k : ℕ) → Has (stream_state y.system t) n k → u.passed t ≤ k → entry_of (kept_at (stream_state y.system t) n k) ≡ entry_of (as_kept (pending_at y t k))
   kept-entry t n k h above = content-agrees (stream_state y.system t) (u.passed t) n k (f.replication t) h above ∙ home-entry y t k
 
+  -- an unpassed entry that a node has writes what the one that its home has pending writes
   pub kept-writes : (t : Stream) (n k : ℕ) → Has (stream_state y.system t) n k → u.passed t ≤ k → (kept_at (stream_state y.system t) n k).writes ≡ (pending_at y t k).writes
   kept-writes t n k h above = ap (λ (e : Entry). e.writes) (kept-entry t n k h above)
 

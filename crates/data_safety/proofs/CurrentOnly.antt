@@ -44,6 +44,7 @@ module _ (y : RunState) (nodes : ℕ → Node) (book : Book) (q : (n : ℕ) → 
   quiet n t =
       slots-quiet (y.system.node n) (nodes n) t n (q n).stopped (q n).epoch (q n).reported (q n).logs (λ _. ((q n).done t.slot, (q n).pending t.slot))
 
+  -- if nodes differ in current transactions alone, then each stream is the same
   pub turned-stream : (t : Stream) → stream_state (turned y nodes book).system t ≡ stream_state y.system t
   unfolding stream_state
   turned-stream t = λ i. record {
@@ -57,6 +58,7 @@ module _ (y : RunState) (nodes : ℕ → Node) (book : Book) (q : (n : ℕ) → 
     letters = about t y.system.letters;
   }
 
+  -- if nodes differ in current transactions alone, then each object is the same
   pub turned-object : (x : ℕ) → object (turned y nodes book).system x ≡ object y.system x
   unfolding object
   turned-object x = λ i. record {
@@ -70,6 +72,7 @@ module _ (y : RunState) (nodes : ℕ → Node) (book : Book) (q : (n : ℕ) → 
     letters = about_object x y.system.letters;
   }
 
+  -- if nodes differ in current transactions alone, then each pending entry is the same
   pub turned-pending : (t : Stream) (k : ℕ) → pending_at (turned y nodes book) t k ≡ pending_at y t k
   turned-pending t k = λ i. nth no_pending ((q t.node).pending t.slot i) (k - (q t.node).done t.slot i)
 
@@ -115,6 +118,7 @@ module _ (y : RunState) (nodes : ℕ → Node) (book : Book) (q : (n : ℕ) → 
           );
         }
 
+    -- if nodes differ in current transactions alone and the history leaves the same, then what holds of copies still holds
     pub turned-copied : IsCopied (turned y nodes book) u
     turned-copied = record {
       placed = λ n x within live. rw (turned-copy n x, turned-place u x) (f.copied.placed n x within (was_live n live));
@@ -132,6 +136,7 @@ module _ (y : RunState) (nodes : ℕ → Node) (book : Book) (q : (n : ℕ) → 
     turned-run : (t : Stream) (k : ℕ) → IsRun y u t k → IsRun (turned y nodes book) u t k
     turned-run t k is = record { reply = rw (turned-found t k, turned-pending t k) is.reply; writes = rw (turned-found t k, turned-pending t k) is.writes }
 
+    -- if nodes differ in current transactions alone and the history leaves the same, then what holds of entries still holds
     pub turned-entered : IsEntered (turned y nodes book) u
     turned-entered = record {
       home = λ t i inside. f.entered.home t i (rw ((q t.node).pending t.slot) at inside);

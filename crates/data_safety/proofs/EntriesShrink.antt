@@ -52,9 +52,11 @@ pub record ShrunkStream (old new : StreamState) (passed now : ℕ) : Type 0 wher
   pub had : (m k : ℕ) → Has new m k → Has old m k
   pub same : (m k : ℕ) → Has new m k → kept_at new m k ≡ kept_at old m k
 
+-- if no letter is allowed, then each letter was there before
 pub none_new : (old new : StreamState) → moves.Sends old new moves.nothing → (l : Said) → In l new.letters → In l old.letters
 none_new old new s l i = elim (s.only l i) [ inl before ↦ before | inr now ↦ absurd now ]
 
+-- if a node drops entries at its front and no new entry can pass, then the stream has shrunk
 pub shrunk-drops : (old new : StreamState) (passed now n d : ℕ) → Drops old new n d → ReplicationInvariant new now → passed ≤ now
     → ((k : ℕ) → IsAlive new now k → IsAlive old passed k) → ShrunkStream old new passed now
 shrunk-drops old new passed now n d s r rises alive =
@@ -90,12 +92,14 @@ shrunk-quiet old new t passed n after r c q =
 
 -- ---- objects that see nothing of the move
 
+-- objects keep their placements, and a content that was given after the move was given before
 pub record StillObjects (old new : SystemState) (u v : Witness) : Type 0 where
   pub ownership : (x : ℕ) → x < length new.config.objects → OwnershipInvariant (object new x) (v.chain x)
   pub place : (x : ℕ) → latest (object new x) (v.chain x) ≡ latest (object old x) (u.chain x)
   pub given : (x n e : ℕ) (p : Proposal) (c : Content) → HasGiven (object new x) n p c e → HasGiven (object old x) n p c e
   pub chain : (x : ℕ) → v.chain x ≡ u.chain x
 
+-- if a node changes without a letter and quietly for every object, then objects stay as they are
 pub still-objects : (old new : SystemState) (u : Witness) (passed : Stream → ℕ) (n : ℕ) (after : Node) → IsNumbered old → Changes old new n after nothing
     → ((x : ℕ) → IsQuiet (old.node n) after x) → ((x : ℕ) → x < length old.config.objects → OwnershipInvariant (object old x) (u.chain x))
     → StillObjects old new u record { chain = u.chain; passed = passed }
@@ -118,6 +122,7 @@ still-objects old new u passed n after numbered c q ownership =
 
 -- ---- a run from which entries are taken
 
+-- a move that only takes entries away: objects, transactions and owners stay, and no node comes to life
 pub record EntriesShrink (y z : RunState) (u v : Witness) : Type 0 where
   pub config : z.system.config ≡ y.system.config
   pub views : z.system.views ≡ y.system.views
@@ -140,14 +145,17 @@ pub record ShrinkLeft (y z : RunState) (u v : Witness) : Type 0 where
   pub low : (t : Stream) (from to e k d : ℕ) (i : Entry) (w : Write) → In (Stores from to e k d i) (stream_state y.system t).letters → k < v.passed t
       → In w i.writes → w.ver ≤ (left z w.obj).ver
 
+-- an entry that can still pass is not below what has passed
 pub lives-above : (z : RunState) (v : Witness) (t : Stream) (k : ℕ) → Lives z v t k → v.passed t ≤ k
 unfolding IsAlive
 lives-above z v t k alive = alive.0
 
+-- if entries only go, then an object that was clean is still clean
 pub shrink-clean : (y z : RunState) (u v : Witness) (x : ℕ) → EntriesShrink y z u v → IsClean y u x → IsClean z v x
 unfolding IsClean
 shrink-clean y z u v x s clean t k alive m = clean t k ((s.streams t).alive k alive) (rw (← s.entry t k (lives-above z v t k alive)) m)
 
+-- if entries only go and what they find stays, then what holds of entries still holds
 pub shrink-entered : (y z : RunState) (u v : Witness) → DataInvariant y u → EntriesShrink y z u v → ShrinkLeft y z u v → IsEntered z v
 shrink-entered y z u v f s l =
     record {

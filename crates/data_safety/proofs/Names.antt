@@ -17,6 +17,7 @@ use Rattle.data_safety.specs.DataInvariant.{raised}
 abbrev pub AreNamed : List (ℕ × Value) → List ℕ → Type 0
 AreNamed ws seen = (w : ℕ × Value) → In w ws → mentions w.0 seen ≡ true
 
+-- each written object is among the objects of the writes
 pub keys-mention : (ws : List (ℕ × Value)) → AreNamed ws (keys ws)
 unfolding keys mentions
 keys-mention [] w i = elim i [ ]
@@ -55,6 +56,7 @@ distinct-once (w ∷ ws) d = (λ v i is. let known : mentions v.0 (keys ws) ≡ 
 pub run-once : (found : ℕ → Value) (ops : List Op) → AreOnce (run found ops).writes
 run-once found ops = distinct-once (run found ops).writes (run-are_of found ops).distinct
 
+-- if no object is written twice, then neither is one once versions are added
 pub raised-once : (found : ℕ → Content) (ws : List (ℕ × Value)) → AreOnce ws → IsOnce (raised found ws)
 unfolding raised IsOnce AreOnce
 raised-once found [] once = tt

@@ -41,21 +41,25 @@ silent-move : (y z : RunState) (u : Witness) (f : DataInvariant y u) (n : ℕ) (
 silent-move y z u f n after move c rows copies entries me txs book =
     quiet-move y z u f n after nothing move c rows copies entries me (λ x l from to e p k none i. none) txs book
 
+-- if a node stops, then the invariant stays
 pub stops-invariant : (y z : RunState) (u : Witness) (f : DataInvariant y u) (n : ℕ) → Move y.system z.system → Changes y.system z.system n (record (y.system.node n) { stopped = true }) nothing
     → z.txs ≡ y.txs → z.book ≡ y.book → DataInvariant z u
 stops-invariant y z u f n move c txs book =
     silent-move y z u f n (record (y.system.node n) { stopped = true }) move c (same-rows (y.system.node n) (record (y.system.node n) { stopped = true }) refl refl) refl refl refl txs book
 
+-- if a node installs a later epoch, then the invariant stays
 pub installs-invariant : (y z : RunState) (u : Witness) (f : DataInvariant y u) (n e : ℕ) → Move y.system z.system → Changes y.system z.system n (installed_node y.system n e) nothing
     → z.txs ≡ y.txs → z.book ≡ y.book → DataInvariant z u
 installs-invariant y z u f n e move c txs book =
     silent-move y z u f n (installed_node y.system n e) move c (same-rows (y.system.node n) (installed_node y.system n e) refl refl) refl refl refl txs book
 
+-- if a node's gather changes, then the invariant stays
 pub gathers-invariant : (y z : RunState) (u : Witness) (f : DataInvariant y u) (n x : ℕ) (g : Option Gather) → Move y.system z.system → Changes y.system z.system n (with_gather (y.system.node n) x g) nothing
     → z.txs ≡ y.txs → z.book ≡ y.book → DataInvariant z u
 gathers-invariant y z u f n x g move c txs book =
     silent-move y z u f n (with_gather (y.system.node n) x g) move c (same-rows (y.system.node n) (with_gather (y.system.node n) x g) refl refl) refl refl refl txs book
 
+-- if a node notes that one has reported, then the invariant stays
 pub reports-invariant : (y z : RunState) (u : Witness) (f : DataInvariant y u) (n m : ℕ) → Move y.system z.system
     → Changes y.system z.system n (record (y.system.node n) { reported = with_node m (y.system.node n).reported }) nothing
     → z.txs ≡ y.txs → z.book ≡ y.book → DataInvariant z u
@@ -66,6 +70,7 @@ reports-invariant y z u f n m move c txs book =
 not_validates : (n to e : ℕ) (p : Proposal) (k : Content) (t : Stamp) (place : Place) → Acknowledges n to e p (Some k) ≡ Validates t place → ⊥
 not_validates n to e p k t place is = cc
 
+-- if a node sends letters that it may send without a change of its state, then the invariant stays
 pub tells-invariant : (y z : RunState) (u : Witness) (f : DataInvariant y u) (n : ℕ) → Move y.system z.system → Changes y.system z.system n (y.system.node n) (IsTellable (y.system.node n))
     → z.txs ≡ y.txs → z.book ≡ y.book → DataInvariant z u
 tells-invariant y z u f n move c txs book =
@@ -125,6 +130,7 @@ own-noted n s i from inside = record {
   log_kept = λ t j. refl;
 }
 
+-- if a node notes an acknowledgement of its own stream, then the invariant stays
 pub notes_own-invariant : (y z : RunState) (u : Witness) (f : DataInvariant y u) (n s i from : ℕ) → Move y.system z.system → i < length (slot (y.system.node n) s).pending
     → Changes y.system z.system n (with_slot (y.system.node n) s (noted_slot (y.system.node n) s i from)) nothing → z.txs ≡ y.txs → z.book ≡ y.book → DataInvariant z u
 notes_own-invariant y z u f n s i from move inside c txs book =
@@ -150,6 +156,7 @@ log-noted n t i from inside = record {
   ];
 }
 
+-- if a node notes an acknowledgement of the stored stream of another node, then the invariant stays
 pub notes_kept-invariant : (y z : RunState) (u : Witness) (f : DataInvariant y u) (n i from : ℕ) (t : Stream) → Move y.system z.system → i < length (log (y.system.node n) t).kept
     → Changes y.system z.system n (with_log (y.system.node n) t (noted_log (y.system.node n) t i from)) nothing → z.txs ≡ y.txs → z.book ≡ y.book → DataInvariant z u
 notes_kept-invariant y z u f n i from t move inside c txs book =
@@ -169,6 +176,7 @@ first-stays y z set n views h =
           absurd cc
     ]
 
+-- if a view is made, then the invariant stays
 pub makes_view-invariant : (y z : RunState) (u : Witness) (f : DataInvariant y u) (set : List ℕ) → Move y.system z.system → NewView y.system z.system set
     → z.txs ≡ y.txs → z.book ≡ y.book → DataInvariant z u
 makes_view-invariant y z u f set move v txs book =

@@ -133,10 +133,12 @@ unfoldable pub all_advanced : Node → List Passed → Node
 all_advanced m [] = m
 all_advanced m (p ∷ ps) = all_advanced (advanced m p) ps
 
+-- for a pass of the node's own stream, to advance is to let that many of its pending entries pass
 pub advanced-own : (m : Node) (p : Passed) → p.stream.node ≡ m.me → advanced m p ≡ pass_own m p.stream.slot (p.after - p.first)
 unfolding advanced
 advanced-own m p own = rw (eq-eqb p.stream.node m.me own) refl
 
+-- for a pass of the stream of another node, to advance is to let that many of its stored entries pass
 pub advanced-kept : (m : Node) (p : Passed) → p.stream.node ≢ m.me → advanced m p ≡ pass_kept m p.stream (p.after - p.first)
 unfolding advanced
 advanced-kept m p other = rw (ne_eqb p.stream.node m.me other) refl
@@ -145,6 +147,7 @@ advanced-kept m p other = rw (ne_eqb p.stream.node m.me other) refl
 pub two_streams : (t u : Stream) → t ≢ u → (t.node ≢ u.node) ⊎ (t.slot ≢ u.slot)
 two_streams t u ne = elim (stream_cases u t) [ inl same ↦ absurd (ne same) | inr other ↦ other ]
 
+-- two streams that advance in either order make the same node
 pub advanced-swap : (m : Node) (p q : Passed) → p.stream ≢ q.stream → advanced (advanced m p) q ≡ advanced (advanced m q) p
 advanced-swap m p q ne =
     elim (cases_eq p.stream.node m.me) [

@@ -119,6 +119,7 @@ due_before [] m q other due = due
 due_before (p ∷ ps) m q other due =
     IsDue-before m p q (other p (here p ps refl)) (due_before ps (advanced m p) q (λ r i. other r (there p ps i)) due)
 
+-- any stream
 abbrev pub IsAny : Stream → Type 0
 IsAny t = Unit {0}
 
@@ -144,15 +145,18 @@ round_then First Second m a b r s other =
 abbrev pub own_passes : Node → Act
 own_passes m = in_turn advance_own m (below (length m.slots))
 
+-- the stored streams of the nodes that are no members advance in turn
 abbrev pub kept_passes : Node → Act
 kept_passes m = in_turn advance_kept m (outside m)
 
+-- the own streams advance, then the stored streams of the nodes that are no members
 abbrev pub finish_passes : Node → Act
 finish_passes m = joined (own_passes m) (kept_passes (own_passes m).node)
 
 not_me : (members : List ℕ) (a b : ℕ) → has b members ≡ true → has a members ≡ false → a ≢ b
 not_me members a b some none same = let other : has b members ≡ false = rw same at none in absurd cc
 
+-- in a finish streams advance, none of them twice
 pub finish_round : (m : Node) → has m.me m.members ≡ true → IsRound m (finish_passes m) IsAny
 finish_round m member =
     let first = own_round (length m.slots) 0 m in

@@ -35,6 +35,7 @@ inserted-In p q (r ∷ ps) m =
     later (here _ _ e) go = inr (here r ps e)
     later (there _ _ i) go = elim (go i) [ inl same ↦ inl same | inr older ↦ inr (there r ps older) ]
 
+-- each pass of the sorted list is one of the passes
 pub sorted-In : (q : Passed) (ps : List Passed) → In q (in_stream_order ps) → In q ps
 unfolding in_stream_order
 sorted-In q [] m = m
@@ -49,6 +50,7 @@ inserted-Apart p (r ∷ ps) new apart =
     (λ _. ((λ q i. elim (inserted-In p q ps i) [ inl same ↦ (λ e. new r (here r ps refl) (sym (e ∙ ap (λ (x : Passed). x.stream) same))) | inr older ↦ apart.0 q older ]), inserted-Apart p ps (λ q i. new q (there r ps i)) apart.1))
     (λ _. (new, apart))
 
+-- if no two passes are of one stream, then so it is once they are sorted
 pub sorted-Apart : (ps : List Passed) → Apart ps → Apart (in_stream_order ps)
 unfolding in_stream_order Apart
 sorted-Apart [] apart = tt
@@ -71,11 +73,13 @@ sorted-advanced m [] apart = refl
 sorted-advanced m (p ∷ ps) apart =
     inserted-advanced m p (in_stream_order ps) (λ q i. apart.0 q (sorted-In q ps i)) ∙ sorted-advanced (advanced m p) ps apart.1
 
+-- to let passes advance, and then others, is to let both lists advance in one
 pub all_advanced-append : (m : Node) (ps qs : List Passed) → all_advanced m (ps ++ qs) ≡ all_advanced (all_advanced m ps) qs
 unfolding all_advanced
 all_advanced-append m [] qs = refl
 all_advanced-append m (p ∷ ps) qs = all_advanced-append (advanced m p) ps qs
 
+-- if two lists of passes have no stream twice and none in common, then no two passes of both are of one stream
 pub Apart-append : (ps qs : List Passed) → Apart ps → Apart qs → ((p : Passed) → In p ps → IsNew p qs) → Apart (ps ++ qs)
 unfolding Apart
 Apart-append [] qs a b h = b

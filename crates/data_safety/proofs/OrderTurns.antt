@@ -66,6 +66,7 @@ kept_agrees : (m : Node) (u : Stream) (c : ℕ) (t : Stream) → u ≢ t → Agr
 kept_agrees m u c t ne =
     record { me = refl; members = refl; slot = λ _. refl; log = λ _. log-with_log_other m u t _ (two_streams t u (λ e. ne (sym e))) }
 
+-- if one stream advances, then the node has the same of each other stream
 pub advanced-agrees : (m : Node) (p : Passed) (t : Stream) → p.stream ≢ t → AgreesOn m (advanced m p) t
 advanced-agrees m p t ne =
     elim (cases_eq p.stream.node m.me) [
@@ -77,15 +78,18 @@ advanced-agrees m p t ne =
 pub IsDue-later : (m : Node) (p q : Passed) → p.stream ≢ q.stream → IsDue m q → IsDue (advanced m p) q
 IsDue-later m p q ne = IsDue-agrees m (advanced m p) q (advanced-agrees m p q.stream ne)
 
+-- a pass that is due after another stream has advanced was due before
 pub IsDue-before : (m : Node) (p q : Passed) → p.stream ≢ q.stream → IsDue (advanced m p) q → IsDue m q
 IsDue-before m p q ne = IsDue-agrees (advanced m p) m q (AgreesOn-sym m (advanced m p) q.stream (advanced-agrees m p q.stream ne))
 
 -- ---- what is said of passes
 
+-- the letter says how far a stream has passed at the node, and not more
 pub data IsWord (m : Node) (l : Letter) : Type 0 where
   own_word : (to s d : ℕ) → d ≤ (slot m s).done → to ≢ m.me → l ≡ letter m to (RVal (own_stream m s) d) → IsWord m l
   kept_word : (to d : ℕ) (t : Stream) → t.node ≢ m.me → d ≤ (log m t).done → to ≢ t.node → l ≡ letter m to (RVal t d) → IsWord m l
 
+-- a letter that says how far a stream has passed may be sent without a change of the node
 pub IsWord-tellable : (m : Node) (l : Letter) → IsWord m l → IsTellable m l
 IsWord-tellable m l (own_word to s d le other is) = rw is (own_passed to s d le other)
 IsWord-tellable m l (kept_word to d t foreign le other is) = rw is (kept_passed to d t foreign le other)
@@ -100,6 +104,7 @@ pub record Grown (m k : Node) : Type 0 where
 Grown-refl : (m : Node) → Grown m m
 Grown-refl m = record { me = refl; epoch = refl; slots = λ i. omega arith; logs = λ t. omega arith }
 
+-- if no stream falls back twice in a row, then none falls back over both
 pub Grown-trans : (m k l : Node) → Grown m k → Grown k l → Grown m l
 Grown-trans m k l a b =
     record {
@@ -248,6 +253,7 @@ pub record IsRound (m : Node) (a : Act) (Among : Stream → Type 0) : Type 0 whe
   pub keeps : Keeps m a.node
   pub said : (l : Letter) → In l a.sent → IsWord a.node l
 
+-- where nothing is done, no stream has advanced twice
 pub still_round : (m : Node) (Among : Stream → Type 0) → IsRound m (still m) Among
 unfolding all_advanced Apart
 still_round m Among =
@@ -261,6 +267,7 @@ still_round m Among =
       said = λ l i. In-nothing l i;
     }
 
+-- if streams do not fall back, then what was said of them before is still so said of the node after
 pub round_said : (m k : Node) (a b : List Letter) → Grown m k → ((l : Letter) → In l a → IsWord m l) → ((l : Letter) → In l b → IsWord k l) → (l : Letter) → In l (a ++ b) → IsWord k l
 round_said m k a b g first second l i =
     elim (In-append l a b i) [ inl left ↦ IsWord-grown m k l g (first l left) | inr right ↦ second l right ]
@@ -274,6 +281,7 @@ first_or_later : (q p : Passed) (ps : List Passed) → In q (p ∷ ps) → (q �
 first_or_later q p ps (here _ _ e) = inl e
 first_or_later q p ps (there _ _ i) = inr i
 
+-- if a stream advances and then others do, none of them twice, then all of them have, none twice
 pub turn_then : (Among Later : Stream → Type 0) (m : Node) (a b : Act) (t : Stream) → IsTurn m a t → IsRound a.node b Later → Among t → ((u : Stream) → Later u → Among u) → ((u : Stream) → Later u → t ≢ u) → IsRound m (joined a b) Among
 unfolding all_advanced Apart
 turn_then Among Later m a b t turn round first more other = by_turn turn.turned

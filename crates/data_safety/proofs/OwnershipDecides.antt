@@ -349,6 +349,7 @@ decides-known y z u f n x g co move gathered decidable content c txs book within
           (with_chains u (longer u x g.proposal), decides-first y z u f n x g.proposal co c within first given.0 given.1 move txs book)
     ]
 
+-- if a node decides a proposal that it gathered, then the invariant stays, with a chain that may be longer
 pub decides-invariant : (y z : RunState) (u : Witness) (f : DataInvariant y u) (n x : ℕ) (g : Gather) (co : Content) → Move y.system z.system → gather (y.system.node n) x ≡ Some g
     → is_decidable (y.system.node n) g ≡ true → g.content ≡ Some co → Changes y.system z.system n (decided_node (y.system.node n) x g.proposal co) nothing
     → z.txs ≡ y.txs → z.book ≡ y.book → (v : Witness) × DataInvariant z v

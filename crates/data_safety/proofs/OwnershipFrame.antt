@@ -46,11 +46,13 @@ left-map : (y : RunState) → left y ≡ map_content (serial_map (start_map y.sy
 unfolding left map_content
 left-map y = refl
 
+-- if the transactions and the book stay, then so do the transactions of the points
 pub txs-same : (y z : RunState) → z.txs ≡ y.txs → z.book ≡ y.book → txs_of z z.book.points ≡ txs_of y y.book.points
 txs-same y z txs book =
     txs_of-in z z.book.points ∙ ap (λ (t : List TxDecl). txs_in t z.book.points) txs
     ∙ ap (λ (b : Book). txs_in y.txs b.points) book ∙ sym (txs_of-in y y.book.points)
 
+-- if the configuration, the transactions and the book stay, then so do the contents that the history leaves
 pub left-same : (y z : RunState) → z.system.config ≡ y.system.config → z.txs ≡ y.txs → z.book ≡ y.book → left z ≡ left y
 left-same y z config txs book =
     left-map z ∙ ap (λ (c : Config). map_content (serial_map (start_map c) (txs_of z z.book.points))) config
@@ -64,6 +66,7 @@ running-same found one two (suc j) same =
 
 -- ---- what the move leaves
 
+-- a move that neither commits nor stores nor passes: the book, the ends of streams and what has passed stay
 pub record IsFramed (y z : RunState) (u : Witness) : Type 0 where
   pub config : z.system.config ≡ y.system.config
   pub txs : z.txs ≡ y.txs
@@ -91,18 +94,23 @@ pub record IsRenewed (y z : RunState) (u v : Witness) (x : ℕ) : Type 0 where
   pub content : (n : ℕ) (c : Copy) → IsLive z.system n → copy (z.system.node n) x ≡ Some c → content_of c ≡ left y x
 
 module _ (y z : RunState) (u : Witness) (chain : ℕ → List Proposal) (f : DataInvariant y u) (s : IsFramed y z u) where
+  -- after a framed move the invariant holds of each stream
   pub framed-replication : (t : Stream) → ReplicationInvariant (stream_state z.system t) (u.passed t)
   framed-replication t = still-replication (stream_state y.system t) (stream_state z.system t) (u.passed t) (f.replication t) (s.dones t) (s.seen t)
 
+  -- an entry that can still pass after a framed move could pass before
   pub framed-lives : (t : Stream) (k : ℕ) → Lives z u t k → Lives y u t k
   framed-lives t k alive = still-alive (stream_state y.system t) (stream_state z.system t) (u.passed t) k (f.replication t) (s.dones t) (s.ends t) (s.seen t) alive
 
+  -- a framed move changes a pending entry in its acknowledgements at most
   pub framed-pending : (t : Stream) (k : ℕ) → IsSamePending (pending_at y t k) (pending_at z t k)
   framed-pending t k = rw ((s.slots t.node).done t.slot) ((s.slots t.node).pending t.slot (k - (slot (y.system.node t.node) t.slot).done))
 
+  -- a framed move leaves the contents that the history leaves
   pub framed-left : left z ≡ left y
   framed-left = left-same y z s.config s.txs s.book
 
+  -- a framed move leaves the contents that an entry finds
   pub framed-found : (t : Stream) (k : ℕ) → found_at z u t k ≡ found_at y u t k
   unfolding found_at
   framed-found t k =
@@ -110,15 +118,18 @@ module _ (y z : RunState) (u : Witness) (chain : ℕ → List Proposal) (f : Dat
       ∙ running-same (left y) (λ j. (pending_at z t (u.passed t + j)).writes) (λ j. (pending_at y t (u.passed t + j)).writes) (k - u.passed t)
       (λ j. (framed-pending t (u.passed t + j)).writes)
 
+  -- an object that is clean stays clean over a framed move, whatever the chains
   pub framed-clean : (x : ℕ) → IsClean y u x → IsClean z (with_chains u chain) x
   unfolding IsClean
   framed-clean x clean t k alive m =
       let m' : mentions x (pending_at y t k).named ≡ true = rw (framed-pending t k).named at m in
       clean t k (framed-lives t k alive) m'
 
+  -- a framed move leaves the operations of each transaction
   pub framed-ops : (id : ℕ) → tx_ops z id ≡ tx_ops y id
   framed-ops id = ap (λ (t : List TxDecl). (nth no_tx t id).tx) s.txs
 
+  -- an object of the configuration after a framed move was one before
   pub framed-within : (x : ℕ) → x < length z.system.config.objects → x < length y.system.config.objects
   framed-within x h = rw s.config at h
 
@@ -180,5 +191,6 @@ module _ (y z : RunState) (u : Witness) (chain : ℕ → List Proposal) (f : Dat
           | inr renewed ↦ absurd (clean-none t n k w renewed.clean (s.live n live) had above i')
         ]
 
+    -- after a framed move, what holds of copies still holds
     pub framed-copied : IsCopied z (with_chains u chain)
     framed-copied = record { placed = framed-placed; content = framed-content; taken = framed-taken }

@@ -103,6 +103,7 @@ module _ (y z : RunState) (u : Witness) (chain : ℕ → List Proposal) (f : Dat
           let was = given n x e p c (framed-within y z u chain f s x within) g last in
           (framed-clean y z u chain f s x was.0, rw (framed-left y z u chain f s) was.1)
 
+      -- after a framed move, what holds of entries still holds
       pub framed-entered : IsEntered z (with_chains u chain)
       framed-entered = record {
         home = framed-home;
@@ -165,6 +166,7 @@ module _ (y z : RunState) (u : Witness) (chain : ℕ → List Proposal) (f : Dat
       let r = framed-record c.id in
       (was.0 ∙ sym (framed-ops y z u chain f s c.id), rw r was.1, rw r was.2, rw r was.3, rw r was.4, rw s.txs was.5, rw s.txs was.6)
 
+  -- after a framed move, what holds of the book still holds
   pub framed-booked : IsBooked z (with_chains u chain)
   framed-booked = record {
     objects = framed-objects;

@@ -72,18 +72,21 @@ place-same y z u v x config chain =
 
 -- ---- a move of one node
 
+-- if the node that changes keeps its streams but for acknowledgements, then so does every node
 pub changed-rows : (y z : SystemState) (n : ℕ) (after : Node) (allowed : Letter → Type 0) → Changes y z n after allowed → SameRows (y.node n) after → (m : ℕ) → SameRows (y.node m) (z.node m)
 changed-rows y z n after allowed c rows m = elim (same_or_not m n) [
   | inl same ↦ rw (same, c.node) rows
   | inr other ↦ rw (c.others m other) (same-rows (y.node m) (y.node m) refl refl)
 ]
 
+-- if one node changes, then each node that is live after it was live before
 pub changed-live : (y z : SystemState) (n : ℕ) (after : Node) (allowed : Letter → Type 0) → Changes y z n after allowed → (m : ℕ) → IsLive z m → IsLive y m
 changed-live y z n after allowed c m live = elim (same_or_not m n) [
   | inl same ↦ rw same c.live
   | inr other ↦ let was : IsLive y m = rw (c.others m other) at live in was
 ]
 
+-- if the node that changes keeps its streams but for acknowledgements, and the book stays, then the move is framed
 pub changed-frame : (y z : RunState) (u : Witness) (f : DataInvariant y u) (n : ℕ) (after : Node) (allowed : Letter → Type 0) → Move y.system z.system → Changes y.system z.system n after allowed
     → SameRows (y.system.node n) after → z.txs ≡ y.txs → z.book ≡ y.book → IsFramed y z u
 changed-frame y z u f n after allowed move c rows txs book = record {

@@ -26,6 +26,7 @@ IsOwnershipMove old new _ = Unit {0}
 abbrev pub HasDataInvariant : RunState → Type 0
 HasDataInvariant z = (v : Witness) × DataInvariant z v
 
+-- if a move of views, reports, letters or ownership leaves the book, then the invariant stays
 pub ownership-invariant : (y z : RunState) (u : Witness) → DataInvariant y u → (move : Move y.system z.system) → IsOwnershipMove y.system z.system move → z.txs ≡ y.txs → z.book ≡ y.book → HasDataInvariant z
 unfolding IsOwnershipMove
 ownership-invariant y z u f (makes_view set v) h txs book = (u, makes_view-invariant y z u f set (makes_view set v) v txs book)

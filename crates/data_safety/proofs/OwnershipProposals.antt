@@ -164,6 +164,7 @@ holding-owned y u f n x p none a i w inside m own = elim (same_or_not x w) [
 
 -- ---- the moves
 
+-- if a node drives a request, then the invariant stays
 pub drives-invariant : (y z : RunState) (u : Witness) (f : DataInvariant y u) (n x requester : ℕ) (want : Want) → Move y.system z.system → MayDrive y.system n x requester want
     → Changes y.system z.system n (holding (y.system.node n) x (driven (y.system.node n) x requester want)) (IsAboutProposal (y.system.node n) x (driven (y.system.node n) x requester want))
     → z.txs ≡ y.txs → z.book ≡ y.book → DataInvariant z u
@@ -184,6 +185,7 @@ said-base : (y : RunState) (u : Witness) (f : DataInvariant y u) (x e : ℕ) (p 
 said-base y u f x e p within said last =
     ((f.ownership x within).proposals p e said).base_place ∙ ap (λ (v : ℕ). place_at (object y.system x) (u.chain x) v) last
 
+-- if a node accepts a proposal, then the invariant stays
 pub accepts-invariant : (y z : RunState) (u : Witness) (f : DataInvariant y u) (n x : ℕ) (p : Proposal) → Move y.system z.system → MayAccept y.system n x p
     → Changes y.system z.system n (holding (y.system.node n) x p) (IsAboutProposal (y.system.node n) x p) → HasAcked z.system (y.system.node n) x p
     → z.txs ≡ y.txs → z.book ≡ y.book → DataInvariant z u
@@ -202,6 +204,7 @@ accepts-invariant y z u f n x p move may c acked txs book =
     unheld (y.system.node n) x (unready-none (y.system.node n) x (may.ready is_the_source)).1 a i inside m))
     txs book
 
+-- if a node says again the proposal that it holds, then the invariant stays
 pub redrives-invariant : (y z : RunState) (u : Witness) (f : DataInvariant y u) (n x : ℕ) (p : Proposal) → Move y.system z.system → (entry (y.system.node n) x).proposal ≡ Some p
     → is_open (y.system.node n) ≡ true → Changes y.system z.system n (y.system.node n) (IsAboutProposal (y.system.node n) x p) → z.txs ≡ y.txs → z.book ≡ y.book → DataInvariant z u
 redrives-invariant y z u f n x p move held opened c txs book =

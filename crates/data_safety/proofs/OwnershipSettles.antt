@@ -38,6 +38,7 @@ pub record SameTables (before after : Node) : Type 0 where
   pub slots : after.slots ≡ before.slots
   pub logs : after.logs ≡ before.logs
 
+-- settling keeps a node's number, copies and streams
 pub settle-tables : (n : Node) (x : ℕ) (stamp : Stamp) (place : Place) → SameTables n (settle n x stamp place)
 unfolding settle
 settle-tables n x stamp place = elim (cases_Bool (is_below (entry n x).stamp stamp)) [
@@ -60,6 +61,7 @@ owner-top y u f n x stamp within live own ver is above =
     between : (a b c d : Stamp) → a ≡ c → b ≡ d → is_below a b ≡ true → is_below c d ≡ true
     between a b c d e g h = rw (e, g) at h
 
+-- if a node settles a placement that it was told, then the invariant stays
 pub settles-invariant : (y z : RunState) (u : Witness) (f : DataInvariant y u) (n x : ℕ) (stamp : Stamp) (place : Place) (l : Letter) → Move y.system z.system → IsReceivable y.system n l
     → IsSettling x stamp place l → is_below (entry (y.system.node n) x).stamp stamp ≡ true → Changes y.system z.system n (settle (y.system.node n) x stamp place) nothing
     → z.txs ≡ y.txs → z.book ≡ y.book → DataInvariant z u

@@ -67,6 +67,7 @@ module _ (y z : RunState) (u v : Witness) (f : DataInvariant y u) (s : EntriesSh
 
   -- ---- a pass that the book says nothing of
 
+  -- if the book, the counts and what has passed stay, then what holds of the book still holds
   pub again-booked : z.book ≡ y.book → ((t : Stream) → v.passed t ≡ u.passed t)
       → ((n r : ℕ) → (slot (z.system.node n) r).done ≡ (slot (y.system.node n) r).done) → IsBooked z v
   again-booked book passed dones =
@@ -308,9 +309,11 @@ module _ (y z : RunState) (u v : Witness) (f : DataInvariant y u) (s : EntriesSh
     unfolding reply_or
     reply_of o r is = rw is refl
 
+    -- the transaction of the pass has its point at the end of the history
     pub pointing : HasPointed y z record { id = id; reply = reply_or (record_of y.book id).reply }
     pointing = record { config = s.config; txs = s.txs; points = h.passed.points }
 
+    -- if the entry is what its transaction makes of what it finds, then after its pass what holds of the book still holds
     pub point-booked : IsRun y u p k → IsBooked z v
     point-booked is_run = record {
       objects = λ j x m. rw s.config (f.booked.objects j x (rw (tx_ops-same y z j s.txs) at m));

@@ -30,6 +30,7 @@ pub record Revalidates (y z : RunState) (n : ℕ) (ws : List Write) : Type 0 whe
   pub here : (z.system.node n).copies ≡ each_write validated (y.system.node n).copies ws
   pub others : (m : ℕ) → m ≢ n → (z.system.node m).copies ≡ (y.system.node m).copies
 
+-- if an object has a copy after a validation, then it had one before, with the same content
 pub revalidates-was : (y z : RunState) (n m x : ℕ) (ws : List Write) (c : Copy) → Revalidates y z n ws → copy (z.system.node m) x ≡ Some c
     → (b : Copy) × (copy (y.system.node m) x ≡ Some b) × Was ws x b c
 revalidates-was y z n m x ws c r h =
@@ -42,6 +43,7 @@ revalidates-was y z n m x ws c r h =
       | inr other ↦ (c, ap (λ (cs : List (Option Copy)). nth None cs x) (sym (r.others m other)) ∙ h, record { content = refl; how = inl refl })
     ]
 
+-- a validation neither brings a copy nor takes one away
 pub revalidates-some : (y z : RunState) (n m x : ℕ) (ws : List Write) → Revalidates y z n ws → is_some (copy (z.system.node m) x) ≡ is_some (copy (y.system.node m) x)
 revalidates-some y z n m x ws r =
     elim (same_or_not m n) [
@@ -101,6 +103,7 @@ module _ (y z : RunState) (u v : Witness) (f : DataInvariant y u) (s : EntriesSh
         ]
       ]
 
+  -- if what passes is not above the history, which stays, then what holds of copies still holds
   pub again-copied : (o : ℕ) (ws : List Write) → Revalidates y z o ws → ((w : Write) → In w ws → w.ver ≤ (left y w.obj).ver)
       → ((x : ℕ) → left z x ≡ left y x) → ((t : Stream) → v.passed t ≡ u.passed t) → IsCopied z v
   again-copied o ws r low same passed = record {
@@ -205,6 +208,7 @@ module _ (y z : RunState) (u v : Witness) (f : DataInvariant y u) (s : EntriesSh
             ]
       ]
 
+  -- if an entry passes for the first time, and all live followers have it, then what holds of copies still holds
   pub first-copied : (o k : ℕ) (p : Stream) → Revalidates y z o (pending_at y p k).writes → u.passed p ≡ k → v.passed p ≡ suc k
       → ((r : Stream) → r ≢ p → v.passed r ≡ u.passed r) → Lives y u p k → ((a : ℕ) → left z a ≡ overwritten (left y) (pending_at y p k).writes a)
       → ((m : ℕ) → IsLive y.system m → has m (pending_at y p k).followers ≡ true → Has (stream_state y.system p) m k) → Has (stream_state y.system p) p.node k → IsCopied z v

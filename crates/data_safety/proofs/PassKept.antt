@@ -113,6 +113,7 @@ module _ (y z : RunState) (u : Witness) (f : DataInvariant y u) (n : ℕ) (s : S
         subst (λ (k : ℕ). Has (stream_state y.system s) m k) (sym first)
         (first_pass-stored (stream_state y.system s) (stream_state z.system s) (u.passed s) n m (f.replication s) passing (done_is ∙ first) (stream-stopped y.system s m ∙ live) asked)
 
+    -- if the entry has not passed anywhere yet, then its pass is its transaction's point, and the invariant stays
     pub keeps_first : z.book ≡ (pass_tx y.book false (tx_of y.book s (log (y.system.node n) s).done)).book → DataInvariant z (passed_on u s)
     keeps_first book =
         let k : ℕ = (log (y.system.node n) s).done in
@@ -155,6 +156,7 @@ module _ (y z : RunState) (u : Witness) (f : DataInvariant y u) (n : ℕ) (s : S
       | inr other ↦ shrunk_away t other
     ]
 
+    -- if the entry has passed at another node already, then its pass leaves the history, and the invariant stays
     pub keeps_again : z.book ≡ (pass_tx y.book false (tx_of y.book s (log (y.system.node n) s).done)).book → DataInvariant z u
     keeps_again book =
         let k : ℕ = (log (y.system.node n) s).done in
@@ -169,6 +171,7 @@ module _ (y z : RunState) (u : Witness) (f : DataInvariant y u) (n : ℕ) (s : S
         some_from None h = absurd cc
         some_from (Some a) h = (a, refl)
 
+  -- if the head entry of the stored stream of a node that is no member passes, then the invariant stays
   pub keeps_pass_kept : z.book ≡ (pass_tx y.book false (tx_of y.book s (log (y.system.node n) s).done)).book → (v : Witness) × DataInvariant z v
   keeps_pass_kept book = elim (cases_lt (log (y.system.node n) s).done (u.passed s)) [
     | inl later ↦ (u, keeps_again later book)

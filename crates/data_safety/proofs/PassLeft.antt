@@ -38,6 +38,7 @@ module _ (y z : RunState) (u v : Witness) (f : DataInvariant y u) (s : EntriesSh
 
   -- ---- what has passed before
 
+  -- if the history's contents and what has passed stay, then entries find what they found
   pub again-left : ((x : ℕ) → left z x ≡ left y x) → ((t : Stream) → v.passed t ≡ u.passed t) → ShrinkLeft y z u v
   again-left same passed = record {
     found = λ t k x alive m. found-same_count t k x (passed t) (same x);
@@ -103,6 +104,7 @@ module _ (y z : RunState) (u v : Witness) (f : DataInvariant y u) (s : EntriesSh
         ]
       ]
 
+  -- if an entry passes for the first time and the history takes its writes, then entries find what they found
   pub first-shrink_left : (k : ℕ) (p : Stream) → u.passed p ≡ k → v.passed p ≡ suc k → ((r : Stream) → r ≢ p → v.passed r ≡ u.passed r) → Lives y u p k
       → ((a : ℕ) → left z a ≡ overwritten (left y) (pending_at y p k).writes a) → ShrinkLeft y z u v
   unfolding IsClean

@@ -35,28 +35,33 @@ owns-same : (m n : Node) (x : ℕ) → m.entries ≡ n.entries → m.me ≡ n.me
 unfolding owns
 owns-same m n x entries me = rw (entries, me) refl
 
+-- if the node that changes keeps its slots, then every slot is as before
 pub kept-slots : (old new : SystemState) (n m r : ℕ) (after : Node) → Changes old new n after nothing → KeepsSlots (old.node n) after → slot (new.node m) r ≡ slot (old.node m) r
 kept-slots old new n m r after c k = elim (same_or_not m n) [
   | inl same ↦ rw same (ap (λ (j : Node). slot j r) c.node ∙ ap (λ (l : List Slot). nth no_slot l r) k.slots)
   | inr other ↦ ap (λ (j : Node). slot j r) (c.others m other)
 ]
 
+-- if the node that changes keeps its placements, then every node owns what it owned
 pub kept-owns : (old new : SystemState) (n m x : ℕ) (after : Node) → Changes old new n after nothing → KeepsSlots (old.node n) after → owns (new.node m) x ≡ owns (old.node m) x
 kept-owns old new n m x after c k = elim (same_or_not m n) [
   | inl same ↦ rw same (ap (λ (j : Node). owns j x) c.node ∙ owns-same after (old.node n) x k.entries k.me)
   | inr other ↦ ap (λ (j : Node). owns j x) (c.others m other)
 ]
 
+-- if one node changes, then each node that is live after it was live before
 pub kept-live : (old new : SystemState) (n m : ℕ) (after : Node) → Changes old new n after nothing → IsLive new m → IsLive old m
 kept-live old new n m after c live = elim (same_or_not m n) [
   | inl same ↦ rw same c.live
   | inr other ↦ ap (λ (k : Node). k.stopped) (sym (c.others m other)) ∙ live
 ]
 
+-- if the node that changes keeps its slots, then the end of each stream stays
 pub kept-end : (old new : SystemState) (n : ℕ) (after : Node) (t : Stream) → Changes old new n after nothing → KeepsSlots (old.node n) after → end (stream_state new t) ≡ end (stream_state old t)
 kept-end old new n after t c k =
     home-end new t ∙ ap (λ (l : Slot). l.done + length l.pending) (kept-slots old new n t.node t.slot after c k) ∙ sym (home-end old t)
 
+-- if a node changes its stored streams alone and nothing new can pass, then entries only go
 pub shrink-logs : (y z : RunState) (u : Witness) (passed : Stream → ℕ) (n : ℕ) (after : Node) → DataInvariant y u → Changes y.system z.system n after nothing → KeepsSlots (y.system.node n) after
     → z.txs ≡ y.txs → ((t : Stream) → StreamGoes (stream_state y.system t) (stream_state z.system t) (u.passed t) (passed t)) → EntriesShrink y z u record { chain = u.chain; passed = passed }
 shrink-logs y z u passed n after f c k txs streams = record {
@@ -84,6 +89,7 @@ shrink-logs y z u passed n after f c k txs streams = record {
 
 -- ---- writes of stored entries
 
+-- a write among those of the front of a list of entries is one of an entry there
 pub writes_of-in : (m : ℕ) (ks : List Kept) (w : Write) → In w (writes_of (take m ks)) → (i : ℕ) × (i < m) × (i < length ks) × In w (nth no_kept ks i).writes
 unfolding writes_of nth
 writes_of-in zero ks w i = elim i [ ]

@@ -28,9 +28,11 @@ use Rattle.data_safety.proofs.PassBooked.{IsPoint, again-booked, point-booked, p
 abbrev pub passed_on : Witness → Stream → Witness
 passed_on u p = record { chain = u.chain; passed = λ t. if same_stream t p then suc (u.passed t) else u.passed t }
 
+-- of the stream that passes, one entry more has passed
 pub passed_on-here : (u : Witness) (p : Stream) → (passed_on u p).passed p ≡ suc (u.passed p)
 passed_on-here u p = rw (same_stream-refl p) refl
 
+-- of each other stream as many entries have passed as before
 pub passed_on-other : (u : Witness) (p t : Stream) → t ≢ p → (passed_on u p).passed t ≡ u.passed t
 passed_on-other u p t other = elim (cases_Bool (same_stream t p)) [
   | inl same ↦ absurd (other (same_stream-true t p same))
@@ -39,6 +41,7 @@ passed_on-other u p t other = elim (cases_Bool (same_stream t p)) [
 
 module _ (y z : RunState) (u v : Witness) (f : DataInvariant y u) (steady : IsSteady z.system) (s : EntriesShrink y z u v)
     (shrunk : (t : Stream) → ShrunkStream (stream_state y.system t) (stream_state z.system t) (u.passed t) (v.passed t)) where
+  -- if an entry passes for the first time, and all live followers have it, then the invariant stays
   pub pass-first : (o k id : ℕ) (p : Stream) (own : Bool) → Revalidates y z o (pending_at y p k).writes → IsPoint y z u v p k id own → Lives y u p k
       → ((m : ℕ) → IsLive y.system m → has m (pending_at y p k).followers ≡ true → Has (stream_state y.system p) m k) → Has (stream_state y.system p) p.node k → DataInvariant z v
   pass-first o k id p own r h alive stored home =
@@ -55,6 +58,7 @@ module _ (y z : RunState) (u v : Witness) (f : DataInvariant y u) (steady : IsSt
         booked = point-booked y z u v f s p k id own h is_run;
       }
 
+  -- if an entry passes that is not above the history, and the book stays, then the invariant stays
   pub pass-again : (o : ℕ) (ws : List Write) → Revalidates y z o ws → ((w : Write) → In w ws → w.ver ≤ (left y w.obj).ver) → z.book ≡ y.book
       → ((t : Stream) → v.passed t ≡ u.passed t) → ((n r : ℕ) → (slot (z.system.node n) r).done ≡ (slot (y.system.node n) r).done) → DataInvariant z v
   pass-again o ws r low book passed dones =

@@ -34,10 +34,12 @@ use Rattle.data_safety.proofs.PassCopies.{Revalidates}
 use Rattle.data_safety.proofs.PassBooked.{IsPoint}
 use Rattle.data_safety.proofs.PassMoves.{passed_on, passed_on-here, passed_on-other, pass-first}
 
+-- if an optional value is not there, then it is None
 pub none_from : (o : Option ℕ) → (is_some o ≡ true → ⊥) → o ≡ None
 none_from None no_one = refl
 none_from (Some a) no_one = absurd (no_one refl)
 
+-- a stream is made of its node and its slot
 pub stream_from : (t : Stream) (n s : ℕ) → t.node ≡ n → t.slot ≡ s → t ≡ record { node = n; slot = s }
 stream_from t n s a b = ap (λ (k : ℕ). stream_of k t.slot) a ∙ ap (λ (k : ℕ). stream_of n k) b
   where
@@ -246,6 +248,7 @@ module _ (y z : RunState) (u : Witness) (f : DataInvariant y u) (n s : ℕ) (som
       subst (λ (k : ℕ). Has (stream_state y.system t) m k) count
       (first_pass-stored (stream_state y.system t) (stream_state z.system t) (u.passed t) n m (f.replication t) passing first_done (stream-stopped y.system t m ∙ live) asked)
 
+  -- if the head entry of a node's own stream passes, then the invariant stays
   pub keeps_pass_own : z.book ≡ (pass_tx y.book true (tx_of y.book record { node = n; slot = s } (slot (y.system.node n) s).done)).book → DataInvariant z (passed_on u record { node = n; slot = s })
   keeps_pass_own book =
       let t : Stream = record { node = n; slot = s } in

@@ -48,6 +48,7 @@ then_was w ws x a b c first second = record { content = second.content ∙ first
     by (inr k) (inl g) = inr (k.0, k.1, k.2, k.3 ∙ ap (λ (d : Copy). d.ver) (sym g))
     by e (inr k) = inr (k.0, there w ws k.1, k.2, k.3)
 
+-- if an object has a copy after a validation, then it had one before, with the same content
 pub validated-was : (copies : List (Option Copy)) (ws : List Write) (x : ℕ) (c : Copy) → nth None (each_write validated copies ws) x ≡ Some c
     → (b : Copy) × (nth None copies x ≡ Some b) × Was ws x b c
 unfolding each_write
@@ -71,6 +72,7 @@ unfolding validated
 validated-is_some w None = refl
 validated-is_some w (Some c) = elim (cases_Bool (c.ver == w.ver)) [ inl same ↦ rw same refl | inr other ↦ rw other refl ]
 
+-- a validation neither brings a copy nor takes one away
 pub validated-some : (copies : List (Option Copy)) (ws : List Write) (x : ℕ) → is_some (nth None (each_write validated copies ws) x) ≡ is_some (nth None copies x)
 unfolding each_write
 validated-some copies [] x = refl

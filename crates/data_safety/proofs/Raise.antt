@@ -80,6 +80,7 @@ module _ (y z : RunState) (u : Witness) (f : DataInvariant y u) (n d : ℕ) (s :
       ap (λ (j : ℕ). nth no_kept ((stream_state y.system s).kept n) j) back ∙ ap (λ (ks : List Kept). nth no_kept ks it.0) (log_kept_is y.system s n away) in
       kept-low y u s n (done + it.0) w f held away (omega (arith, it.1, above, raising.known)) (rw at it.3)
 
+  -- if a node learns that entries it stored have passed, and the book stays, then the invariant stays
   pub keeps_raise : z.book ≡ y.book → DataInvariant z u
   keeps_raise book =
       let k : KeepsSlots (y.system.node n) (raise (y.system.node n) s d) = raise-keeps (y.system.node n) s d above in

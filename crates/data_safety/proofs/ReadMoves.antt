@@ -93,6 +93,7 @@ module _ (y : RunState) (u : Witness) (b : IsBooked y u) (id : ℕ) (reply : Rep
   new_point : Point
   new_point = record { id = id; reply = reply }
 
+  -- the read has its point at the end of the history
   pub pointed : HasPointed y (turned y nodes book) record { id = id; reply = reply }
   pointed = record { config = refl; txs = refl; points = ap (λ (k : Book). k.points) is ∙ read_points y.book id reply }
 
@@ -133,6 +134,7 @@ module _ (y : RunState) (u : Witness) (b : IsBooked y u) (id : ℕ) (reply : Rep
     | inr other ↦ rw (others j other, times_other j other) (b.in_history j)
   ]
 
+  -- if the reply is what the history leaves, then the book with the read is a history
   pub read-history : (run (λ k. (left y k).value) (tx_ops y id)).reply ≡ reply → IsHistory (turned y nodes book)
   read-history same_reply = record {
     begun = λ j h. elim (same_or_not j id) [
@@ -165,6 +167,7 @@ module _ (y : RunState) (u : Witness) (b : IsBooked y u) (id : ℕ) (reply : Rep
 
 -- ---- the move
 
+-- if nothing hinders a read transaction, and it is answered from the node's copies, then the invariant stays
 pub reads-invariant : (y z : RunState) (u : Witness) → DataInvariant y u → (n s : ℕ) (c : Current) → (slot (y.system.node n) s).current ≡ Some c → is_write c.tx ≡ false → hindrance (y.system.node n) c.tx ≡ None
     → Changes y.system z.system n (with_current (y.system.node n) s None) nothing → z.txs ≡ y.txs → z.book ≡ (book_read y.book c.id (run_here (y.system.node n) c.tx).reply).book → DataInvariant z u
 reads-invariant y z u f n s c is reader none ch txs book =

@@ -50,6 +50,7 @@ move-invariant y z u f (commits_tx n s c within is writer clear ch txs book) =
 move-invariant y z u f (passes_own_tx n s some ok ch txs book) = (_, keeps_pass_own y z u f n s some ok ch txs book)
 move-invariant y z u f (passes_kept_tx n s out foreign some ok ch txs book) = keeps_pass_kept y z u f n s out foreign some ok ch txs book
 
+-- if the invariant holds, then also after moves of a run, with some witness
 pub moves-invariant : (y z : RunState) (u : Witness) → DataInvariant y u → RunMoves y z → HasDataInvariant z
 moves-invariant y z u f (ended _) = (u, f)
 moves-invariant y z u f (onward _ mid _ move more) = let next : HasDataInvariant mid = move-invariant y mid u f move in moves-invariant mid z next.0 next.1 more

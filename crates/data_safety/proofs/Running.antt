@@ -41,9 +41,11 @@ and_parts false b h = absurd cc
 eq_from : (a b : ℕ) → (a == b) ≡ true → a ≡ b
 eq_from a b h = grind (arith, nat_tests)
 
+-- the version and the value that a write gives
 abbrev pub written_content : Write → Content
 written_content w = record { ver = w.ver; value = w.value }
 
+-- if no write is of the object, then it has the content that it had
 pub overwritten-other : (found : ℕ → Content) (ws : List Write) (x : ℕ) → ((w : Write) → In w ws → w.obj ≢ x) → overwritten found ws x ≡ found x
 unfolding overwritten
 overwritten-other found [] x none = refl
@@ -52,6 +54,7 @@ overwritten-other found (w ∷ ws) x none = elim (cases_Bool (x == w.obj)) [
   | inr other ↦ rw other (overwritten-other found ws x (λ v i. none v (there w ws i)))
 ]
 
+-- if no object is written twice, then the object of a write has what that write gives
 pub overwritten-in : (found : ℕ → Content) (ws : List Write) (w : Write) → IsOnce ws → In w ws → overwritten found ws w.obj ≡ written_content w
 unfolding overwritten IsOnce
 overwritten-in found [] w once i = elim i [ ]
@@ -78,12 +81,14 @@ writes-cases (v ∷ vs) x = elim (same_or_not v.obj x) [
 
 -- ---- what entries find
 
+-- the first unpassed entry of a stream finds what the history leaves
 pub found-start : (y : RunState) (u : Witness) (t : Stream) → found_at y u t (u.passed t) ≡ left y
 unfolding found_at running
 found-start y u t =
     let none : u.passed t - u.passed t ≡ 0 = omega arith in
     ap (λ (i : ℕ). running (left y) (λ j. (pending_at y t (u.passed t + j)).writes) i) none
 
+-- the next entry of a stream finds what this one finds, with its writes on top
 pub found-next : (y : RunState) (u : Witness) (t : Stream) (k : ℕ) → u.passed t ≤ k → found_at y u t (suc k) ≡ overwritten (found_at y u t k) (pending_at y t k).writes
 unfolding found_at running
 found-next y u t k above =
@@ -93,6 +98,7 @@ found-next y u t k above =
     ∙ ap (λ (i : ℕ). overwritten (running (left y) (λ j. (pending_at y t (u.passed t + j)).writes) (k - u.passed t)) (pending_at y t i).writes) same
 
 module _ (y : RunState) (u : Witness) (f : DataInvariant y u) where
+  -- a write of an entry that can still pass has the version one above what the entry finds
   pub write-version : (t : Stream) (k : ℕ) (w : Write) → Lives y u t k → In w (pending_at y t k).writes → w.ver ≡ (found_at y u t k w.obj).ver + 1
   write-version t k w alive i =
       let is : IsRun y u t k = f.entered.serial t k alive in
@@ -100,6 +106,7 @@ module _ (y : RunState) (u : Witness) (f : DataInvariant y u) where
       let m : In w (raised found (run (λ x. (found x).value) (tx_ops y (pending_at y t k).id)).writes) = rw is.writes i in
       (raised-from found (run (λ x. (found x).value) (tx_ops y (pending_at y t k).id)).writes w m).1
 
+  -- an entry that can still pass writes no object twice
   pub writes-once : (t : Stream) (k : ℕ) → Lives y u t k → IsOnce (pending_at y t k).writes
   writes-once t k alive =
       let is : IsRun y u t k = f.entered.serial t k alive in

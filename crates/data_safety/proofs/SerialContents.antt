@@ -20,11 +20,13 @@ use Rattle.data_safety.specs.DataInvariant.{raised}
 
 -- ---- one transaction more
 
+-- the map after transactions and one more is the map after them, with the one more applied
 pub serial_map-append : (m : List Versioned) (txs : List (List Op)) (tx : List Op) → serial_map m (txs ++ tx ∷ []) ≡ applied_map (serial_map m txs) tx
 unfolding serial_map
 serial_map-append m [] tx = refl
 serial_map-append m (t ∷ ts) tx = serial_map-append (applied_map m t) ts tx
 
+-- the replies of transactions and one more are their replies, and the one that it has at the end
 pub serial_replies-append : (m : List Versioned) (txs : List (List Op)) (tx : List Op)
     → serial_replies m (txs ++ tx ∷ []) ≡ serial_replies m txs ++ (run_at (serial_map m txs) tx).reply ∷ []
 unfolding serial_map serial_replies
@@ -33,12 +35,14 @@ serial_replies-append m (t ∷ ts) tx = ap (λ (rs : List Reply). (run_at m t).r
 
 -- ---- contents after writes
 
+-- if two contents of an object agree, then they agree after the same writes
 pub overwritten-base : (f g : ℕ → Content) (ws : List Write) (x : ℕ) → f x ≡ g x → overwritten f ws x ≡ overwritten g ws x
 unfolding overwritten
 overwritten-base f g [] x e = e
 overwritten-base f g (w ∷ ws) x e =
     ap (λ (c : Content). if x == w.obj then record { ver = w.ver; value = w.value } else c) (overwritten-base f g ws x e)
 
+-- if no write is of the object, then it has the content that it had
 pub overwritten-missed : (f found : ℕ → Content) (ws : List (ℕ × Value)) (x : ℕ) → mentions x (keys ws) ≡ false → overwritten f (raised found ws) x ≡ f x
 unfolding overwritten raised mentions keys
 overwritten-missed f found [] x h = refl
@@ -48,6 +52,7 @@ overwritten-missed f found (w ∷ ws) x h =
       | inr other ↦ rw other (overwritten-missed f found ws x (rw other at h))
     ]
 
+-- if two contents agree on all written objects, then the writes get the same versions of both
 pub raised-agree : (f g : ℕ → Content) (ws : List (ℕ × Value)) → ((x : ℕ) → mentions x (keys ws) ≡ true → f x ≡ g x) → raised f ws ≡ raised g ws
 unfolding raised mentions keys
 raised-agree f g [] same = refl
@@ -55,6 +60,7 @@ raised-agree f g (w ∷ ws) same =
     let here : f w.0 ≡ g w.0 = same w.0 (rw (eq-eqb w.0 w.0 refl) refl) in
     rw (here, raised-agree f g ws (λ x h. same x (grind (arith, nat_tests)))) refl
 
+-- if two contents of an object agree and so do the writes of the entries, then they agree after these entries
 pub running-agree : (f g : ℕ → Content) (v w : ℕ → List Write) (m x : ℕ) → f x ≡ g x → ((j : ℕ) → j < m → v j ≡ w j) → running f v m x ≡ running g w m x
 unfolding running
 running-agree f g v w zero x e same = e
@@ -73,9 +79,11 @@ running-shift f g v w (suc m) x e same =
 
 -- ---- maps as contents
 
+-- the version and the value that a map has of an object
 abbrev pub content_in : List Versioned → ℕ → Content
 content_in m x = record { ver = (content m x).ver; value = (content m x).value }
 
+-- writes of distinct objects leave in a map what the same writes, with versions, leave of its contents
 pub written_map-contents : (m : List Versioned) (ws : List (ℕ × Value)) (x : ℕ) → AreDistinct (keys ws)
     → content_in (written_map m ws) x ≡ overwritten (content_in m) (raised (content_in m) ws) x
 unfolding written_map overwritten raised AreDistinct keys

@@ -26,24 +26,29 @@ use Rattle.data_safety.proofs.SerialContents.{serial_map-append, serial_replies-
 
 -- ---- one point more
 
+-- the transactions of points and one more are those of the points, and that of the one more
 pub txs_of-append : (y : RunState) (ps : List Point) (p : Point) → txs_of y (ps ++ p ∷ []) ≡ txs_of y ps ++ tx_ops y p.id ∷ []
 unfolding txs_of
 txs_of-append y [] p = refl
 txs_of-append y (q ∷ ps) p = ap (λ (l : List (List Op)). tx_ops y q.id ∷ l) (txs_of-append y ps p)
 
+-- if the declared transactions stay, then so do the operations of each
 pub tx_ops-same : (y z : RunState) (id : ℕ) → z.txs ≡ y.txs → tx_ops z id ≡ tx_ops y id
 tx_ops-same y z id e = ap (λ (l : List TxDecl). (nth no_tx l id).tx) e
 
+-- if the declared transactions stay, then so do the transactions of points
 pub txs_of-same : (y z : RunState) (ps : List Point) → z.txs ≡ y.txs → txs_of z ps ≡ txs_of y ps
 unfolding txs_of
 txs_of-same y z [] e = refl
 txs_of-same y z (q ∷ ps) e = rw (tx_ops-same y z q.id e, txs_of-same y z ps e) refl
 
+-- the replies of points and one more are those of the points, and that of the one more
 pub replies_of-append : (ps : List Point) (p : Point) → replies_of (ps ++ p ∷ []) ≡ replies_of ps ++ p.reply ∷ []
 unfolding replies_of
 replies_of-append [] p = refl
 replies_of-append (q ∷ ps) p = ap (λ (l : List Reply). q.reply ∷ l) (replies_of-append ps p)
 
+-- a transaction is among points and one more as often as among the points, and once more if it is that one
 pub times-append : (id : ℕ) (ps : List Point) (p : Point) → times id (ps ++ p ∷ []) ≡ times id ps + times id (p ∷ [])
 unfolding times
 times-append id [] p = omega arith
@@ -124,6 +129,7 @@ first-left y z u t k x p h first id is =
     ∙ ap (λ (j : ℕ). overwritten (left y) (raised (left y) (run (λ i. (left y i).value) (tx_ops y j)).writes) x) id
     ∙ ap (λ (ws : List Write). overwritten (left y) ws x) writes
 
+-- if an entry's point ends a serial history, with its transaction's reply, then the history is still serial
 pub first-replies : (y z : RunState) (u : Witness) (t : Stream) (k : ℕ) (p : Point) → HasPointed y z p → k ≡ u.passed t → p.id ≡ (pending_at y t k).id
     → p.reply ≡ (pending_at y t k).reply → IsRun y u t k
     → replies_of y.book.points ≡ serial_replies (start_map y.system.config) (txs_of y y.book.points)

@@ -83,6 +83,7 @@ finish-passed m =
     ap (λ (ps : List Passed). (own_passes m).passed ++ ((kept_passes (own_passes m).node).passed ++ ps)) (report-passed (finish_passes m).node)
     ∙ ap (λ (ps : List Passed). (own_passes m).passed ++ ps) (append-nil (kept_passes (own_passes m).node).passed)
 
+-- a ready node's finish is moves of the run that leave the book with its passes, in the order of streams
 pub finish_arrives : (y : RunState) (n k : ℕ) → IsReady y.system n → Arrives y n (finish (y.system.node n)).node (take k (finish (y.system.node n)).sent) (book_passes y.book n (in_stream_order (finish (y.system.node n)).passed)).book
 finish_arrives y n k ready =
     let m = y.system.node n in

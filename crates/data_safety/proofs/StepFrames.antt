@@ -102,6 +102,7 @@ on_recovered-silent : (m : Node) (from : ℕ) → IsSilent (on_recovered m from)
 unfolding on_recovered
 on_recovered-silent m from = grind arith
 
+-- no letter lets an entry pass before the finish
 pub row-silent : (body : Body) (m : Node) (from : ℕ) → ◌≡◌ {A = List Passed} (row m from body).passed []
 unfolding row on_oreq
 row-silent (RInv r) m from = on_rinv-silent m from r
@@ -153,6 +154,7 @@ unfolding held_elsewhere IsObstacle
 held-obstructs None s x = nothing_obstructs
 held-obstructs (Some other) s x = where_true-obstructs _ (Held x other) tt
 
+-- what stands against a commit is neither a commit nor a read nor a missing copy
 pub write_cause-obstructs : (m : Node) (s : ℕ) (tx : List Op) (a : Tried) → write_cause m s tx ≡ Some a → IsObstacle a
 unfolding write_cause full_cause owner_cause holder_cause worn_cause IsObstacle
 write_cause-obstructs m s tx =

@@ -223,6 +223,7 @@ view_or_not_run None w set u rising is =
 
 -- ---- each step
 
+-- if a step fits the configuration and transactions of a usual world, then it is moves of its run
 pub step_is_run_moves : (w : World) (s : Step) → IsUsual w → StepFits w.config w.txs s → RunMoves (run_state w) (run_state (stepped w s))
 unfolding StepFits happens step_begin
 step_is_run_moves w (Begin k) u fits = begin_or_not_run (begin_refused w k) w k u fits refl

@@ -40,6 +40,7 @@ plain_leads s t txs book (moves_on _ mid _ move is rest) =
       on = λ u ms. onward record { system = s; txs = txs; book = book } record { system = mid; txs = txs; book = book } u (plain move is refl refl) (later.on u ms);
     }
 
+-- if plain moves reach a node, then moves of the run lead there and leave the book
 pub plain_arrives : (y : RunState) (n : ℕ) (after : Node) (sent : List Letter) → PlainReaches y.system n after sent → Arrives y n after sent y.book
 plain_arrives y n after sent r =
     let l = r.leads in
@@ -51,6 +52,7 @@ plain_arrives y n after sent r =
       leads = plain_leads y.system r.system y.txs y.book (l.plainly refl);
     }
 
+-- where nothing is done, the run stays as it is
 pub still_arrives : (y : RunState) (n : ℕ) → Arrives y n (y.system.node n) [] y.book
 still_arrives y n = plain_arrives y n (y.system.node n) [] (still_reaches y.system n)
 
@@ -69,6 +71,7 @@ quiet_arrives y n after book live k move run_state =
       leads = record { on = λ u ms. onward y (told_as y t book) u (run_state ch) ms };
     }
 
+-- if moves of the run lead to one node and book, and from there to a second, then they lead to the second
 pub then_arrives : (y : RunState) (n : ℕ) (m after : Node) (a b : List Letter) (middle book : Book) → IsReady y.system n → Arrives y n m a middle
     → ((t : SystemState) → IsReady t n → Became y.system t n m a → Arrives (told_as y t middle) n after b book) → Arrives y n after (a ++ b) book
 then_arrives y n m after a b middle book ready first on =

@@ -17,6 +17,7 @@ use Rattle.data_safety.proofs.StepMoves.{step_is_run_moves}
 
 -- ---- the transactions stay
 
+-- a move of a run leaves the declared transactions
 pub move_txs : (old new : RunState) → RunMove old new → new.txs ≡ old.txs
 move_txs old new (plain move is txs book) = txs
 move_txs old new (stutters same txs book steps) = txs
@@ -27,6 +28,7 @@ move_txs old new (commits_tx n s c within is writer none ch txs book) = txs
 move_txs old new (passes_own_tx n s some passes ch txs book) = txs
 move_txs old new (passes_kept_tx n s out other some passes ch txs book) = txs
 
+-- moves of a run leave the declared transactions
 pub moves_txs : (old new : RunState) → RunMoves old new → new.txs ≡ old.txs
 moves_txs old new (ended _) = refl
 moves_txs old new (onward _ mid _ move moves) = moves_txs mid new moves ∙ move_txs old mid move
@@ -43,6 +45,7 @@ run_txs c txs (s ∷ ss) w config same u fits =
     let step = fitting_step c txs w s config u first in
     run_txs c txs ss (stepped w s) (step.config ∙ config) (moves_txs (run_state w) (run_state (stepped w s)) (fitting_run c txs w s config same u first) ∙ same) (usual_after w (stepped w s) u step) (All-tail (StepFits c txs) s ss fits)
 
+-- the start of a run has the run's transactions
 pub start-txs : (c : Config) (txs : List TxDecl) → (start c txs).txs ≡ txs
 unfolding start
 start-txs c txs = refl

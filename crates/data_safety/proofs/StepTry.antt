@@ -46,6 +46,7 @@ pub record MayBegin (y : RunState) (n i id : ℕ) : Type 0 where
 abbrev BeginArrives : RunState → ℕ → ℕ → Did Begin → Type 0
 BeginArrives y n id d = Arrives y n d.node [] (book_begun y.book id d.answer).book
 
+-- where nothing is done, the run stays as it is, with at most k of no letters sent
 pub idle_arrives : (y : RunState) (n k : ℕ) → Arrives y n (y.system.node n) (take k []) y.book
 idle_arrives y n k = plain_arrives y n (y.system.node n) (take k []) (cut_none y.system n (y.system.node n) k (still_reaches y.system n))
 
@@ -59,6 +60,7 @@ begin_free_arrives None y n i id ready may is =
     quiet_arrives y n (with_current m i (Some c)) (book_begin y.book id) ready.live (Keeps-with_slot m i _) (λ ch. turns n i (Some c) ch)
     (λ ch. begins n i id c refl refl may.node may.slot may.within may.fresh is ch refl refl)
 
+-- if a slot may begin a declared transaction, then its begin is moves of the run, with what the book says of it
 pub begin_arrives : (y : RunState) (n i id : ℕ) → IsSteady y.system → MayBegin y n i id → BeginArrives y n id (begin (y.system.node n) i id (nth no_tx y.txs id).tx)
 unfolding begin book_begun
 begin_arrives y n i id steady may =
@@ -69,6 +71,7 @@ begin_arrives y n i id steady may =
 
 -- ---- try
 
+-- a try is moves of the run that leave the book with its answer and then its passes
 abbrev pub TryArrives : RunState → ℕ → ℕ → ℕ → Option ℕ → Did Tried → Type 0
 TryArrives y n i k degree d =
     Arrives y n d.node (take k d.sent) (book_passes (book_tried y.book record { node = n; slot = i } degree d.answer).book n (in_stream_order d.passed)).book
@@ -162,6 +165,7 @@ try_current_arrives (Some c) y n i k degree ready within same is =
     (λ writer. write_row_arrives (write_cause m i c.tx) y n i k degree c ready within is writer refl (write_cause-obstructs m i c.tx))
     (λ reader. read_row_arrives (hindrance m c.tx) degree y n i k c ready is reader same refl)
 
+-- in a steady system a slot's try is moves of the run, with what the book says of it
 pub try_arrives : (y : RunState) (n i k : ℕ) → IsSteady y.system → i < y.system.config.slots → TryArrives y n i k y.system.config.degree (try_slot (y.system.node n) i)
 unfolding try_slot book_tried book_passes in_stream_order
 try_arrives y n i k steady within =

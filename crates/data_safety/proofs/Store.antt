@@ -211,6 +211,7 @@ module _ (y z : RunState) (u : Witness) (f : DataInvariant y u) (n : ℕ) (r : I
     taken = store_taken;
   }
 
+  -- if a node stores the next entry of the stream of another, then the invariant stays
   pub keeps_store : DataInvariant z u
   keeps_store = record {
     limits = subst (λ (k : Config). KeepsLimits k) (sym c.config) f.limits;

@@ -84,6 +84,7 @@ none_took w x b other = record { how = inl refl; rises = le_refl b.ver; bound = 
     none v (here _ _ e) is = absurd (other (sym (ap (λ (k : Write). k.obj) e) ∙ is))
     none v (there _ _ i) is = elim i [ ]
 
+-- if an object has a copy after a follower took writes, then it had one before, left as it was or overwritten by a newer one
 pub applied-took : (copies : List (Option Copy)) (ws : List Write) (x : ℕ) (c : Copy) → nth None (each_write applied copies ws) x ≡ Some c
     → (b : Copy) × (nth None copies x ≡ Some b) × Took ws x b c
 unfolding each_write
@@ -107,6 +108,7 @@ unfolding applied
 applied-is_some w None = refl
 applied-is_some w (Some c) = elim (cases_Bool (nat_lt c.ver w.ver)) [ inl same ↦ rw same refl | inr other ↦ rw other refl ]
 
+-- a follower that takes writes neither gets a copy nor loses one
 pub applied-some : (copies : List (Option Copy)) (ws : List Write) (x : ℕ) → is_some (nth None (each_write applied copies ws) x) ≡ is_some (nth None copies x)
 unfolding each_write
 applied-some copies [] x = refl

@@ -93,6 +93,7 @@ pub record IsSamePending (before after : Pending) : Type 0 where
   pub followers : after.followers ≡ before.followers
   pub writes : after.writes ≡ before.writes
 
+-- a pending entry is the same as itself
 pub same-pending : (p : Pending) → IsSamePending p p
 same-pending p = record { id = refl; reply = refl; named = refl; followers = refl; writes = refl }
 
@@ -113,9 +114,11 @@ pub record SameRows (before after : Node) : Type 0 where
   pub log_count : (t : Stream) → length (log after t).kept ≡ length (log before t).kept
   pub log_kept : (t : Stream) (i : ℕ) → entry_of (nth no_kept (log after t).kept i) ≡ entry_of (nth no_kept (log before t).kept i)
 
+-- if a node keeps its streams but for acknowledgements, then so does each of its slots
 pub same-slots : (before after : Node) → SameRows before after → SameSlots before after
 same-slots before after r = record { current = r.current; done = r.done; count = r.count; pending = r.pending }
 
+-- if a node keeps its slots and logs, then it keeps its streams
 pub same-rows : (before after : Node) → after.slots ≡ before.slots → after.logs ≡ before.logs → SameRows before after
 same-rows before after slots logs =
     record {
@@ -129,12 +132,14 @@ same-rows before after slots logs =
     }
 
 module _ (old new : SystemState) (rows : (n : ℕ) → SameRows (old.node n) (new.node n)) where
+  -- if nodes keep their streams but for acknowledgements, then the count of what has passed stays
   pub rows-done : (t : Stream) (m : ℕ) → (stream_state new t).done m ≡ (stream_state old t).done m
   rows-done t m = elim (same_or_not m t.node) [
     | inl own ↦ own_done_is new t m own ∙ (rows m).done t.slot ∙ sym (own_done_is old t m own)
     | inr other ↦ log_done_is new t m other ∙ (rows m).log_done t ∙ sym (log_done_is old t m other)
   ]
 
+  -- if nodes keep their streams but for acknowledgements, then a node has as many entries of each as before
   pub rows-count : (t : Stream) (m : ℕ) → length ((stream_state new t).kept m) ≡ length ((stream_state old t).kept m)
   rows-count t m = elim (same_or_not m t.node) [
     | inl own ↦
@@ -156,6 +161,7 @@ module _ (old new : SystemState) (rows : (n : ℕ) → SameRows (old.node n) (ne
       ∙ ap (λ (w : List Write). entry_from (nth no_pending (slot (old.node m) s).pending i).followers w) p.writes
       ∙ sym (ap entry_of (nth-kept (slot (old.node m) s).pending i))
 
+  -- if nodes keep their streams but for acknowledgements, then each entry says what it said
   pub rows-kept : (t : Stream) (m i : ℕ) → entry_of (nth no_kept ((stream_state new t).kept m) i) ≡ entry_of (nth no_kept ((stream_state old t).kept m) i)
   rows-kept t m i = elim (same_or_not m t.node) [
     | inl own ↦
@@ -166,14 +172,18 @@ module _ (old new : SystemState) (rows : (n : ℕ) → SameRows (old.node n) (ne
         ∙ sym (ap (λ (ks : List Kept). entry_of (nth no_kept ks i)) (log_kept_is old t m other))
   ]
 
+  -- if nodes keep their streams but for acknowledgements, then the end of each stays
   pub rows-end : (t : Stream) → end (stream_state new t) ≡ end (stream_state old t)
   rows-end t = rw (stream-home new t, stream-home old t, rows-done t t.node, rows-count t t.node) refl
 
+  -- an entry that a node has after such a move it had before
   pub rows-had : (t : Stream) (m k : ℕ) → Has (stream_state new t) m k → Has (stream_state old t) m k
   rows-had t m k h = (omega (arith, rows-done t m, h.0), omega (arith, rows-done t m, rows-count t m, h.1))
 
+  -- an entry that a node had before such a move it still has
   pub rows-has : (t : Stream) (m k : ℕ) → Has (stream_state old t) m k → Has (stream_state new t) m k
   rows-has t m k h = (omega (arith, rows-done t m, h.0), omega (arith, rows-done t m, rows-count t m, h.1))
 
+  -- the entry of a number that a node has says what it said before such a move
   pub rows-entry : (t : Stream) (m k : ℕ) → entry_of (kept_at (stream_state new t) m k) ≡ entry_of (kept_at (stream_state old t) m k)
   rows-entry t m k = rows-kept t m (k - (stream_state new t).done m) ∙ ap (λ (d : ℕ). entry_of (nth no_kept ((stream_state old t).kept m) (k - d))) (rows-done t m)

@@ -88,6 +88,7 @@ module _ (y z : RunState) (u : Witness) (f : DataInvariant y u) (s : Same y.syst
     first = λ n h. rw s.views h;
   }
 
+  -- if only the order of letters has changed, then the invariant stays
   pub same-invariant : DataInvariant z u
   same-invariant = record {
     limits = rw s.config f.limits;

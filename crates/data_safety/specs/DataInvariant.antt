@@ -60,6 +60,7 @@ pub record IsRun (y : RunState) (u : Witness) (t : Stream) (k : ℕ) : Type 0 wh
 abbrev pub IsWritten : RunState → Witness → ℕ → ℕ → Content → Type 0
 IsWritten y u n x c = (t : Stream) × (k : ℕ) × (u.passed t ≤ k) × Has (stream_state y.system t) n k × In record { obj = x; ver = c.ver; value = c.value } (kept_at (stream_state y.system t) n k).writes
 
+-- the version and the value of a copy
 abbrev pub content_of : Copy → Content
 content_of c = record { ver = c.ver; value = c.value }
 
@@ -135,6 +136,7 @@ pub record IsBooked (y : RunState) (u : Witness) : Type 0 where
   -- the replies of the history are those of a serial run
   pub replies : replies_of y.book.points ≡ serial_replies (start_map y.system.config) (txs_of y y.book.points)
 
+-- what holds of a run at every moment: of its objects, its streams, its copies, its entries and its book
 pub record DataInvariant (y : RunState) (u : Witness) : Type 0 where
   pub limits : KeepsLimits y.system.config
   pub steady : IsSteady y.system

@@ -15,6 +15,7 @@ use Rattle.machine_moves.specs.Move.{Move, own_kept}
 unfoldable pub use Rattle.machine_moves.specs.Plain.{IsPlain}
 use Rattle.data_safety.specs.RunState.{RunState}
 
+-- one move of a run: a move of the machine, or a reordering of letters, with what it writes into the book
 pub data RunMove (old new : RunState) : Type 0 where
   plain : (move : Move old.system new.system) → IsPlain old.system new.system move → new.txs ≡ old.txs → new.book ≡ old.book → RunMove old new
   -- only the order of letters, and the count of steps, have changed

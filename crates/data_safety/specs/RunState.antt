@@ -19,6 +19,7 @@ use Rattle.replication_safety.specs.StreamState.{IsAlive}
 use Rattle.invariants.specs.Streams.{stream_state}
 use Rattle.invariants.specs.Objects.{object}
 
+-- the system, the declared transactions, and the book
 pub record RunState : Type 0 where
   pub system : SystemState
   pub txs : List TxDecl
@@ -33,6 +34,7 @@ pub record Witness : Type 0 where
   pub chain : ℕ → List Proposal
   pub passed : Stream → ℕ
 
+-- the operations of a declared transaction
 abbrev pub tx_ops : RunState → ℕ → List Op
 tx_ops y id = (nth no_tx y.txs id).tx
 

@@ -24,12 +24,14 @@ says x l = said_of x l.from l.to l.epoch l.body
 
 -- ---- letters and what they say
 
+-- if a letter is among letters, then what it says of an object is among what they say of it
 pub about-in : (x : ℕ) (m : Said) (l : Letter) (ls : List Letter) → In l ls → In m (says x l) → In m (about x ls)
 unfolding about
 about-in x m l [] i s = elim i [ ]
 about-in x m l (k ∷ ks) (here _ _ e) s = In-append_left m (says x k) (about x ks) (subst (λ (z : Letter). In m (says x z)) e s)
 about-in x m l (k ∷ ks) (there _ _ i) s = In-append_right m (says x k) (about x ks) (about-in x m l ks i s)
 
+-- what letters say of an object is said by one of them
 pub about-from : (x : ℕ) (m : Said) (ls : List Letter) → In m (about x ls) → (l : Letter) × In l ls × In m (says x l)
 unfolding about
 about-from x m [] i = elim i [ ]
@@ -43,19 +45,23 @@ only_about-same : (x : ℕ) (m : Said) → In m (only_about x x m)
 unfolding only_about
 only_about-same x m = rw (eq-eqb x x refl) (here m [] refl)
 
+-- a proposal that is sent to be held says its invalidation of its object
 pub says-oinv : (x from to e : ℕ) (p : Proposal) → In (Invalidates from to e p) (says x record { from = from; to = to; epoch = e; body = OInv x p })
 unfolding said_of
 says-oinv x from to e p = only_about-same x (Invalidates from to e p)
 
+-- an acknowledgement of a proposal says so of its object
 pub says-oack : (x from to e : ℕ) (p : Proposal) (c : Option Content)
     → In (Acknowledges from to e p c) (says x record { from = from; to = to; epoch = e; body = OAck x p c })
 unfolding said_of
 says-oack x from to e p c = only_about-same x (Acknowledges from to e p c)
 
+-- the word of a settled placement says so of its object
 pub says-oval : (x from to e : ℕ) (t : Stamp) (p : Place) → In (Validates t p) (says x record { from = from; to = to; epoch = e; body = OVal x t p })
 unfolding said_of
 says-oval x from to e t p = only_about-same x (Validates t p)
 
+-- what is in a list of one element is that element
 pub In-one : {A : Type 0} (a b : A) → In a (b ∷ []) → a ≡ b
 In-one a b (here _ _ e) = e
 In-one a b (there _ _ i) = elim i [ ]
@@ -78,6 +84,7 @@ pub data Says (x : ℕ) : Letter → Said → Type 0 where
 letter_of : ℕ → ℕ → ℕ → Body → Letter
 letter_of from to e b = record { from = from; to = to; epoch = e; body = b }
 
+-- what a letter's body says of an object, it says in one of the three ways
 pub says-body : (x from to e : ℕ) (b : Body) (m : Said) → In m (said_of x from to e b) → Says x (record { from = from; to = to; epoch = e; body = b }) m
 unfolding said_of
 says-body x from to e (RInv r) m i = elim i [ ]
@@ -96,6 +103,7 @@ says-body x from to e (OVal y t p) m i =
     rw (found.0, found.1) (by_oval from to e t p)
 says-body x from to e Recovered m i = elim i [ ]
 
+-- what a letter says of an object, it says in one of the three ways
 pub says-from : (x : ℕ) (l : Letter) (m : Said) → In m (says x l) → Says x l m
 says-from x l m i = says-body x l.from l.to l.epoch l.body m i
 
@@ -122,10 +130,12 @@ about-oack x from to e p c ls i =
 
 -- ---- how a change of a system looks to an object
 
+-- for a node of the configuration the object's entry is the one that the node has
 pub object-entry : (s : SystemState) (x n : ℕ) → n < s.config.nodes → (object s x).entry n ≡ entry (s.node n) x
 unfolding object
 object-entry s x n h = rw (lt-ltb n s.config.nodes h) refl
 
+-- for a node of the configuration the object's gather is the one that the node has
 pub object-gather : (s : SystemState) (x n : ℕ) → n < s.config.nodes → (object s x).gather n ≡ gather (s.node n) x
 unfolding object
 object-gather s x n h = rw (lt-ltb n s.config.nodes h) refl

@@ -20,12 +20,14 @@ use Rattle.invariants.proofs.AboutObjects.{In-one}
 abbrev pub says : Stream → Letter → List Said
 says t l = said_of t l.from l.to l.epoch l.body
 
+-- if a letter is among letters, then what it says of a stream is among what they say of it
 pub about-in : (t : Stream) (m : Said) (l : Letter) (ls : List Letter) → In l ls → In m (says t l) → In m (about t ls)
 unfolding about
 about-in t m l [] i s = elim i [ ]
 about-in t m l (k ∷ ks) (here _ _ e) s = In-append_left m (says t k) (about t ks) (subst (λ (z : Letter). In m (says t z)) e s)
 about-in t m l (k ∷ ks) (there _ _ i) s = In-append_right m (says t k) (about t ks) (about-in t m l ks i s)
 
+-- what letters say of a stream is said by one of them
 pub about-from : (t : Stream) (m : Said) (ls : List Letter) → In m (about t ls) → (l : Letter) × In l ls × In m (says t l)
 unfolding about
 about-from t m [] i = elim i [ ]
@@ -48,19 +50,23 @@ only_of-from t u m l i =
       | inr other ↦ let none : In m [] = rw other at i in elim none [ ]
     ]
 
+-- a letter with an entry of the stream says that the entry is to be stored
 pub says-rinv : (t : Stream) (from to e : ℕ) (r : Invalidation) → r.stream ≡ t
     → In (Stores from to e r.number r.done record { followers = r.followers; writes = r.writes }) (said_of t from to e (RInv r))
 unfolding said_of
 says-rinv t from to e r is = rw is (only_of-same t (Stores from to e r.number r.done record { followers = r.followers; writes = r.writes }))
 
+-- an acknowledgement of the stream says that its sender has stored up to the number
 pub says-rack : (t : Stream) (from to e k : ℕ) → In (Stored from k) (said_of t from to e (RAck t k))
 unfolding said_of
 says-rack t from to e k = only_of-same t (Stored from k)
 
+-- the word that entries of the stream have passed says so to its receiver
 pub says-rval : (t : Stream) (from to e d : ℕ) → In (Passes to d) (said_of t from to e (RVal t d))
 unfolding said_of
 says-rval t from to e d = only_of-same t (Passes to d)
 
+-- the word that a node has reported says so of each stream
 pub says-recovered : (t : Stream) (from to e : ℕ) → In (Reports from e) (said_of t from to e Recovered)
 unfolding said_of
 says-recovered t from to e = here (Reports from e) [] refl

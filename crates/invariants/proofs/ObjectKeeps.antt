@@ -52,6 +52,7 @@ sees_move old new x chain numbered ownership (commits n s cu within is no_cause 
 abbrev pub IsInOrder : Object → Type 0
 IsInOrder o = (chain : List Proposal) × OwnershipInvariant o chain
 
+-- if the invariant holds of an object, then after each move that it sees it is in order
 pub seen-keeps : (old new : Object) (chain : List Proposal) → OwnershipInvariant old chain → Seen old new chain → IsInOrder new
 seen-keeps old new chain ownership (viewed set v) = (chain, keeps_NewView old new set v chain ownership)
 seen-keeps old new chain ownership (stopped n s) = (chain, keeps_Stops old new n s chain ownership)
@@ -99,6 +100,7 @@ same-orders old new setting stop epoch entries gathered sends before =
           (λ t place i. told-kept old new before.0 before.1 quiet.grows sends t place i),
     )
 
+-- if an object is in order, then so it is in a system that is the same
 pub system-same-orders : (old new : SystemState) (x : ℕ) → Same old new → IsInOrder (object old x) → IsInOrder (object new x)
 system-same-orders old new x s before =
     same-orders (object old x) (object new x) (same_setting old new x s.config s.views)

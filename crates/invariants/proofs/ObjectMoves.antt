@@ -28,9 +28,11 @@ object-gather_as : (s : SystemState) (x m : ℕ) → (object s x).gather m ≡ g
 unfolding object gather_as
 object-gather_as s x m = refl
 
+-- if configuration and node stay, then so does the object's entry there
 pub same_entry_as : (old new : SystemState) (x m : ℕ) → new.config ≡ old.config → new.node m ≡ old.node m → (object new x).entry m ≡ (object old x).entry m
 same_entry_as old new x m c n = rw (object-entry_as, c, n, ← object-entry_as) refl
 
+-- if configuration and node stay, then so does the object's gather there
 pub same_gather_as : (old new : SystemState) (x m : ℕ) → new.config ≡ old.config → new.node m ≡ old.node m → (object new x).gather m ≡ (object old x).gather m
 same_gather_as old new x m c n = rw (object-gather_as, c, n, ← object-gather_as) refl
 
@@ -51,14 +53,17 @@ object-epoch : (s : SystemState) (x m : ℕ) → (object s x).epoch m ≡ (s.nod
 unfolding object
 object-epoch s x m = refl
 
+-- if a node is stopped as before, then the object sees it so
 pub same_stopped : (old new : SystemState) (x m : ℕ) → (new.node m).stopped ≡ (old.node m).stopped → (object new x).stopped m ≡ (object old x).stopped m
 unfolding object
 same_stopped old new x m e = e
 
+-- if a node is in the epoch it was in, then the object sees it so
 pub same_epoch : (old new : SystemState) (x m : ℕ) → (new.node m).epoch ≡ (old.node m).epoch → (object new x).epoch m ≡ (object old x).epoch m
 unfolding object
 same_epoch old new x m e = e
 
+-- if all nodes but one stay, then all nodes but that one stay as the object sees them
 pub same_others : (old new : SystemState) (x n : ℕ) → new.config ≡ old.config → ((m : ℕ) → m ≢ n → new.node m ≡ old.node m)
     → moves.SameOthers (object old x) (object new x) n
 same_others old new x n c others = record {
@@ -73,6 +78,7 @@ pub object-live : (s : SystemState) (x n : ℕ) → IsLive s n → (object s x).
 unfolding object
 object-live s x n h = h
 
+-- if a node changes but for its stop and its epoch, then the object sees it act
 pub acts_object : (old new : SystemState) (x n : ℕ) (after : Node) (allowed : Letter → Type 0) → Changes old new n after allowed
     → after.stopped ≡ (old.node n).stopped → after.epoch ≡ (old.node n).epoch → moves.Acts (object old x) (object new x) n
 acts_object old new x n after allowed c stop epoch = record {
@@ -91,6 +97,7 @@ entry_after old new x n after allowed c numbered =
     let here : n < new.config.nodes = rw c.config within in
     object-entry new x n here ∙ ap (λ (k : Node). entry k x) c.node
 
+-- after a node changes, the object's gather there is the one of the changed node
 pub gather_after : (old new : SystemState) (x n : ℕ) (after : Node) (allowed : Letter → Type 0) → Changes old new n after allowed → IsNumbered old
     → (object new x).gather n ≡ gather after x
 gather_after old new x n after allowed c numbered =
@@ -98,10 +105,12 @@ gather_after old new x n after allowed c numbered =
     let here : n < new.config.nodes = rw c.config within in
     object-gather new x n here ∙ ap (λ (k : Node). gather k x) c.node
 
+-- before a node changes, the object's entry there is the one that the node has
 pub entry_before : (old new : SystemState) (x n : ℕ) (after : Node) (allowed : Letter → Type 0) → Changes old new n after allowed → IsNumbered old
     → (object old x).entry n ≡ entry (old.node n) x
 entry_before old new x n after allowed c numbered = object-entry old x n (numbered.within n c.live)
 
+-- before a node changes, the object's gather there is the one that the node has
 pub gather_before : (old new : SystemState) (x n : ℕ) (after : Node) (allowed : Letter → Type 0) → Changes old new n after allowed → IsNumbered old
     → (object old x).gather n ≡ gather (old.node n) x
 gather_before old new x n after allowed c numbered = object-gather old x n (numbered.within n c.live)
@@ -137,5 +146,6 @@ pub nothing_heard : (old new : SystemState) (x n : ℕ) (after : Node) (allowed 
     → ((l : Letter) (m : Said) → allowed l → In m (says x l) → ⊥) → moves.Sends (object old x) (object new x) moves.nothing
 nothing_heard old new x n after allowed c hears = sends_object old new x allowed moves.nothing c.sends hears
 
+-- if a node changes without a letter, then nothing is said of the object
 pub quiet_sends : (old new : SystemState) (x n : ℕ) (after : Node) → Changes old new n after nothing → moves.Sends (object old x) (object new x) moves.nothing
 quiet_sends old new x n after c = nothing_heard old new x n after nothing c (λ l m none i. none)

@@ -48,6 +48,7 @@ pub data Seen (old new : Object) (chain : List Proposal) : Type 0 where
   decided : (n : ℕ) (g : Gather) → moves.Decides old new n g → Seen old new chain
   told : (n : ℕ) → moves.Tells old new n → Seen old new chain
 
+-- two numbers are equal, or they are not
 pub same_or_not : (a b : ℕ) → (a ≡ b) ⊎ (a ≢ b)
 same_or_not a b = elim (cases_Bool (a == b)) [
   | inl same ↦ let e : a ≡ b = grind (arith, nat_tests) in inl e
@@ -95,6 +96,7 @@ view_move old new x set v = record {
   sends = view_sends old new x set v;
 }
 
+-- if a view is made, then each object sees a move
 pub sees_view : (old new : SystemState) (x : ℕ) (chain : List Proposal) (set : List ℕ) → NewView old new set → Seen (object old x) (object new x) chain
 sees_view old new x chain set v = viewed set (view_move old new x set v)
 
@@ -102,6 +104,7 @@ stopped_object : (old new : SystemState) (x n : ℕ) → (new.node n).stopped �
 unfolding object
 stopped_object old new x n h = h
 
+-- if a node stops, then each object sees a move
 pub sees_stop : (old new : SystemState) (x n : ℕ) (chain : List Proposal) → IsNumbered old → Changes old new n (record (old.node n) { stopped = true }) nothing
     → Seen (object old x) (object new x) chain
 sees_stop old new x n chain numbered c = stopped n record {
@@ -114,6 +117,7 @@ sees_stop old new x n chain numbered c = stopped n record {
   sends = quiet_sends old new x n (record (old.node n) { stopped = true }) c;
 }
 
+-- the node once it has installed the epoch
 abbrev pub installed_node : SystemState → ℕ → ℕ → Node
 installed_node s n e = record (s.node n) { epoch = e; members = view s e; reported = []; gathers = dropped (s.node n).gathers }
 
@@ -122,6 +126,7 @@ install_epochs : (old new : SystemState) (x n e : ℕ) → (old.node n).epoch < 
 unfolding object
 install_epochs old new x n e later within is = (later, within, ap (λ (k : Node). k.epoch) is)
 
+-- if a node installs a later epoch that has a view, then each object sees a move
 pub sees_install : (old new : SystemState) (x n e : ℕ) (chain : List Proposal) → IsNumbered old → (old.node n).epoch < e → e ≤ length old.views
     → Changes old new n (installed_node old n e) nothing → Seen (object old x) (object new x) chain
 sees_install old new x n e chain numbered later within c =
@@ -183,6 +188,7 @@ settles_here old new x n y chain stamp place l numbered ownership i s above c sa
     let is : IsDecided (object old x) chain stamp place = settling-decided old x chain stamp place l ownership i s' in
     settled n stamp.ver (settled_seen old new x n chain stamp place numbered is above' c')
 
+-- if a node settles a placement that it was told, then each object sees a move
 pub sees_settle : (old new : SystemState) (x n y : ℕ) (chain : List Proposal) (stamp : Stamp) (place : Place) (l : Letter) → IsNumbered old
     → OwnershipInvariant (object old x) chain → IsReceivable old n l → IsSettling y stamp place l → is_below (entry (old.node n) y).stamp stamp ≡ true
     → Changes old new n (settle (old.node n) y stamp place) nothing → Seen (object old x) (object new x) chain
@@ -197,6 +203,7 @@ received : (old : SystemState) (x n : ℕ) → (old.node n).epoch ≡ (object ol
 unfolding object
 received old x n = refl
 
+-- if a node drives a request, then its object sees that it drives the proposal
 pub drive_here : (old new : SystemState) (n x requester : ℕ) (want : Want) → IsNumbered old → MayDrive old n x requester want
     → Changes old new n (holding (old.node n) x (driven (old.node n) x requester want)) (IsAboutProposal (old.node n) x (driven (old.node n) x requester want))
     → HasAcked new (old.node n) x (driven (old.node n) x requester want) → moves.Drives (object old x) (object new x) n (driven (old.node n) x requester want)
@@ -228,6 +235,7 @@ drive_here old new n x requester want numbered may c acked = record {
     stamp_of : ℕ → ℕ → Stamp
     stamp_of v d = record { ver = v; driver = d }
 
+-- if a node drives a request, then each object sees a move
 pub sees_drive : (old new : SystemState) (x n y requester : ℕ) (want : Want) (chain : List Proposal) → IsNumbered old → MayDrive old n y requester want
     → Changes old new n (holding (old.node n) y (driven (old.node n) y requester want)) (IsAboutProposal (old.node n) y (driven (old.node n) y requester want))
     → HasAcked new (old.node n) y (driven (old.node n) y requester want) → Seen (object old x) (object new x) chain
@@ -272,6 +280,7 @@ accept_said old x n p l body r =
     subst (λ (e : ℕ). In (Invalidates l.from l.to e p) (about x old.letters)) r.1 said in
     inl (l.from, l.to, now)
 
+-- if a node accepts a proposal, then its object sees that it accepts it
 pub accept_here : (old new : SystemState) (n x : ℕ) (p : Proposal) (chain : List Proposal) → IsNumbered old → OwnershipInvariant (object old x) chain → MayAccept old n x p
     → Changes old new n (holding (old.node n) x p) (IsAboutProposal (old.node n) x p) → HasAcked new (old.node n) x p
     → moves.Accepts (object old x) (object new x) n p
@@ -293,6 +302,7 @@ accept_here old new n x p chain numbered ownership may c acked = record {
     before : (object old x).entry n ≡ entry (old.node n) x
     before = entry_before old new x n (holding (old.node n) x p) (IsAboutProposal (old.node n) x p) c numbered
 
+-- if a node accepts a proposal, then each object sees a move
 pub sees_accept : (old new : SystemState) (x n y : ℕ) (p : Proposal) (chain : List Proposal) → IsNumbered old → OwnershipInvariant (object old x) chain → MayAccept old n y p
     → Changes old new n (holding (old.node n) y p) (IsAboutProposal (old.node n) y p)
     → HasAcked new (old.node n) y p → Seen (object old x) (object new x) chain
@@ -303,6 +313,7 @@ sees_accept old new x n y p chain numbered ownership may c acked =
           (accepted n p (accept_here old new n y p chain numbered (subst (λ (k : ℕ). OwnershipInvariant (object old k) chain) (sym same) ownership) may c acked))
     ]
 
+-- if a node says again the proposal that it holds, then its object sees that it does
 pub redrive_here : (old new : SystemState) (n x : ℕ) (p : Proposal) → IsNumbered old → (entry (old.node n) x).proposal ≡ Some p
     → Changes old new n (old.node n) (IsAboutProposal (old.node n) x p) → moves.Redrives (object old x) (object new x) n p
 redrive_here old new n x p numbered held c = record {
@@ -314,6 +325,7 @@ redrive_here old new n x p numbered held c = record {
       (λ l m about i. about_proposal-heard old x n p l m numbered c.live about i);
 }
 
+-- if a node says again a proposal that it holds, then each object sees a move
 pub sees_redrive : (old new : SystemState) (x n y : ℕ) (p : Proposal) (chain : List Proposal) → IsNumbered old → (entry (old.node n) y).proposal ≡ Some p
     → Changes old new n (old.node n) (IsAboutProposal (old.node n) y p) → Seen (object old x) (object new x) chain
 sees_redrive old new x n y p chain numbered held c =
@@ -334,6 +346,7 @@ gather_said old x n from p co l body sender r =
     subst (λ (k : ℕ). In (Acknowledges l.from k (old.node n).epoch p co) (about x old.letters)) r.0 now in
     subst (λ (k : ℕ). In (Acknowledges k n (old.node n).epoch p co) (about x old.letters)) sender to_node
 
+-- the node once it has noted an acknowledgement in its gather
 abbrev pub noting : SystemState → ℕ → ℕ → ℕ → Proposal → Option Content → Node
 noting s n x from p co = with_gather (s.node n) x (Some (noted (gather_for p (gather (s.node n) x)) from co))
 
@@ -353,6 +366,7 @@ gather_here old new n x from p co l numbered body sender r below greatest c = re
   sends = quiet_sends old new x n (noting old n x from p co) c;
 }
 
+-- if a node notes an acknowledgement, then each object sees a move
 pub sees_gather : (old new : SystemState) (x n y from : ℕ) (p : Proposal) (co : Option Content) (l : Letter) (chain : List Proposal) → IsNumbered old
     → l.body ≡ OAck y p co → l.from ≡ from → IsReceivable old n l
     → is_below (entry (old.node n) y).stamp p.stamp ≡ true → greater_gather p.stamp (gather (old.node n) y) ≡ None
@@ -390,6 +404,7 @@ pub record IsComplete (n : Node) (g : Gather) : Type 0 where
   pub source : (s : ℕ) × (source g.proposal.base_place n.members ≡ Some s)
   pub acks : is_subset (arbiters g.proposal.base_place n.members n.directory) g.acks ≡ true
 
+-- if a node can decide a gather, then the gather is complete
 pub decidable-complete : (n : Node) (g : Gather) → is_decidable n g ≡ true → IsComplete n g
 unfolding is_decidable
 decidable-complete n g h =
@@ -403,9 +418,11 @@ decidable-complete n g h =
       acks = last.1;
     }
 
+-- the node once it has decided a gather: it has settled the new placement and brought the content in
 abbrev pub deciding : SystemState → ℕ → ℕ → Gather → Content → Node
 deciding s n x g co = bring (settle (s.node n) x g.proposal.stamp (new_place g.proposal)) x g.proposal co
 
+-- if a node decides a gather, then its object sees that it decides it
 pub decide_here : (old new : SystemState) (n x : ℕ) (g : Gather) (co : Content) (chain : List Proposal) → IsNumbered old → OwnershipInvariant (object old x) chain
     → gather (old.node n) x ≡ Some g → is_decidable (old.node n) g ≡ true → g.content ≡ Some co
     → Changes old new n (deciding old n x g co) nothing → moves.Decides (object old x) (object new x) n g
@@ -439,6 +456,7 @@ decide_here old new n x g co chain numbered ownership gathered decidable content
     above : is_below (entry (old.node n) x).stamp g.proposal.stamp ≡ true
     above = rw (← entry_is) (ownership.gathers n g (gather_is ∙ gathered)).above
 
+-- if a node decides a gather, then each object sees a move
 pub sees_decide : (old new : SystemState) (x n y : ℕ) (g : Gather) (co : Content) (chain : List Proposal) → IsNumbered old → OwnershipInvariant (object old x) chain
     → gather (old.node n) y ≡ Some g → is_decidable (old.node n) g ≡ true → g.content ≡ Some co
     → Changes old new n (deciding old n y g co) nothing → Seen (object old x) (object new x) chain

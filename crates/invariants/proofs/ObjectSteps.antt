@@ -57,6 +57,7 @@ about_proposal-other n x y p l m ne (to_collector to h r) i =
     only_about-from y x m (Acknowledges n.me to n.epoch p (own_content n x p.base_place)) i in
     ne found.0
 
+-- if the test says that an optional node is this one, then it is this one
 pub is_node-some : (o : Option ℕ) (n : ℕ) → is_node o n ≡ true → o ≡ Some n
 unfolding is_node
 is_node-some None n h = cc
@@ -97,6 +98,7 @@ pub record IsActor (old : SystemState) (x n : ℕ) : Type 0 where
   pub members : (old.node n).members ≡ Rattle.ownership_safety.specs.Object.view (object old x) ((object old x).epoch n)
   pub epoch : (object old x).epoch n ≡ (old.node n).epoch
 
+-- a live node has its number, and the directory, members and epoch that the object sees
 pub actor : (old : SystemState) (x n : ℕ) → IsNumbered old → IsLive old n → IsActor old x n
 unfolding object
 actor old x n numbered live = record {

@@ -55,20 +55,24 @@ unfolding all_of
 no_letters zero n = refl
 no_letters (suc m) n = all_of-append (replicate n (nothing_of Letter)) (all_of (replicate m (replicate n (nothing_of Letter)))) ∙ rw (all_of-empty {A = Letter} n, no_letters m n) refl
 
+-- at the start no letter was sent
 pub start_letters : (c : Config) (txs : List TxDecl) → (system (start c txs)).letters ≡ []
 unfolding system start nothing_of
 start_letters c txs = no_letters c.nodes c.nodes
 
 -- ---- the nodes at the start
 
+-- at the start each node of the configuration is a start node
 pub start_inside : (c : Config) (txs : List TxDecl) (n : ℕ) → n < c.nodes → (system (start c txs)).node n ≡ start_node c n
 unfolding system start
 start_inside c txs n h = nth-map_numbers no_node (start_node c) 0 c.nodes n h ∙ ap (λ (k : ℕ). start_node c k) (zero_plus n)
 
+-- at the start there is no node past those of the configuration
 pub start_outside : (c : Config) (txs : List TxDecl) (n : ℕ) → c.nodes ≤ n → (system (start c txs)).node n ≡ no_node
 unfolding system start
 start_outside c txs n h = nth-past no_node (map (start_node c) (below c.nodes)) n (omega (arith, length-map_numbers (start_node c) 0 c.nodes, h))
 
+-- the start has the run's configuration, and one view, of all its nodes
 pub start_config : (c : Config) (txs : List TxDecl) → ((system (start c txs)).config ≡ c) × ((system (start c txs)).views ≡ below c.nodes ∷ [])
 unfolding system start
 start_config c txs = (refl, refl)
@@ -83,6 +87,7 @@ start_within c txs n live =
 
 -- ---- objects
 
+-- an index within a list reads, in its map by a function, the function of what it reads in the list
 pub nth-map : {A B : Type 0} (d : B) (e : A) (f : A → B) (xs : List A) (i : ℕ) → i < length xs → nth d (map f xs) i ≡ f (nth e xs i)
 unfolding nth
 nth-map d e f [] i h = absurd (omega arith)
@@ -159,6 +164,7 @@ object_live c txs x n live =
     let within : n < c.nodes = start_within c txs n live in
     (start_epoch c txs n within, has-numbers_from n 0 c.nodes (omega arith) (omega arith))
 
+-- if a configuration keeps its limits, then each of its objects is at the start as in the beginning
 pub begins_object : (c : Config) (txs : List TxDecl) (x : ℕ) → KeepsLimits c → x < length c.objects → IsStart (object (system (start c txs)) x)
 begins_object c txs x keeps h =
     let standing = object_standing c txs x in
@@ -180,6 +186,7 @@ start_object c txs x keeps h = ([], start-ownership (object (system (start c txs
 
 -- ---- streams
 
+-- any index of a list of the default repeated reads the default
 pub nth-none : {A : Type 0} (d : A) (n k : ℕ) → nth d (replicate n d) k ≡ d
 nth-none d n k = elim (nth-replicate d d n k) [ inl same ↦ same | inr past ↦ past ]
 
@@ -190,17 +197,21 @@ no_row m n i k =
       | inr past ↦ rw past (nth-past no_log [] k (omega arith))
     ]
 
+-- a start node has only empty slots
 pub start_slots : (c : Config) (n s : ℕ) → slot (start_node c n) s ≡ no_slot
 unfolding start_node
 start_slots c n s = nth-none no_slot c.slots s
 
+-- a start node has stored nothing of any stream
 pub start_logs : (c : Config) (n : ℕ) (t : Stream) → log (start_node c n) t ≡ no_log
 unfolding start_node
 start_logs c n t = no_row c.nodes c.slots t.node t.slot
 
+-- where there is no node there are only empty slots
 pub nowhere_slots : (s : ℕ) → slot no_node s ≡ no_slot
 nowhere_slots s = nth-past no_slot [] s (omega arith)
 
+-- where there is no node nothing of any stream is stored
 pub nowhere_logs : (t : Stream) → log no_node t ≡ no_log
 nowhere_logs t = ap (λ (ls : List StreamLog). nth no_log ls t.slot) (nth-past [] [] t.node (omega arith)) ∙ nth-past no_log [] t.slot (omega arith)
 
@@ -220,6 +231,7 @@ nothing_kept n t k s l = (
     either_list true z = refl
     either_list false z = refl
 
+-- at the start no entry of a stream has passed, and no node has any
 pub kept_at_start : (c : Config) (txs : List TxDecl) (t : Stream) (n : ℕ) → ((stream_state (system (start c txs)) t).done n ≡ 0) × ((stream_state (system (start c txs)) t).kept n ≡ [])
 unfolding stream_state
 kept_at_start c txs t n =
@@ -235,6 +247,7 @@ epoch_bounded c txs n =
       | inr past ↦ rw (start_outside c txs n past) (omega arith)
     ]
 
+-- each stream is at the start as in the beginning
 pub begins_stream : (c : Config) (txs : List TxDecl) (t : Stream) → IsStreamStart (stream_state (system (start c txs)) t)
 unfolding stream_state about_stream nth
 begins_stream c txs t =

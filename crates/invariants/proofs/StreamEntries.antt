@@ -30,10 +30,12 @@ use Rattle.invariants.proofs.AboutStreams.{says, about-in, says-rinv, says-rack,
 use Rattle.invariants.proofs.StreamFrames.{IsQuiet, stream-home, own-done, own-kept, log-done, log-kept, acts_stream, slots-quiet, logs-quiet, with_log-same, with_log-other, with_slot-same, with_slot-other}
 use Rattle.invariants.proofs.StreamSeen.{Seen, raised, stored_next, noted, passed_first, committed_by, actor, stream_cases, sees_nothing, quiet_sends, after_fields, before_fields, own_done_is, own_kept_is, log_done_is, log_kept_is}
 
+-- if a count is above what has passed, then a raise to it drops the entries up to it from the front
 pub raise-taken : (n : Node) (s : Stream) (d : ℕ) → (log n s).done < d → log (raise n s d) s ≡ record { done = d; kept = drop (d - (log n s).done) (log n s).kept }
 unfolding raise
 raise-taken n s d h = rw (lt-ltb (log n s).done d h) (with_log-same (after_passing n (take (d - (log n s).done) (log n s).kept)) s record { done = d; kept = drop (d - (log n s).done) (log n s).kept })
 
+-- a raise of one stream leaves each other one
 pub raise-other : (n : Node) (s t : Stream) (d : ℕ) → s ≢ t → log (raise n s d) t ≡ log n t
 unfolding raise
 raise-other n s t d ne = elim (cases_Bool (nat_lt (log n s).done d)) [
@@ -41,11 +43,13 @@ raise-other n s t d ne = elim (cases_Bool (nat_lt (log n s).done d)) [
   | inr not_above ↦ rw not_above refl
 ]
 
+-- stop, epoch and reports stay
 pub record SameStanding (n m : Node) : Type 0 where
   pub stopped : m.stopped ≡ n.stopped
   pub epoch : m.epoch ≡ n.epoch
   pub reported : m.reported ≡ n.reported
 
+-- a raise leaves stop, epoch, reports and slots
 pub raise-standing : (n : Node) (s : Stream) (d : ℕ) → (SameStanding n (raise n s d)) × ((raise n s d).slots ≡ n.slots)
 unfolding raise
 raise-standing n s d = elim (cases_Bool (nat_lt (log n s).done d)) [
@@ -71,6 +75,7 @@ on_kept old new t n after c st = record {
   sends = quiet_sends old new t n after c;
 }
 
+-- if a node raises the count of the stored stream of another, then the stream sees the raise
 pub raise_here : (old new : SystemState) (s : Stream) (n d passed : ℕ) (l : Letter) → ReplicationInvariant (stream_state old s) passed → s.node ≢ n → In l old.letters
     → IsRaising s d l → (log (old.node n) s).done < d → Changes old new n (raise (old.node n) s d) nothing → moves.Raises (stream_state old s) (stream_state new s) passed n d
 raise_here old new s n d passed l replication foreign i is above c = record {
@@ -87,6 +92,7 @@ raise_here old new s n d passed l replication foreign i is above c = record {
     away : n ≢ s.node
     away = λ e. foreign (sym e)
 
+-- if a node raises the count of the stored stream of another, then each stream sees a move
 pub sees_raise : (old new : SystemState) (t s : Stream) (n d passed : ℕ) (l : Letter) → ReplicationInvariant (stream_state old t) passed → s.node ≢ n → IsReceivable old n l
     → IsRaising s d l → (log (old.node n) s).done < d → Changes old new n (raise (old.node n) s d) nothing → Seen (stream_state old t) (stream_state new t) passed
 sees_raise old new t s n d passed l replication foreign r is above c =
@@ -113,6 +119,7 @@ stored_letter old n r l body g =
     let said = about-in r.stream (Stores l.from l.to l.epoch r.number r.done record { followers = r.followers; writes = r.writes }) l old.letters g.2 says_it in
     rw (← g.1, ← g.0) said
 
+-- if a node stores the next entry of the stream of another, then the stream sees it stored
 pub store_here : (old new : SystemState) (n : ℕ) (r : Invalidation) (l : Letter) → r.stream.node ≢ n → IsReceivable old n l → l.body ≡ RInv r
     → r.done ≤ (log (old.node n) r.stream).done → r.number ≡ next_kept (log (old.node n) r.stream)
     → Changes old new n (store (old.node n) r) nothing → moves.StoresNext (stream_state old r.stream) (stream_state new r.stream) n record { followers = r.followers; writes = r.writes }
@@ -141,6 +148,7 @@ store_here old new n r l foreign g body low number c = record {
     sent_top = subst (λ (k : ℕ). In (Stores l.from n ((stream_state old r.stream).epoch n) k r.done record { followers = r.followers; writes = r.writes }) (stream_state old r.stream).letters)
         top_is (stored_letter old n r l body g)
 
+-- if a node stores the next entry of the stream of another, then each stream sees a move
 pub sees_store : (old new : SystemState) (t : Stream) (n passed : ℕ) (r : Invalidation) (l : Letter) → r.stream.node ≢ n → IsReceivable old n l → l.body ≡ RInv r
     → r.done ≤ (log (old.node n) r.stream).done → r.number ≡ next_kept (log (old.node n) r.stream)
     → Changes old new n (store (old.node n) r) nothing → Seen (stream_state old t) (stream_state new t) passed
@@ -157,6 +165,7 @@ sees_store old new t n passed r l foreign g body low number c =
 
 -- ---- an acknowledgement is noted
 
+-- the node once it has noted an acknowledgement of entry i of its own stream
 abbrev pub noting_own : Node → ℕ → ℕ → ℕ → Node
 noting_own n s i from =
     with_slot n s record {
@@ -165,6 +174,7 @@ noting_own n s i from =
       pending = put no_pending (slot n s).pending i (acked_pending (nth no_pending (slot n s).pending i) from);
     }
 
+-- the node once it has noted an acknowledgement of entry i of the stored stream of another
 abbrev pub noting_kept : Node → Stream → ℕ → ℕ → Node
 noting_kept n s i from =
     with_log n s record {
@@ -247,6 +257,7 @@ other_slot n t me s l ne =
     stream_at : ℕ → ℕ → Stream
     stream_at k j = record { node = k; slot = j }
 
+-- if a node notes an acknowledgement of its own stream, then each stream sees a move
 pub sees_note_own : (old new : SystemState) (t : Stream) (n s i from passed : ℕ) (l : Letter) → IsReceivable old n l → l.from ≡ from
     → l.body ≡ RAck record { node = n; slot = s } ((slot (old.node n) s).done + i) → i < length (slot (old.node n) s).pending
     → Changes old new n (noting_own (old.node n) s i from) nothing → Seen (stream_state old t) (stream_state new t) passed
@@ -289,6 +300,7 @@ note_kept_here old new s n i from l foreign g sender body within c = record {
       kept = put no_kept (log (old.node n) s).kept i (acked_kept (nth no_kept (log (old.node n) s).kept i) from);
     }
 
+-- if a node notes an acknowledgement of the stored stream of another, then each stream sees a move
 pub sees_note_kept : (old new : SystemState) (t s : Stream) (n i from passed : ℕ) (l : Letter) → s.node ≢ n → IsReceivable old n l → l.from ≡ from
     → l.body ≡ RAck s ((log (old.node n) s).done + i) → i < length (log (old.node n) s).kept
     → Changes old new n (noting_kept (old.node n) s i from) nothing → Seen (stream_state old t) (stream_state new t) passed
@@ -324,6 +336,7 @@ drop-map : (ps : List Pending) → map as_kept (drop 1 ps) ≡ drop 1 (map as_ke
 drop-map [] = refl
 drop-map (p ∷ ps) = refl
 
+-- if the head entry of a node's own stream passes, then the stream sees it pass
 pub pass_own_here : (old new : SystemState) (n s : ℕ) (t : Stream) → IsNumbered old → n ≡ t.node → s ≡ t.slot → 0 < length (slot (old.node n) s).pending
     → passes (old.node n) (nth no_kept (own_kept (old.node n) s) 0) ≡ true → Changes old new n (pass_own (old.node n) s 1) nothing
     → moves.PassesFirst (stream_state old t) (stream_state new t) n
@@ -356,6 +369,7 @@ pass_own_here old new n s t numbered home at_slot some ok c = record {
     add_one : (k : ℕ) → k + 1 ≡ suc k
     add_one k = omega arith
 
+-- if the head entry of a node's own stream passes, then each stream sees a move
 pub sees_pass_own : (old new : SystemState) (t : Stream) (n s passed : ℕ) → IsNumbered old → 0 < length (slot (old.node n) s).pending
     → passes (old.node n) (nth no_kept (own_kept (old.node n) s) 0) ≡ true → Changes old new n (pass_own (old.node n) s 1) nothing
     → Seen (stream_state old t) (stream_state new t) passed
@@ -375,6 +389,7 @@ sees_pass_own old new t n s passed numbered some ok c =
     stream_at : ℕ → ℕ → Stream
     stream_at k j = record { node = k; slot = j }
 
+-- if the head entry of the stored stream of a node that is no member passes, then the stream sees it pass
 pub pass_kept_here : (old new : SystemState) (s : Stream) (n : ℕ) → IsNumbered old → has s.node (old.node n).members ≡ false → s.node ≢ n
     → 0 < length (log (old.node n) s).kept → passes (old.node n) (nth no_kept (log (old.node n) s).kept 0) ≡ true
     → Changes old new n (pass_kept (old.node n) s 1) nothing → moves.PassesFirst (stream_state old s) (stream_state new s) n
@@ -399,6 +414,7 @@ pass_kept_here old new s n numbered out foreign some ok c = record {
     add_one : (k : ℕ) → k + 1 ≡ suc k
     add_one k = omega arith
 
+-- if the head entry of the stored stream of a node that is no member passes, then each stream sees a move
 pub sees_pass_kept : (old new : SystemState) (t s : Stream) (n passed : ℕ) → IsNumbered old → has s.node (old.node n).members ≡ false → s.node ≢ n
     → 0 < length (log (old.node n) s).kept → passes (old.node n) (nth no_kept (log (old.node n) s).kept 0) ≡ true
     → Changes old new n (pass_kept (old.node n) s 1) nothing → Seen (stream_state old t) (stream_state new t) passed
@@ -419,10 +435,12 @@ commit_room : (l : Slot) (rest : Option Tried) → or_else (full_cause l) rest �
 unfolding or_else full_cause where_true
 commit_room l rest h full = let is : (length l.pending == 16) ≡ true = eq-eqb (length l.pending) 16 full in cc (rw is at h)
 
+-- the entry that a commit of the transaction makes: the writes, and the replicas but for the node itself
 abbrev pub entry_made : Node → ℕ → Current → Entry
 entry_made n me c =
     record { followers = without me (replicas_of n (new_writes n (run_here n c.tx).writes)); writes = new_writes n (run_here n c.tx).writes }
 
+-- the node once it has committed the slot's transaction
 abbrev pub committing : Node → ℕ → ℕ → Current → Node
 committing n me s c =
     committed n s c (run_here n c.tx) (without me (replicas_of n (new_writes n (run_here n c.tx).writes))) (new_writes n (run_here n c.tx).writes)
@@ -444,6 +462,7 @@ commits_at old new x n home a room foreign done kept = record {
   kept = subst (λ (k : ℕ). new.kept k ≡ old.kept k ++ record { followers = x.followers; writes = x.writes; acks = [] } ∷ []) home kept;
 }
 
+-- if a slot commits a transaction that nothing stands against, then its stream sees the commit
 pub commit_here : (old new : SystemState) (n s passed : ℕ) (c : Current) (t : Stream) → ReplicationInvariant (stream_state old t) passed → n ≡ t.node → s ≡ t.slot
     → write_cause (old.node n) s c.tx ≡ None → Changes old new n (committing (old.node n) n s c) nothing
     → moves.Commits (stream_state old t) (stream_state new t) (entry_made (old.node n) n c)
@@ -488,6 +507,7 @@ commit_quiet n t me s c ne =
     stream_at : ℕ → ℕ → Stream
     stream_at k j = record { node = k; slot = j }
 
+-- if a slot commits a transaction that nothing stands against, then each stream sees a move
 pub sees_commit : (old new : SystemState) (t : Stream) (n s passed : ℕ) (c : Current) → ReplicationInvariant (stream_state old t) passed
     → write_cause (old.node n) s c.tx ≡ None → Changes old new n (committing (old.node n) n s c) nothing → Seen (stream_state old t) (stream_state new t) passed
 sees_commit old new t n s passed c replication free change =

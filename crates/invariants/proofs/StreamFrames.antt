@@ -18,18 +18,22 @@ use Rattle.invariants.proofs.ObjectSeen.{same_or_not}
 
 -- ---- the fields of a stream
 
+-- how many entries of the stream a node knows to have passed, as the stream has it, is what the node has
 pub stream-done : (s : SystemState) (t : Stream) (m : ℕ) → (stream_state s t).done m ≡ done_of (s.node m) t m
 unfolding stream_state
 stream-done s t m = refl
 
+-- the entries of the stream that a node has behind those that passed, as the stream has it, are what the node has
 pub stream-kept : (s : SystemState) (t : Stream) (m : ℕ) → (stream_state s t).kept m ≡ kept_of (s.node m) t m
 unfolding stream_state
 stream-kept s t m = refl
 
+-- a stream's home is its node
 pub stream-home : (s : SystemState) (t : Stream) → (stream_state s t).home ≡ t.node
 unfolding stream_state
 stream-home s t = refl
 
+-- who has reported at a node, as the stream has it, is what the node has
 pub stream-reported : (s : SystemState) (t : Stream) (m : ℕ) → (stream_state s t).reported m ≡ (s.node m).reported
 unfolding stream_state
 stream-reported s t m = refl
@@ -38,32 +42,39 @@ pub stream-epoch : (s : SystemState) (t : Stream) (m : ℕ) → (stream_state s 
 unfolding stream_state
 stream-epoch s t m = refl
 
+-- whether a node is stopped, as the stream has it, is what the node has
 pub stream-stopped : (s : SystemState) (t : Stream) (m : ℕ) → (stream_state s t).stopped m ≡ (s.node m).stopped
 unfolding stream_state
 stream-stopped s t m = refl
 
+-- at its home the count of a stream is that of its slot
 pub own-done : (n : Node) (t : Stream) (m : ℕ) → m ≡ t.node → done_of n t m ≡ (slot n t.slot).done
 unfolding done_of
 own-done n t m e = rw (eq-eqb m t.node e) refl
 
+-- at its home the entries of a stream are those that its slot has pending
 pub own-kept : (n : Node) (t : Stream) (m : ℕ) → m ≡ t.node → kept_of n t m ≡ own_kept n t.slot
 unfolding kept_of
 own-kept n t m e = rw (eq-eqb m t.node e) refl
 
+-- at each other node the count of a stream is that of the stored stream
 pub log-done : (n : Node) (t : Stream) (m : ℕ) → m ≢ t.node → done_of n t m ≡ (log n t).done
 unfolding done_of
 log-done n t m ne = rw (ne_eqb m t.node ne) refl
 
+-- at each other node the entries of a stream are those of the stored stream
 pub log-kept : (n : Node) (t : Stream) (m : ℕ) → m ≢ t.node → kept_of n t m ≡ (log n t).kept
 unfolding kept_of
 log-kept n t m ne = rw (ne_eqb m t.node ne) refl
 
 -- ---- what stays
 
+-- if the views stay, then they stay as the stream sees them
 pub same_setting : (old new : SystemState) (t : Stream) → new.views ≡ old.views → moves.SameSetting (stream_state old t) (stream_state new t)
 unfolding stream_state
 same_setting old new t v = record { home = refl; views = v }
 
+-- if all nodes but one stay, then all nodes but that one stay as the stream sees them
 pub same_others : (old new : SystemState) (t : Stream) (n : ℕ) → ((m : ℕ) → m ≢ n → new.node m ≡ old.node m) → moves.SameOthers (stream_state old t) (stream_state new t) n
 unfolding stream_state
 same_others old new t n others = record {
@@ -74,6 +85,7 @@ same_others old new t n others = record {
   kept = λ m ne. ap (λ (k : Node). kept_of k t m) (others m ne);
 }
 
+-- if a node changes but for its stop and its epoch, then the stream sees it act
 pub acts_stream : (old new : SystemState) (t : Stream) (n : ℕ) (after : Node) (allowed : Letter → Type 0) → Changes old new n after allowed
     → after.stopped ≡ (old.node n).stopped → after.epoch ≡ (old.node n).epoch → moves.Acts (stream_state old t) (stream_state new t) n
 unfolding stream_state
@@ -155,11 +167,13 @@ logs-quiet n m t me stop epoch reported slots logs =
 
 -- ---- one log, one slot
 
+-- the stream whose log was written has that log
 pub with_log-same : (n : Node) (s : Stream) (l : StreamLog) → log (with_log n s l) s ≡ l
 with_log-same n s l =
     ap (λ (ls : List StreamLog). nth no_log ls s.slot) (nth-put_same [] n.logs s.node (put no_log (nth [] n.logs s.node) s.slot l))
     ∙ nth-put_same no_log (nth [] n.logs s.node) s.slot l
 
+-- each other stream has its log as before
 pub with_log-other : (n : Node) (s t : Stream) (l : StreamLog) → s ≢ t → log (with_log n s l) t ≡ log n t
 with_log-other n s t l ne =
     elim (same_or_not s.node t.node) [
@@ -180,8 +194,10 @@ with_log-other n s t l ne =
     stream_eq : (s t : Stream) → s.node ≡ t.node → s.slot ≡ t.slot → s ≡ t
     stream_eq s t a b = ap (λ (k : ℕ). stream_of k s.slot) a ∙ ap (λ (k : ℕ). stream_of t.node k) b
 
+-- the slot that was written reads what was written
 pub with_slot-same : (n : Node) (s : ℕ) (l : Slot) → slot (with_slot n s l) s ≡ l
 with_slot-same n s l = nth-put_same no_slot n.slots s l
 
+-- each other slot than the one written reads as before
 pub with_slot-other : (n : Node) (s t : ℕ) (l : Slot) → s ≢ t → slot (with_slot n s l) t ≡ slot n t
 with_slot-other n s t l ne = nth-put_other no_slot n.slots s t l ne

@@ -119,6 +119,7 @@ sees_move old new t passed numbered replication (commits n s cu within is no_cau
 abbrev pub IsKept : StreamState → Type 0
 IsKept l = (passed : ℕ) × ReplicationInvariant l passed
 
+-- if the invariant holds of a stream, then also after each move that it sees
 pub seen-keeps : (old new : StreamState) (passed : ℕ) → ReplicationInvariant old passed → Seen old new passed → IsKept new
 seen-keeps old new passed r (viewed set v) = (passed, keeps_NewView old new passed set r v)
 seen-keeps old new passed r (stopped n s) = (passed, keeps_Stops old new passed n r s)
@@ -147,6 +148,7 @@ outside_stopped s t numbered = stream-stopped s t s.config.nodes ∙ elim (cases
   | inr live ↦ let within = numbered.within s.config.nodes live in absurd (omega arith)
 ]
 
+-- if the invariant holds of a stream, then also in a system that is the same
 pub system-same-replicates : (old new : SystemState) (t : Stream) → IsNumbered old → Same old new → IsKept (stream_state old t) → IsKept (stream_state new t)
 system-same-replicates old new t numbered s before =
     let m : ℕ = old.config.nodes in (

@@ -39,6 +39,7 @@ pub data Seen (old new : StreamState) (passed : ℕ) : Type 0 where
   noted : (n k a : ℕ) → moves.NotesAck old new n k a → Seen old new passed
   passed_first : (n : ℕ) → moves.PassesFirst old new n → Seen old new passed
 
+-- a member and a node that is no member are two
 pub outsider : (a b : ℕ) (ms : List ℕ) → has a ms ≡ true → has b ms ≡ false → a ≢ b
 outsider a b ms h g e = cc
 
@@ -60,6 +61,7 @@ unfolding said_of
 about_proposal-silent n x p t l m (to_arbiter to h) i = elim i [ ]
 about_proposal-silent n x p t l m (to_collector to h r) i = elim i [ ]
 
+-- if a node changes nothing of the stream and sends letters about a proposal, then the stream sees a move
 pub sees_proposal : (old new : SystemState) (t : Stream) (n x passed : ℕ) (p : Proposal) (after : Node) → Changes old new n after (IsAboutProposal (old.node n) x p)
     → IsQuiet (old.node n) after t n → Seen (stream_state old t) (stream_state new t) passed
 sees_proposal old new t n x passed p after c q =
@@ -67,24 +69,30 @@ sees_proposal old new t n x passed p after c q =
 
 -- ---- what the node that acts knows
 
+-- the node has its number, and the members and the epoch that the stream sees
 pub record IsActor (old : SystemState) (t : Stream) (n : ℕ) : Type 0 where
   pub me : (old.node n).me ≡ n
   pub members : (old.node n).members ≡ Rattle.replication_safety.specs.StreamState.view (stream_state old t) ((stream_state old t).epoch n)
   pub epoch : (stream_state old t).epoch n ≡ (old.node n).epoch
 
+-- a live node has its number, and the members and the epoch that the stream sees
 pub actor : (old : SystemState) (t : Stream) (n : ℕ) → IsNumbered old → IsLive old n → IsActor old t n
 unfolding stream_state
 actor old t n numbered live = record { me = numbered.me n live; members = numbered.members n live; epoch = refl }
 
+-- at its home the stream has the count of its slot
 pub own_done_is : (old : SystemState) (t : Stream) (n : ℕ) → n ≡ t.node → (stream_state old t).done n ≡ (slot (old.node n) t.slot).done
 own_done_is old t n e = stream-done old t n ∙ own-done (old.node n) t n e
 
+-- at its home the stream has the entries that its slot has pending
 pub own_kept_is : (old : SystemState) (t : Stream) (n : ℕ) → n ≡ t.node → (stream_state old t).kept n ≡ own_kept (old.node n) t.slot
 own_kept_is old t n e = stream-kept old t n ∙ own-kept (old.node n) t n e
 
+-- at each other node the stream has the count of the stored stream
 pub log_done_is : (old : SystemState) (t : Stream) (n : ℕ) → n ≢ t.node → (stream_state old t).done n ≡ (log (old.node n) t).done
 log_done_is old t n ne = stream-done old t n ∙ log-done (old.node n) t n ne
 
+-- at each other node the stream has the entries of the stored stream
 pub log_kept_is : (old : SystemState) (t : Stream) (n : ℕ) → n ≢ t.node → (stream_state old t).kept n ≡ (log (old.node n) t).kept
 log_kept_is old t n ne = stream-kept old t n ∙ log-kept (old.node n) t n ne
 
@@ -162,6 +170,7 @@ tellable-stream old t n l m numbered live own_member (kept_passed to d s foreign
 
 -- ---- views, stops and installs
 
+-- if a node stays, then all that the stream has of it stays
 pub same_fields : (old new : SystemState) (t : Stream) (m : ℕ) → new.node m ≡ old.node m
     → ((stream_state new t).stopped m ≡ (stream_state old t).stopped m) × ((stream_state new t).epoch m ≡ (stream_state old t).epoch m) × ((stream_state new t).reported m ≡ (stream_state old t).reported m)
     × ((stream_state new t).done m ≡ (stream_state old t).done m) × ((stream_state new t).kept m ≡ (stream_state old t).kept m)
@@ -176,6 +185,7 @@ view_facts : (old new : SystemState) (t : Stream) (set : List ℕ) → NewView o
 unfolding stream_state
 view_facts old new t set v = (refl, v.views, v.subset, v.live)
 
+-- if a view is made, then each stream sees a move
 pub sees_view : (old new : SystemState) (t : Stream) (passed : ℕ) (set : List ℕ) → NewView old new set → Seen (stream_state old t) (stream_state new t) passed
 sees_view old new t passed set v = viewed set record {
   home = (view_facts old new t set v).0;
@@ -190,6 +200,7 @@ sees_view old new t passed set v = viewed set record {
   sends = sends_stream old new t nothing moves.nothing v.sends (λ l m none i. none);
 }
 
+-- if a node changes without a letter, then nothing is said of the stream
 pub quiet_sends : (old new : SystemState) (t : Stream) (n : ℕ) (after : Node) → Changes old new n after nothing → moves.Sends (stream_state old t) (stream_state new t) moves.nothing
 quiet_sends old new t n after c = sends_stream old new t nothing moves.nothing c.sends (λ l m none i. none)
 
@@ -201,6 +212,7 @@ unfolding stream_state
 after_fields old new t n after e =
     (ap (λ (k : Node). k.stopped) e, ap (λ (k : Node). k.epoch) e, ap (λ (k : Node). k.reported) e, ap (λ (k : Node). done_of k t n) e, ap (λ (k : Node). kept_of k t n) e)
 
+-- all that the stream has of a node is what the node has
 pub before_fields : (old : SystemState) (t : Stream) (n : ℕ)
     → ((stream_state old t).stopped n ≡ (old.node n).stopped) × ((stream_state old t).epoch n ≡ (old.node n).epoch) × ((stream_state old t).reported n ≡ (old.node n).reported)
     × ((stream_state old t).done n ≡ done_of (old.node n) t n) × ((stream_state old t).kept n ≡ kept_of (old.node n) t n)
@@ -217,6 +229,7 @@ standing n m t k slots logs = (
       ∙ ap (λ (z : List (List StreamLog)). if k == t.node then map as_kept (nth no_slot n.slots t.slot).pending else (nth no_log (nth [] z t.node) t.slot).kept) logs,
 )
 
+-- if a node stops, then each stream sees a move
 pub sees_stop : (old new : SystemState) (t : Stream) (n passed : ℕ) → Changes old new n (record (old.node n) { stopped = true }) nothing → Seen (stream_state old t) (stream_state new t) passed
 sees_stop old new t n passed c =
     let f = after_fields old new t n (record (old.node n) { stopped = true }) c.node in
@@ -237,6 +250,7 @@ install_facts : (old : SystemState) (t : Stream) (n e : ℕ) → (old.node n).ep
 unfolding stream_state
 install_facts old t n e later within = (later, within)
 
+-- if a node installs a later epoch that has a view, then each stream sees a move
 pub sees_install : (old new : SystemState) (t : Stream) (n e passed : ℕ) → (old.node n).epoch < e → e ≤ length old.views
     → Changes old new n (installed_node old n e) nothing → Seen (stream_state old t) (stream_state new t) passed
 sees_install old new t n e passed later within c =
@@ -259,6 +273,7 @@ sees_install old new t n e passed later within c =
 
 -- ---- reports
 
+-- if a member has no entry of a node that is no member, and it reports, then each stream sees a move
 pub sees_report : (old new : SystemState) (t : Stream) (n passed : ℕ) → IsNumbered old → has n (old.node n).members ≡ true
     → ((s : Stream) → has s.node (old.node n).members ≡ false → (log (old.node n) s).kept ≡ [])
     → Changes old new n (record (old.node n) { reported = with_node n (old.node n).reported }) nothing → Seen (stream_state old t) (stream_state new t) passed
@@ -287,6 +302,7 @@ heard_letter old t n m l body sender r =
     let said : In (Reports l.from l.epoch) (about t old.letters) = about-in t (Reports l.from l.epoch) l old.letters r.2 says_it in
     rw (← sender, ← r.1) said
 
+-- if a node hears that another has reported, then each stream sees a move
 pub sees_hear : (old new : SystemState) (t : Stream) (n m passed : ℕ) (l : Letter) → l.body ≡ Recovered → l.from ≡ m → IsReceivable old n l
     → Changes old new n (record (old.node n) { reported = with_node m (old.node n).reported }) nothing → Seen (stream_state old t) (stream_state new t) passed
 sees_hear old new t n m passed l body sender r c =

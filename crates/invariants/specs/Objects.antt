@@ -13,6 +13,7 @@ use Rattle.zeus_model.specs.declared.state.Entry.{Entry}
 use Rattle.machine_moves.specs.SystemState.{SystemState}
 use Rattle.ownership_safety.specs.Object.{Object, Invalidates, Acknowledges, Validates, Letter as Said}
 
+-- the declaration that stands for none
 abbrev pub no_object : ObjectDecl
 no_object = record { value = Num 0; owner = 0; replicas = [] }
 
@@ -20,6 +21,7 @@ no_object = record { value = Num 0; owner = 0; replicas = [] }
 abbrev pub declared_entry : Config → ℕ → Entry
 declared_entry c x = start_entry (nth no_object c.objects x)
 
+-- what is said of the second object, if it is the first
 unfoldable pub only_about : ℕ → ℕ → Said → List Said
 only_about x y l = if y == x then l ∷ [] else []
 

@@ -11,6 +11,7 @@ use Rattle.machine_moves.specs.Move.{own_kept}
 use Rattle.machine_moves.specs.SystemState.{SystemState}
 use Rattle.replication_safety.specs.StreamState.{StreamState, Stores, Stored, Passes, Reports, Letter as Said}
 
+-- what is said of the second stream, if it is the first
 unfoldable pub only_of : Stream → Stream → Said → List Said
 only_of s t l = if same_stream t s then l ∷ [] else []
 

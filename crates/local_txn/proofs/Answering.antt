@@ -28,11 +28,13 @@ use Rattle.local_txn.proofs.Committing.{new_writes_same, replicas_same}
 
 -- ---- the entry that the code makes
 
+-- the writes made of the run on these copies are those that the rules make
 pub writes_made : (me : ℕ) (entries : List Entry) (copies : List (Option Copy)) (tx : List Op) (ran : Ran) (writes : List Write) → ran ≡ run_here (node_of me entries copies) tx → writes ≡ new_writes (node_of 0 [] copies) ran.writes → writes ≡ writes_here (node_of me entries copies) tx
 writes_made me entries copies tx ran writes e w =
     w ∙ ap (λ (r : Ran). new_writes (node_of 0 [] copies) r.writes) e
     ∙ new_writes_same (node_of 0 [] copies) (node_of me entries copies) (run_here (node_of me entries copies) tx).writes refl
 
+-- if reply, writes and followers are those of the rules, then the entry is the one that the rules make
 pub entry_made : (me : ℕ) (entries : List Entry) (copies : List (Option Copy)) (id : ℕ) (tx : List Op) (reply : Reply) (followers : List ℕ) (writes : List Write) → reply ≡ (run_here (node_of me entries copies) tx).reply → writes ≡ writes_here (node_of me entries copies) tx → followers ≡ without me (replicas_of (node_of 0 entries []) writes) → ◌≡◌ {A = Pending} record { id = id; reply = reply; named = named tx; followers = followers; writes = writes; acks = [] } (entry_here (node_of me entries copies) id tx)
 entry_made me entries copies id tx reply followers writes r w f =
     let same : followers ≡ followers_here (node_of me entries copies) tx =
@@ -73,16 +75,20 @@ holds-none s holds tx id o e = rw (← e) refl
 -- ---- at a node
 
 module _ (me : ℕ) (entries : List Entry) (table : Table) (s : ℕ) (waiting : Waiting) (n : Node) (is : IsNodeOf me entries table s waiting n) (id : ℕ) (tx : List Op) (o : Option Tried) where
+  -- if a cause stands against the write, then the answer is that cause
   pub refused_answer : (t : WriteTry) → cause_as id (Some t) ≡ o → tried_as id t ≡ (write_row n s record { id = id; tx = tx } o).answer
   unfolding cause_as
   refused_answer t e = rw (← e) (sym (told_back n s record { id = id; tx = tx } (tried_as id t)))
 
+  -- if a cause stands against the write, then the copies stay
   pub refused_copies : (t : WriteTry) → cause_as id (Some t) ≡ o → table.copies ≡ (after_try n s record { id = id; tx = tx } o).copies
   refused_copies t e = sym is.copies ∙ ap (λ (m : Node). m.copies) (after-some n s record { id = id; tx = tx } id t o e)
 
+  -- if a cause stands against the write, then the pending entries stay
   pub refused_pending : (t : WriteTry) → cause_as id (Some t) ≡ o → waiting.pending ≡ (slot (after_try n s record { id = id; tx = tx } o) s).pending
   refused_pending t e = sym is.pending ∙ ap (λ (m : Node). (slot m s).pending) (after-some n s record { id = id; tx = tx } id t o e)
 
+  -- if a cause stands against the write, then the holds stay
   pub refused_holds : (t : WriteTry) → cause_as id (Some t) ≡ o → table.holds ≡ holds_after s table.holds tx o
   refused_holds t e = holds-some s table.holds tx id t o e
 
@@ -105,23 +111,27 @@ module _ (me : ℕ) (entries : List Entry) (table : Table) (s : ℕ) (waiting : 
   number_same : next_number (slot n s) ≡ waiting.done + length waiting.pending
   number_same = ap (λ d. d + length (slot n s).pending) is.done ∙ ap (λ (ps : List Pending). waiting.done + length ps) is.pending
 
+  -- if nothing stands against the write, then the answer is the commit, with its number and its reply
   pub done_answer : (t : WriteTry) → cause_as id None ≡ o → tried_as id t ≡ rules.Committed id (waiting.done + length waiting.pending) (run_here (node_of me entries table.copies) tx).reply → tried_as id t ≡ (write_row n s record { id = id; tx = tx } o).answer
   done_answer t e is_done =
       is_done ∙ sym (committed_answer n s record { id = id; tx = tx } id o e
       ∙ ap (λ k. rules.Committed id k (run_here n tx).reply) number_same
       ∙ ap (λ (r : Ran). rules.Committed id (waiting.done + length waiting.pending) r.reply) ran_same)
 
+  -- if nothing stands against the write, then the copies are rewritten by its writes
   pub done_copies : (copies : List (Option Copy)) → cause_as id None ≡ o → copies ≡ each_write rewritten_copy table.copies (writes_here (node_of me entries table.copies) tx) → copies ≡ (after_try n s record { id = id; tx = tx } o).copies
   done_copies copies e are =
       are ∙ sym (committed_copies n s record { id = id; tx = tx } id o e
       ∙ ap (λ (cs : List (Option Copy)). each_write rewritten_copy cs (writes_here n tx)) is.copies
       ∙ ap (each_write rewritten_copy table.copies) writes_same)
 
+  -- if nothing stands against the write, then its entry is pending at the end
   pub done_pending : (pending : List Pending) → cause_as id None ≡ o → pending ≡ waiting.pending ++ entry_here (node_of me entries table.copies) id tx ∷ [] → pending ≡ (slot (after_try n s record { id = id; tx = tx } o) s).pending
   done_pending pending e are =
       are ∙ sym (committed_pending n s record { id = id; tx = tx } id o e
       ∙ ap (λ (ps : List Pending). ps ++ entry_here n id tx ∷ []) is.pending
       ∙ ap (λ (p : Pending). waiting.pending ++ p ∷ []) entry_same)
 
+  -- if nothing stands against the write, then the slot holds each named object once more
   pub done_holds : (holds : List (Option Hold)) → cause_as id None ≡ o → holds ≡ each_held s table.holds (named tx) → holds ≡ holds_after s table.holds tx o
   done_holds holds e are = are ∙ holds-none s table.holds tx id o e

@@ -63,9 +63,11 @@ mentions_all-at n (y ∷ ys) x all m =
       | false ↦ λ _ rest. mentions_all-at n ys x (λ i d h. all (suc i) d (omega arith)) rest
     ] refl m
 
+-- if all numbers of a list are below a bound, then so is each that is mentioned
 pub mentions_all : (n : ℕ) (xs : List ℕ) (x : ℕ) → All (λ y. y < n) xs → mentions x xs ≡ true → x < n
 mentions_all n xs x all m = mentions_all-at n xs x (λ i d h. all i d h) m
 
+-- if all numbers of a list are below a bound, then so is the one that is read at an index
 pub all_read : (n : ℕ) (xs : List ℕ) (i x : ℕ) → All (λ y. y < n) xs → i < length xs → x ≡ get_or xs i x → x < n
 all_read n xs i x all h e = rw e (all i x h)
 
@@ -122,6 +124,7 @@ free_at : (s : ℕ) (holds : List (Option Hold)) (x : ℕ) → None ≡ held_at 
 unfolding held_at
 free_at s holds x e = e
 
+-- if no other slot holds a named object and fewer than 16 entries are pending, then the slot can hold each of them
 pub can_hold_named : (s objects : ℕ) (holds : List (Option Hold)) (ps : List Pending) (tx : List Op) → All (λ x. x < objects) (named tx) → None ≡ first_of (held_at s holds) (named tx) → AreNamed s holds ps → length ps < 16 → CanHoldEach s objects holds (named tx)
 can_hold_named s objects holds ps tx all free counts room =
     can_hold_each s objects holds (named tx) (distinct-named tx)
@@ -140,12 +143,15 @@ each_held-cons s x holds xs = refl
 drop_here : {A : Type 0} (xs : List A) (i : ℕ) (x : A) → i < length xs → x ≡ get_or xs i x → drop i xs ≡ x ∷ drop (i + 1) xs
 drop_here xs i x h e = rw (add-one, drop-cons xs i x h, ← e) refl
 
+-- if the slot can hold the objects from an index on, then it can hold that one, and then those behind it
 pub hold_here : (s objects : ℕ) (holds : List (Option Hold)) (xs : List ℕ) (i x : ℕ) → i < length xs → x ≡ get_or xs i x → CanHoldEach s objects holds (drop i xs) → (x < objects) × (CanHold s (nth None holds x) × CanHoldEach s objects (put None holds x (Some (held s (nth None holds x)))) (drop (i + 1) xs))
 hold_here s objects holds xs i x h e can = hold_each-cons s objects x holds _ (rw (drop_here xs i x h e) at can)
 
+-- to hold the object at an index and then those behind it is to hold all from that index on
 pub each_held-step : (s : ℕ) (holds : List (Option Hold)) (xs : List ℕ) (i x : ℕ) → i < length xs → x ≡ get_or xs i x → each_held s (put None holds x (Some (held s (nth None holds x)))) (drop (i + 1) xs) ≡ each_held s holds (drop i xs)
 each_held-step s holds xs i x h e = rw (drop_here xs i x h e) (sym (each_held-cons s x holds _))
 
+-- past the end of a list no object more is held
 pub each_held-end : (s : ℕ) (holds : List (Option Hold)) (xs : List ℕ) (i : ℕ) → length xs ≤ i → holds ≡ each_held s holds (drop i xs)
 unfolding each_held
 each_held-end s holds xs i h = rw (drop_all i xs h) refl
@@ -183,6 +189,7 @@ rising_key copies (w ∷ ws) x r m =
       | false ↦ λ _ rest. rising_key copies ws x r.1 rest
     ] refl m
 
+-- if no version is at its end, then each new write has the version after that of the copy
 pub writes_next : (n : Node) (tx : List Op) → All (λ x. x < length n.copies) (named tx) → AreRising n.copies (run_here n tx).writes → AreNext n.copies (new_writes n (run_here n tx).writes)
 writes_next n tx all rises =
     let of = run-are_of (λ x. value_of (copy n x)) tx in
@@ -199,6 +206,7 @@ writes_within-of n k [] each = tt
 writes_within-of n k (w ∷ ws) each =
     (each w.0 (mentions-first w.0 (keys ws)), writes_within-of n k ws (λ y m. each y (mentions-later y w.0 (keys ws) m)))
 
+-- if all named objects are below a bound, then so are those of the new writes
 pub writes_within : (n : Node) (k : ℕ) (tx : List Op) → All (λ x. x < k) (named tx) → AreWithin k (new_writes n (run_here n tx).writes)
 writes_within n k tx all =
     let of = run-are_of (λ x. value_of (copy n x)) tx in
@@ -217,6 +225,7 @@ each_write-cons : (copies : List (Option Copy)) (w : Write) (ws : List Write) �
 unfolding each_write
 each_write-cons copies w ws = refl
 
+-- if the writes from an index on are next, then so is that one, and after it those behind it
 pub next_here : (copies : List (Option Copy)) (ws : List Write) (i : ℕ) (w : Write) → i < length ws → w ≡ get_or ws i w → AreNext copies (drop i ws) → IsNext copies w × AreNext (after_write rewritten_copy copies w) (drop (i + 1) ws)
 next_here copies ws i w h e next = next-cons copies w _ (rw (drop_here ws i w h e) at next)
 
@@ -224,9 +233,11 @@ next_here copies ws i w h e next = next-cons copies w _ (rw (drop_here ws i w h 
 pub written_is : (copies now : List (Option Copy)) (w : Write) → IsNext copies w → now ≡ after_write rewritten_copy copies (next_write copies w.obj w.value) → now ≡ after_write rewritten_copy copies w
 written_is copies now w is e = e ∙ ap (after_write rewritten_copy copies) (next_is copies w is)
 
+-- to make the write at an index and then those behind it is to make all from that index on
 pub each_write-step : (copies : List (Option Copy)) (ws : List Write) (i : ℕ) (w : Write) → i < length ws → w ≡ get_or ws i w → each_write rewritten_copy (after_write rewritten_copy copies w) (drop (i + 1) ws) ≡ each_write rewritten_copy copies (drop i ws)
 each_write-step copies ws i w h e = rw (drop_here ws i w h e) (sym (each_write-cons copies w _))
 
+-- past the end of a list no write more is made
 pub each_write-end : (copies : List (Option Copy)) (ws : List Write) (i : ℕ) → length ws ≤ i → copies ≡ each_write rewritten_copy copies (drop i ws)
 unfolding each_write
 each_write-end copies ws i h = rw (drop_all i ws h) refl
@@ -239,6 +250,7 @@ rising_at copies [] i d h k = absurd (omega arith)
 rising_at copies (w ∷ ws) zero d h k = h.0
 rising_at copies (w ∷ ws) (suc i) d h k = rising_at copies ws i d h.1 (omega arith)
 
+-- if no version is at its end, then that of the object written at an index is not
 pub rising_read : (copies : List (Option Copy)) (ws : List (ℕ × Value)) (i : ℕ) (w : ℕ × Value) → AreRising copies ws → i < length ws → w ≡ get_or ws i w → version_of (nth None copies w.0) ≢ 2 ^ 64 - 1
 rising_read copies ws i w h k e =
     let P : ℕ × Value → Type 0 = λ v. version_of (nth None copies v.0) ≢ 2 ^ 64 - 1 in
@@ -254,6 +266,7 @@ pub new_writes_more : (n : Node) (ws : List (ℕ × Value)) (i : ℕ) (w : ℕ �
 unfolding new_writes
 new_writes_more n ws i w h e = rw (take_more ws i w h, ← e) (new_writes-append n (take i ws) (w ∷ []))
 
+-- of no written values there is no new write
 pub new_writes_none : (n : Node) (ws : List (ℕ × Value)) → [] ≡ new_writes n (take 0 ws)
 unfolding new_writes
 new_writes_none n ws = refl
@@ -268,16 +281,19 @@ new_writes_same n m (w ∷ ws) e =
 
 -- ---- the replicas of the written objects, from the last write on
 
+-- if all writes are of objects below a bound, then so is the one at an index
 pub within_at : (k : ℕ) (ws : List Write) (i : ℕ) (d : Write) → AreWithin k ws → i < length ws → (get_or ws i d).obj < k
 unfolding AreWithin
 within_at k [] i d h g = absurd (omega arith)
 within_at k (w ∷ ws) zero d h g = h.0
 within_at k (w ∷ ws) (suc i) d h g = within_at k ws i d h.1 (omega arith)
 
+-- the replicas of the writes from an index on are those of that object, and those of the writes behind it
 pub replicas_step : (n : Node) (ws : List Write) (place : ℕ) (w : Write) → place < length ws → w ≡ get_or ws place w → replicas_of n (drop place ws) ≡ join (entry n w.obj).place.replicas (replicas_of n (drop (suc place) ws))
 unfolding replicas_of
 replicas_step n ws place w h e = rw (drop-cons ws place w h, ← e) refl
 
+-- past the end of the writes there are no replicas
 pub replicas_none : (n : Node) (ws : List Write) (i : ℕ) → length ws ≤ i → [] ≡ replicas_of n (drop i ws)
 unfolding replicas_of
 replicas_none n ws i h = rw (drop_all i ws h) refl
@@ -297,6 +313,7 @@ unfolding CanHold hold_slot hold_count
 held_before s k None can count = omega arith
 held_before s k (Some h) can count = count (ap Some can.0)
 
+-- if the slot holds the objects of a new entry, then what it holds is still named by its entries, with the new one
 pub named_kept : (s : ℕ) (holds : List (Option Hold)) (ps : List Pending) (p : Pending) (tx : List Op) → p.named ≡ named tx → None ≡ first_of (held_at s holds) (named tx) → AreNamed s holds ps → length ps < 16 → AreNamed s (each_held s holds (named tx)) (ps ++ p ∷ [])
 named_kept s holds ps p tx e free counts room = λ x here.
     elim (mentions x (named tx)) as (λ b. mentions x (named tx) ≡ b → hold_count (nth None (each_held s holds (named tx)) x) ≤ naming x (ps ++ p ∷ [])) [

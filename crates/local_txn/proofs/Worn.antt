@@ -95,6 +95,7 @@ worn_after cs (op ∷ ops) seen =
       | false ↦ worn_after cs ops seen
     ]
 
+-- a transaction is worn out if the next number is the last of 32 bits, or the version of an object is at its end
 pub worn_is : (n : Node) (s : ℕ) (tx : List Op) (b : Bool) → (next_number (slot n s) == 2 ^ 32 - 1) ≡ b → worn_cause n s tx ≡ where_true (b || list_any (worn_at n.copies) tx) WornOut
 unfolding worn_cause written
 worn_is n s tx b e =
@@ -125,6 +126,7 @@ or_there a b e = sym (or_right a b e)
 pub or_neither : (a b : Bool) → a ≡ false → b ≡ false → false ≡ (a || b)
 or_neither a b e f = rw (e, f) refl
 
+-- if "or" of two tests is false, then both are false
 pub or_false : (a b : Bool) → (a || b) ≡ false → (a ≡ false) × (b ≡ false)
 or_false true b e = cc
 or_false false b e = (refl, e)
@@ -177,6 +179,7 @@ rising_from cs found (op ∷ ops) w place vs ws k =
     let parts = or_false (worn_at cs op) (list_any (worn_at cs) ops) w in
     rising_step cs found ops (rising_from cs found ops parts.1) op place vs ws (λ st. unworn cs op st parts.0) k
 
+-- if no version that the operations write is at its end, then none of the writes' objects has one there
 pub run_rising : (cs : List (Option Copy)) (found : ℕ → Value) (tx : List Op) → list_any (worn_at cs) tx ≡ false → AreRising cs (run found tx).writes
 unfolding run
 run_rising cs found tx w = rising_from cs found tx w 0 [] [] (rising_none cs)

@@ -64,6 +64,7 @@ holds_after s holds tx None = each_held s holds (named tx)
 abbrev pub node_of : ℕ → List Entry → List (Option Copy) → Node
 node_of me entries copies = record no_node { me = me; entries = entries; copies = copies }
 
+-- what stands against a write try, if anything, as the answer of a try
 unfoldable pub cause_as : ℕ → Option WriteTry → Option Tried
 cause_as id None = None
 cause_as id (Some t) = Some (tried_as id t)
@@ -76,6 +77,7 @@ owns_at me entries x = ((nth no_entry entries x).place.owner == me) && is_none (
 unfoldable pub owner_at : ℕ → List Entry → ℕ → Option Tried
 owner_at me entries x = where_true (not (owns_at me entries x)) (rules.NotOwner x)
 
+-- the object that was found not owned, if any, as the answer of a try
 unfoldable pub told_not_owned : Option ℕ → Option Tried
 told_not_owned None = None
 told_not_owned (Some x) = Some (rules.NotOwner x)
@@ -84,6 +86,7 @@ told_not_owned (Some x) = Some (rules.NotOwner x)
 unfoldable pub held_at : ℕ → List (Option Hold) → ℕ → Option Tried
 held_at s holds x = held_elsewhere s x (hold_slot (nth None holds x))
 
+-- the hold of another slot that was found, if any, as the answer of a try
 unfoldable pub told_held : Option HeldBy → Option Tried
 told_held None = None
 told_held (Some h) = Some (rules.Held h.object h.slot)

@@ -123,8 +123,10 @@ got bytes starts number start h g =
     let f = found_at bytes 0 starts number start number (omega arith) h g in
     rw (read_here bytes start (numbered number f.letter) f.begins, f.is) refl
 
+-- the place where a packet of the link begins is within its bytes
 pub got_within : (bytes starts : List ℕ) (number start : ℕ) → AreAt bytes 0 starts → slice_get starts number ≡ Some start → start ≤ length bytes
 got_within bytes starts number start h g = (found_at bytes 0 starts number start number (omega arith) h g).begins.within
 
+-- if no packet has this number, then there is no letter of the number either
 pub got_none : (bytes starts : List ℕ) (number : ℕ) → slice_get starts number ≡ None → None ≡ option_map (numbered number) (slice_get (letters_at bytes starts) number)
 got_none bytes starts number g = rw (none_at bytes starts number g) refl

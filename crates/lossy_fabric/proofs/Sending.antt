@@ -8,6 +8,7 @@ use Rattle.zeus_model.specs.Tables.{nth, put}
 use Rattle.zeus_model.specs.World.{nth_letter}
 use Rattle.lossy_fabric.specs.Links.{LinkState, letters_of, row_letters, letters, no_link, room, HasRoom}
 
+-- setting an element leaves the length of a list
 pub length-set : {A : Type 0} (xs : List A) (i : ℕ) (v : A) → length (set xs i v) ≡ length xs
 length-set [] i v = refl
 length-set (x ∷ xs) zero v = refl
@@ -20,18 +21,21 @@ row_letters-nth [] i = refl
 row_letters-nth (l ∷ ls) zero = refl
 row_letters-nth (l ∷ ls) (suc i) = row_letters-nth ls i
 
+-- the letters of one sender's links are those of its row
 pub letters-nth : (rows : List (List LinkState)) (i : ℕ) → nth [] (letters rows) i ≡ row_letters (nth [] rows i)
 unfolding nth row_letters letters
 letters-nth [] i = refl
 letters-nth (r ∷ rows) zero = refl
 letters-nth (r ∷ rows) (suc i) = letters-nth rows i
 
+-- if one link of a row is set, then the row's letters are put there
 pub row_letters-set : (ls : List LinkState) (i : ℕ) (l : LinkState) → i < length ls → row_letters (set ls i l) ≡ put [] (row_letters ls) i l.letters
 unfolding put row_letters letters_of
 row_letters-set [] i l h = absurd (omega arith)
 row_letters-set (k ∷ ls) zero l h = refl
 row_letters-set (k ∷ ls) (suc i) l h = ap (λ r. k.letters ∷ r) (row_letters-set ls i l (omega arith))
 
+-- if one row is set, then its letters are put there
 pub letters-set : (rows : List (List LinkState)) (i : ℕ) (r : List LinkState) → i < length rows → letters (set rows i r) ≡ put [] (letters rows) i (row_letters r)
 unfolding put letters
 letters-set [] i r h = absurd (omega arith)
@@ -45,6 +49,7 @@ row_letters-same [] i k l h e s = absurd (omega arith)
 row_letters-same (x ∷ ls) zero k l h e s = ap (λ y. y ∷ map letters_of ls) (s ∙ ap (λ (z : LinkState). z.letters) e)
 row_letters-same (x ∷ ls) (suc i) k l h e s = ap (λ r. x.letters ∷ r) (row_letters-same ls i k l (omega arith) e s)
 
+-- if a row is set that has the letters of the row before, then all letters stay
 pub letters-same : (rows : List (List LinkState)) (i : ℕ) (k r : List LinkState) → i < length rows → k ≡ get_or rows i k → row_letters r ≡ row_letters k → letters (set rows i r) ≡ letters rows
 unfolding letters
 letters-same [] i k r h e s = absurd (omega arith)
@@ -73,6 +78,7 @@ row_room (x ∷ ls) zero k l h e s (suc j) = omega arith
 row_room (x ∷ ls) (suc i) k l h e s zero = omega arith
 row_room (x ∷ ls) (suc i) k l h e s (suc j) = row_room ls i k l (omega arith) e s j
 
+-- if each link of a row that is set lost at most one letter's room, then so did each link
 pub rows_room : (rows : List (List LinkState)) (i : ℕ) (k r : List LinkState) → i < length rows → k ≡ get_or rows i k → ((j : ℕ) → (nth no_link k j).room ≤ (nth no_link r j).room + 1) → (from to : ℕ) → room rows from to ≤ room (set rows i r) from to + 1
 unfolding nth
 rows_room [] i k r h e s from to = absurd (omega arith)
@@ -81,6 +87,7 @@ rows_room (x ∷ rows) zero k r h e s (suc from) to = omega arith
 rows_room (x ∷ rows) (suc i) k r h e s zero to = omega arith
 rows_room (x ∷ rows) (suc i) k r h e s (suc from) to = rows_room rows i k r (omega arith) e s from to
 
+-- if each link of a row has room for so many letters, then the row has
 pub has_room : (count : ℕ) (row : List LinkState) → ((to : ℕ) → to < length row → count ≤ (nth no_link row to).room) → HasRoom count row
 unfolding HasRoom
 has_room count row h = h
@@ -89,6 +96,7 @@ has_room count row h = h
 pub row_there : (rows : List (List LinkState)) (i : ℕ) (r : List LinkState) (count : ℕ) → i < length rows → HasRoom count r → HasRoom count (nth [] (set rows i r) i)
 row_there rows i r count h e = rw (nth-set_same [] rows i r h) e
 
+-- to read a letter by its index is std's get
 pub nth_letter-get : (ls : List Letter) (i : ℕ) → nth_letter ls i ≡ slice_get ls i
 unfolding nth_letter
 nth_letter-get [] i = refl

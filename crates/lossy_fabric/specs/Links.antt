@@ -16,12 +16,15 @@ pub record LinkState : Type 0 where
   pub letters : List Letter
   pub room : ℕ
 
+-- a link without a letter and without room
 abbrev pub no_link : LinkState
 no_link = record { letters = []; room = 0 }
 
+-- the letters of a link
 unfoldable pub letters_of : LinkState → List Letter
 letters_of l = l.letters
 
+-- the letters of the links of one sender, by receiver
 unfoldable pub row_letters : List LinkState → List (List Letter)
 row_letters ls = map letters_of ls
 

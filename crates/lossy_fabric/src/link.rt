@@ -44,6 +44,7 @@ impl Model for Link {
 }
 
 impl Link {
+    /// A link without a packet.
     #[tactic(auto, unfolding(crate::specs::Links::letters_at, crate::specs::Links::link_room, crate::specs::Links::AreAt))]
     pub fn new(alloc: Global) -> Link
         ensures { result ≡ no_link }
@@ -90,6 +91,7 @@ impl Link {
         packet_at(*self.bytes.allocator(), &self.bytes, start)
     }
 
+    /// How many packets the link has.
     pub fn count(&self) -> u32
         ensures { result ≡ length self.now.letters }
     {

@@ -14,16 +14,19 @@ use Rattle.zeus_model.specs.Ownership.{is_source, is_held, kept_cause, unready_c
 
 -- ---- options
 
+-- if there is no cause of either, then there is none of the one and none of the other
 pub or_else-none : {A : Type 0} (a b : Option A) → or_else a b ≡ None → (a ≡ None) × (b ≡ None)
 unfolding or_else
 or_else-none None b h = (refl, h)
 or_else-none (Some a) b h = absurd cc
 
+-- if a test gives no cause, then it is false
 pub where_true-none : {A : Type 0} (test : Bool) (a : A) → where_true test a ≡ None → test ≡ false
 unfolding where_true
 where_true-none true a h = absurd cc
 where_true-none false a h = refl
 
+-- if it is not so that there is none, then there is some
 pub is_none-false : {A : Type 0} (o : Option A) → is_none o ≡ false → is_some o ≡ true
 is_none-false None h = absurd cc
 is_none-false (Some a) h = refl
@@ -55,6 +58,7 @@ unfolding with_optional
 with_optional-length None ms = omega arith
 with_optional-length (Some n) ms = with_node-length n ms
 
+-- the arbiters without a node are at most one more than the directory's nodes
 pub arbiters-length : (me : ℕ) (place : Place) (members directory : List ℕ) → length (without me (arbiters place members directory)) ≤ suc (length directory)
 unfolding arbiters
 arbiters-length me place members directory =
@@ -62,6 +66,7 @@ arbiters-length me place members directory =
 
 -- ---- no cause against driving a request
 
+-- a directory node may drive a request: no proposal is held, a source is there, the wish is allowed, and a source is ready
 pub record MayRequest (m : Node) (x requester : ℕ) (want : Want) : Type 0 where
   pub directory : has m.me m.directory ≡ true
   pub free : (entry m x).proposal ≡ None
@@ -82,6 +87,7 @@ want_cause-none Leave requester place h is =
     let parts = or_parts (place.owner == requester) (not (has requester place.replicas)) (where_true-none ((place.owner == requester) || not (has requester place.replicas)) _ h) in
     (not-false (has requester place.replicas) parts.1, eqb-false place.owner requester parts.0)
 
+-- if there is no cause against a request, then the node may drive it
 pub request_cause-none : (m : Node) (x requester : ℕ) (want : Want) → request_cause m x requester want ≡ None → MayRequest m x requester want
 unfolding request_cause drive_cause source_cause
 request_cause-none m x requester want h =
@@ -100,11 +106,13 @@ request_cause-none m x requester want h =
 
 -- ---- no cause against holding a proposal
 
+-- a node may hold a proposal: it is an arbiter, holds none that is greater, and is ready if it is the source
 pub record MayHold (m : Node) (x : ℕ) (p : Proposal) : Type 0 where
   pub arbiter : (has m.me m.directory ≡ true) ⊎ (is_source m p.base_place ≡ true)
   pub greatest : greater_cause p.stamp (entry m x).proposal ≡ None
   pub ready : is_source m p.base_place ≡ true → unready_cause m x ≡ None
 
+-- if there is no cause against a proposal, then the node may hold it
 pub hold_cause-none : (m : Node) (x : ℕ) (p : Proposal) → hold_cause m x p ≡ None → MayHold m x p
 unfolding hold_cause accept_cause
 hold_cause-none m x p h =

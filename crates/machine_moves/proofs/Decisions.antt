@@ -136,6 +136,7 @@ settling_acknowledgement : (l : Letter) (x : ℕ) (p : Proposal) (c : Option Con
 settling_acknowledgement l x p c is =
     subst (λ (b : Body). IsSettling x p.base p.base_place record { from = l.from; to = l.to; epoch = l.epoch; body = b }) (sym is) (by_acknowledgement l.from l.to l.epoch p c refl refl)
 
+-- if a ready node received an acknowledgement of a proposal, then plain moves lead to what it does with it
 pub on_oack-answered : (s : SystemState) (n from k x : ℕ) (p : Proposal) (c : Option Content) → IsReady s n → Received s n from (OAck x p c) → Answered s n k (on_oack (s.node n) from x p c)
 unfolding on_oack
 on_oack-answered s n from k x p c ready got =
@@ -153,6 +154,7 @@ settling_decision : (l : Letter) (x : ℕ) (stamp : Stamp) (place : Place) → l
 settling_decision l x stamp place is =
     subst (λ (b : Body). IsSettling x stamp place record { from = l.from; to = l.to; epoch = l.epoch; body = b }) (sym is) (by_decision l.from l.to l.epoch)
 
+-- if a ready node received the word of a settled placement, then plain moves lead to what it does with it
 pub on_oval-answered : (s : SystemState) (n from k x : ℕ) (stamp : Stamp) (place : Place) → IsReady s n → Received s n from (OVal x stamp place) → Answered s n k (on_oval (s.node n) x stamp place)
 unfolding on_oval IsPlain
 on_oval-answered s n from k x stamp place ready got =
@@ -169,6 +171,7 @@ on_oval-answered s n from k x stamp place ready got =
 
 -- ---- a node has reported
 
+-- if a ready node received the word that another has reported, then plain moves lead to what it does with it
 pub on_recovered-answered : (s : SystemState) (n from k : ℕ) → IsReady s n → Received s n from Recovered → Answered s n k (on_recovered (s.node n) from)
 unfolding on_recovered IsPlain
 on_recovered-answered s n from k ready got =

@@ -37,10 +37,12 @@ received_after s t n from body m sent r b k =
 
 -- ---- a raise
 
+-- if a count is not above what has passed, then raising to it changes nothing
 pub raise-none : (m : Node) (t : Stream) (d : ℕ) → d ≤ (log m t).done → raise m t d ≡ m
 unfolding raise
 raise-none m t d h = rw (le-ltb (log m t).done d h) refl
 
+-- after a raise to a count, the count of what has passed is not below it
 pub raise-done : (m : Node) (t : Stream) (d : ℕ) → d ≤ (log (raise m t d) t).done
 unfolding raise
 raise-done m t d =
@@ -115,6 +117,7 @@ stored_rinv-answered s n from k r ready got foreign done =
     (λ _. cut_none s n m k (still_reaches s n))
     (λ roomy. stores_entry s n from k r ready got foreign done (omega (arith, ltb-false r.number next not_less, ltb-false next r.number not_more)) (eqb-false (length (log m r.stream).kept) 16 roomy))))
 
+-- if a ready node received an entry, then plain moves lead to what it does with it
 pub on_rinv-answered : (s : SystemState) (n from k : ℕ) (r : Invalidation) → IsReady s n → Received s n from (RInv r) → Answered s n k (on_rinv (s.node n) from r)
 unfolding on_rinv
 on_rinv-answered s n from k r ready got =
@@ -177,6 +180,7 @@ on_kept_rack-answered s n from k t number ready foreign got =
 received_as : (s : SystemState) (n from : ℕ) (a b : Body) → a ≡ b → Received s n from a → Received s n from b
 received_as s n from a b same got = record { letter = got.letter; is = got.is ∙ same; by = got.by; at = got.at }
 
+-- if a ready node received an acknowledgement of an entry, then plain moves lead to what it does with it
 pub on_rack-answered : (s : SystemState) (n from k : ℕ) (t : Stream) (number : ℕ) → IsReady s n → Received s n from (RAck t number) → Answered s n k (on_rack (s.node n) from t number)
 unfolding on_rack
 on_rack-answered s n from k t number ready got =
@@ -190,6 +194,7 @@ on_rack-answered s n from k t number ready got =
 
 -- ---- the word that entries have passed
 
+-- if a ready node received the word that entries have passed, then plain moves lead to what it does with it
 pub on_rval-answered : (s : SystemState) (n from k : ℕ) (t : Stream) (d : ℕ) → IsReady s n → Received s n from (RVal t d) → Answered s n k (on_rval (s.node n) t d)
 unfolding on_rval
 on_rval-answered s n from k t d ready got =

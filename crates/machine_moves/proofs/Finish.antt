@@ -48,6 +48,7 @@ outside-cases : (member : Bool) (a b : List Stream) (t : Stream) → In t (if me
 outside-cases true a b t m = inr m
 outside-cases false a b t m = elim (In-append t a b m) [ inl l ↦ inl (refl, l) | inr r ↦ inr r ]
 
+-- a stream outside the members is of a node that is no member
 pub streams_outside-node : (members is ms : List ℕ) (t : Stream) → In t (streams_outside members is ms) → has t.node members ≡ false
 unfolding streams_outside
 streams_outside-node members is [] t m = elim m [ ]
@@ -116,6 +117,7 @@ report_telling : (m : Node) (l : Letter) → In l (to_each m (without m.me m.mem
 report_telling m =
     to_each-each (IsTellable (record m { reported = with_node m.me m.reported })) m (without m.me m.members) Recovered (λ to h. reported to (has-with_same m.me m.reported))
 
+-- if a node is ready, then plain moves lead to what its report makes of it
 pub report-reached : (s : SystemState) (n k : ℕ) → IsReady s n → PlainReached s n k (report_recovered (s.node n))
 unfolding report_recovered
 report-reached s n k ready =
@@ -126,6 +128,7 @@ report-reached s n k ready =
     (λ h. quiet_then_tells s n k after.node after.sent ready (reports_reached s n m.me me.me ready (and_parts (not (has m.me m.reported)) (none_stored m (outside m)) h).1) (report_telling m))
     (λ _. cut_none s n m k (still_reaches s n))
 
+-- if a node is ready, then moves lead to what the finish makes of it
 pub finish-reached : (s : SystemState) (n k : ℕ) → IsReady s n → Reached s n k (finish (s.node n))
 unfolding finish
 finish-reached s n k ready =

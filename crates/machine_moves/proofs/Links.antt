@@ -47,12 +47,14 @@ In-nth a [] i m = elim m [ ]
 In-nth a (ys ∷ yss) zero m = (ys, here ys yss refl, m)
 In-nth a (ys ∷ yss) (suc i) m = let p = In-nth a yss i m in (p.0, there ys yss p.1, p.2)
 
+-- a letter on some link is among all letters
 pub In-from_link : (links : List (List (List Letter))) (l : Letter) → IsOn links l → In l (all_of (all_of links))
 In-from_link links l on =
     let row = In-nth l (nth [] links on.from) on.to on.is in
     let outer = In-nth row.0 links on.from row.1 in
     In-all_of l row.0 (all_of links) (In-all_of row.0 outer.0 links outer.1 outer.2) row.2
 
+-- a letter among all letters is on some link
 pub In-to_link : (links : List (List (List Letter))) (l : Letter) → In l (all_of (all_of links)) → IsOn links l
 In-to_link links l m =
     let inner = In-all_of_parts l (all_of links) m in
@@ -63,6 +65,7 @@ In-to_link links l m =
 
 -- ---- one more letter
 
+-- after a letter is posted, the link from its sender to its receiver has it at the end
 pub link-posted_same : (links : List (List (List Letter))) (l : Letter) → link (posted links l) l.from l.to ≡ link links l.from l.to ++ l ∷ []
 link-posted_same links l =
     rw (nth-put_same [] links l.from (put [] (nth [] links l.from) l.to (link links l.from l.to ++ l ∷ []))) (nth-put_same [] (nth [] links l.from) l.to (link links l.from l.to ++ l ∷ []))
@@ -82,6 +85,7 @@ own_link l from to =
       | inr other ↦ inr (inl other)
     ]
 
+-- after a letter is posted, each other link is as before
 pub link-posted_other : (links : List (List (List Letter))) (l : Letter) (from to : ℕ) → (from ≢ l.from) ⊎ (to ≢ l.to) → link (posted links l) from to ≡ link links from to
 link-posted_other links l from to (inl ne) = other_row links l from to ne
 link-posted_other links l from to (inr ne) =
@@ -122,17 +126,20 @@ posted-new links l = rw (link-posted_same links l) (In-append_right l (link link
 
 -- ---- more letters
 
+-- after letters are posted, a letter that was on a link is still on it
 pub all_posted-stay : (links : List (List (List Letter))) (ls : List Letter) (k : Letter) (from to : ℕ) → In k (link links from to) → In k (link (all_posted links ls) from to)
 unfolding all_posted
 all_posted-stay links [] k from to m = m
 all_posted-stay links (l ∷ ls) k from to m = all_posted-stay (posted links l) ls k from to (posted-stay links l k from to m)
 
+-- after letters are posted, each of them is on the link from its sender to its receiver
 pub all_posted-new : (links : List (List (List Letter))) (ls : List Letter) (k : Letter) → In k ls → In k (link (all_posted links ls) k.from k.to)
 unfolding all_posted
 all_posted-new links [] k m = elim m [ ]
 all_posted-new links (l ∷ ls) k (here _ _ e) = all_posted-stay (posted links l) ls k k.from k.to (rw e (posted-new links l))
 all_posted-new links (l ∷ ls) k (there _ _ m) = all_posted-new (posted links l) ls k m
 
+-- after letters are posted, a letter on a link was on it before, or is one of them, on the link between its ends
 pub all_posted-only : (links : List (List (List Letter))) (ls : List Letter) (k : Letter) (from to : ℕ) → In k (link (all_posted links ls) from to) → In k (link links from to) ⊎ (In k ls × (from ≡ k.from) × (to ≡ k.to))
 unfolding all_posted
 all_posted-only links [] k from to m = inl m
@@ -147,14 +154,17 @@ all_posted-only links (l ∷ ls) k from to m =
 
 -- ---- the same of all links together
 
+-- after letters are posted, a letter that was sent before is still among all letters
 pub sent-stay : (links : List (List (List Letter))) (ls : List Letter) (k : Letter) → In k (all_of (all_of links)) → In k (all_of (all_of (all_posted links ls)))
 sent-stay links ls k m =
     let on = In-to_link links k m in
     In-from_link (all_posted links ls) k record { from = on.from; to = on.to; is = all_posted-stay links ls k on.from on.to on.is }
 
+-- after letters are posted, each of them is among all letters
 pub sent-new : (links : List (List (List Letter))) (ls : List Letter) (k : Letter) → In k ls → In k (all_of (all_of (all_posted links ls)))
 sent-new links ls k m = In-from_link (all_posted links ls) k record { from = k.from; to = k.to; is = all_posted-new links ls k m }
 
+-- after letters are posted, a letter among all was there before or is one of them
 pub sent-only : (links : List (List (List Letter))) (ls : List Letter) (k : Letter) → In k (all_of (all_of (all_posted links ls))) → In k (all_of (all_of links)) ⊎ In k ls
 sent-only links ls k m =
     let on = In-to_link (all_posted links ls) k m in
@@ -165,9 +175,11 @@ sent-only links ls k m =
 
 -- ---- each letter stands on the link from its sender to its receiver
 
+-- each letter on a link has the link's sender and receiver
 unfoldable pub HasEnds : List (List (List Letter)) → Type 0
 HasEnds links = (from to : ℕ) (l : Letter) → In l (link links from to) → (l.from ≡ from) × (l.to ≡ to)
 
+-- if each letter is on the link between its ends, then it is still so after letters are posted
 pub HasEnds-all_posted : (links : List (List (List Letter))) (ls : List Letter) → HasEnds links → HasEnds (all_posted links ls)
 unfolding HasEnds
 HasEnds-all_posted links ls h =

@@ -10,9 +10,11 @@ use Rattle.zeus_model.specs.Tables.{nth, put, numbers_from}
 
 -- ---- members
 
+-- nothing is in the empty list
 pub In-nothing : {A : Type 0} {P : Type 0} (a : A) → In a [] → P
 In-nothing a m = elim m [ ]
 
+-- what is in the front of a list is in the list
 pub In-take : {A : Type 0} (a : A) (k : ℕ) (xs : List A) → In a (take k xs) → In a xs
 In-take a zero xs m = elim m [ ]
 In-take a (suc k) [] m = elim m [ ]
@@ -25,10 +27,12 @@ In-take_last a zero xs ys h = absurd (omega arith)
 In-take_last a (suc k) [] ys h = here a (take k ys) refl
 In-take_last a (suc k) (x ∷ xs) ys h = there x (take k (xs ++ a ∷ ys)) (In-take_last a k xs ys (omega arith))
 
+-- the front of the empty list is empty
 pub take-none : {A : Type 0} (k : ℕ) → ◌≡◌ {A = List A} (take k []) []
 take-none zero = refl
 take-none (suc k) = refl
 
+-- the front of two lists one after the other is the front of the first, then what is left of the count from the second
 pub take-append : {A : Type 0} (k : ℕ) (xs ys : List A) → take k (xs ++ ys) ≡ take k xs ++ take (k - length xs) ys
 take-append zero [] ys = refl
 take-append zero (x ∷ xs) ys = let e : 0 - suc (length xs) ≡ 0 = omega arith in rw e refl
@@ -39,6 +43,7 @@ take-append {A = A} (suc k) (x ∷ xs) ys =
 
 -- ---- tables
 
+-- each other index than the one written reads as before
 pub nth-put_other : {A : Type 0} (d : A) (xs : List A) (i j : ℕ) (v : A) → j ≢ i → nth d (put d xs i v) j ≡ nth d xs j
 unfolding nth put
 nth-put_other d [] zero zero v ne = absurd (ne refl)
@@ -50,6 +55,7 @@ nth-put_other d (x ∷ xs) zero (suc j) v ne = refl
 nth-put_other d (x ∷ xs) (suc i) zero v ne = refl
 nth-put_other d (x ∷ xs) (suc i) (suc j) v ne = nth-put_other d xs i j v (λ e. ne (ap suc e))
 
+-- of two writes at one index the second alone is seen
 pub put-put : {A : Type 0} (d : A) (xs : List A) (i : ℕ) (v w : A) → put d (put d xs i v) i w ≡ put d xs i w
 unfolding put
 put-put d [] zero v w = refl
@@ -57,6 +63,7 @@ put-put {A = A} d [] (suc i) v w = ap (λ (ys : List A). d ∷ ys) (put-put d []
 put-put d (x ∷ xs) zero v w = refl
 put-put {A = A} d (x ∷ xs) (suc i) v w = ap (λ (ys : List A). x ∷ ys) (put-put d xs i v w)
 
+-- a write does not make a list shorter
 pub length-put : {A : Type 0} (d : A) (xs : List A) (i : ℕ) (v : A) → length xs ≤ length (put d xs i v)
 unfolding put
 length-put d [] i v = omega arith
@@ -65,6 +72,7 @@ length-put d (x ∷ xs) (suc i) v = omega (arith, length-put d xs i v)
 
 -- ---- the numbers below a bound
 
+-- each number from i to below i + n is among the n numbers from i
 pub has-numbers_from : (k i n : ℕ) → i ≤ k → k < i + n → has k (numbers_from i n) ≡ true
 unfolding numbers_from
 has-numbers_from k i zero h g = absurd (omega arith)
@@ -74,6 +82,7 @@ has-numbers_from k i (suc n) h g =
       | inr other ↦ has-tail k i (numbers_from (suc i) n) (has-numbers_from k (suc i) n (omega arith) (omega arith))
     ]
 
+-- each of the n numbers from i is below i + n
 pub has-numbers_bound : (k i n : ℕ) → has k (numbers_from i n) ≡ true → k < i + n
 unfolding numbers_from has
 has-numbers_bound k i zero h = absurd cc
@@ -83,6 +92,7 @@ has-numbers_bound k i (suc n) h =
       | inr other ↦ let rest : k < suc i + n = has-numbers_bound k (suc i) n (grind (arith, nat_tests)) in omega arith
     ]
 
+-- a table of a function over the n numbers from i reads at index k the function at i + k
 pub nth-map_numbers : {A : Type 0} (d : A) (f : ℕ → A) (i n k : ℕ) → k < n → nth d (map f (numbers_from i n)) k ≡ f (i + k)
 unfolding nth numbers_from
 nth-map_numbers d f i zero k h = absurd (omega arith)
@@ -91,11 +101,13 @@ nth-map_numbers d f i (suc n) (suc k) h =
     let e : suc i + k ≡ i + suc k = omega arith in
     rw (← e) (nth-map_numbers d f (suc i) n k (omega arith))
 
+-- a table of a function over n numbers has n elements
 pub length-map_numbers : {A : Type 0} (f : ℕ → A) (i n : ℕ) → length (map f (numbers_from i n)) ≡ n
 unfolding numbers_from
 length-map_numbers f i zero = refl
 length-map_numbers f i (suc n) = ap suc (length-map_numbers f (suc i) n)
 
+-- any index of a list of one value repeated reads that value, or the default
 pub nth-replicate : {A : Type 0} (d v : A) (n k : ℕ) → (nth d (replicate n v) k ≡ v) ⊎ (nth d (replicate n v) k ≡ d)
 unfolding nth
 nth-replicate d v zero k = inr refl

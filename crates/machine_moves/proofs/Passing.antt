@@ -38,11 +38,13 @@ front-cases : (first : Bool) (length rest c : ℕ) → suc c ≤ (if first then 
 front-cases true length rest c h = (omega arith, refl, omega arith)
 front-cases false length rest c h = absurd (omega arith)
 
+-- if more than c elements at the front pass a test, then the head passes it, and at least c at the front of the tail
 pub front-parts : {A : Type 0} (f : A → Bool) (d : A) (xs : List A) (c : ℕ) → suc c ≤ front f xs → (0 < length xs) × (f (nth d xs 0) ≡ true) × (c ≤ front f (drop 1 xs))
 unfolding front nth
 front-parts f d [] c h = absurd (omega arith)
 front-parts f d (x ∷ xs) c h = front-cases (f x) (length xs) (front f xs) c h
 
+-- not more elements pass a test at the front than there are
 pub front-length : {A : Type 0} (f : A → Bool) (xs : List A) → front f xs ≤ length xs
 unfolding front
 front-length f [] = omega arith
@@ -63,6 +65,7 @@ take-more zero [] = refl
 take-more (suc k) [] = refl
 take-more k (x ∷ xs) = refl
 
+-- to make the writes of one list and then of another is to make those of both lists in one
 pub each_write-append : (f : Write → Option Copy → Option Copy) (copies : List (Option Copy)) (a b : List Write) → each_write f (each_write f copies a) b ≡ each_write f copies (a ++ b)
 unfolding each_write
 each_write-append f copies [] b = refl
@@ -78,6 +81,7 @@ copies-more copies k ks = rw (each_write-append, writes_of-append, take-more k k
 
 -- ---- an own stream
 
+-- after entries of a slot's own stream pass, its count is higher by as many, and as many are gone from its front
 pub pass_own-slot : (m : Node) (i k : ℕ) → slot (pass_own m i k) i ≡ record { current = (slot m i).current; done = (slot m i).done + k; pending = drop k (slot m i).pending }
 pass_own-slot m i k = slot-with_slot_same m i record { current = (slot m i).current; done = (slot m i).done + k; pending = drop k (slot m i).pending }
 
@@ -85,6 +89,7 @@ pass_own-kept : (m : Node) (i k : ℕ) → own_kept (pass_own m i k) i ≡ drop 
 unfolding own_kept
 pass_own-kept m i k = rw (pass_own-slot m i k) (drop-map as_kept k (slot m i).pending)
 
+-- if two nodes differ at most in copies and slots, and those are equal, then the nodes are equal
 pub node_by : (m : Node) (c d : List (Option Copy)) (a b : List Slot) → c ≡ d → a ≡ b → ◌≡◌ {A = Node} (record m { copies = c; slots = a }) (record m { copies = d; slots = b })
 node_by m c d a b e h = λ j. record m { copies = e j; slots = h j }
 
@@ -105,9 +110,11 @@ pass_of-more : (m : Node) (i : ℕ) (l : Slot) (k : ℕ) → pass_of (pass_of m 
 pass_of-more m i l k =
     node_by m _ _ _ _ (rw (drop-map as_kept 1 l.pending) (copies-more m.copies k (map as_kept l.pending))) (slots-more m.slots i l k)
 
+-- if one entry of the own stream passes and then k more, then it is as if k + 1 passed at once
 pub pass_own-more : (m : Node) (i k : ℕ) → pass_own (pass_own m i 1) i k ≡ pass_own m i (suc k)
 pass_own-more m i k = ap (λ (l : Slot). pass_of (pass_own m i 1) i l k) (pass_own-slot m i 1) ∙ pass_of-more m i (slot m i) k
 
+-- a slot's own stream has as many entries as the slot has pending
 pub own_kept-length : (m : Node) (i : ℕ) → length (own_kept m i) ≡ length (slot m i).pending
 unfolding own_kept
 own_kept-length m i = length-map (slot m i).pending as_kept
@@ -133,23 +140,28 @@ own_passes (suc c) s n i ready h =
     rw (← pass_own-more m i (suc c))
     (subst (λ (x : Node). suc c ≤ front (passes x) (own_kept x i) → Reaches t n (pass_own x i (suc c)) []) b.node (own_passes c t n i rt) (own_front m i c h)))
 
+-- the front of a list of count k has at most k elements
 pub length-take_most : {A : Type 0} (k : ℕ) (xs : List A) → length (take k xs) ≤ k
 length-take_most zero xs = omega arith
 length-take_most (suc k) [] = omega arith
 length-take_most (suc k) (x ∷ xs) = omega (arith, length-take_most k xs)
 
+-- a member of a set without a node is another node
 pub without-other : (k n : ℕ) (ms : List ℕ) → has k (without n ms) ≡ true → k ≢ n
 without-other k n ms h same =
     let none : has n (without n ms) ≡ false = has-without_same n ms in
     let some : has n (without n ms) ≡ true = rw same at h in
     absurd cc
 
+-- a member of a set without a node is a member of the set
 pub without-member : (k n : ℕ) (ms : List ℕ) → has k (without n ms) ≡ true → has k ms ≡ true
 without-member k n ms h = grind (arith, has-without k n ms)
 
+-- a member of an intersection is a member of the left set
 pub meet-left : (k : ℕ) (ms ns : List ℕ) → has k (meet ms ns) ≡ true → has k ms ≡ true
 meet-left k ms ns h = grind (arith, has-meet k ms ns)
 
+-- a member of an intersection is a member of the right set
 pub meet-right : (k : ℕ) (ms ns : List ℕ) → has k (meet ms ns) ≡ true → has k ns ≡ true
 meet-right k ms ns h = grind (arith, has-meet k ms ns)
 
@@ -176,9 +188,11 @@ advance_own-reached s n i k ready =
 
 -- ---- a stream whose node is no member
 
+-- after stored entries of a stream pass, its count is higher by as many, and as many are gone from its front
 pub pass_kept-log : (m : Node) (t : Stream) (k : ℕ) → log (pass_kept m t k) t ≡ record { done = (log m t).done + k; kept = drop k (log m t).kept }
 pass_kept-log m t k = log-with_log_same m t record { done = (log m t).done + k; kept = drop k (log m t).kept }
 
+-- if two nodes differ at most in copies and logs, and those are equal, then the nodes are equal
 pub node_with_logs : (m : Node) (c d : List (Option Copy)) (a b : List (List StreamLog)) → c ≡ d → a ≡ b → ◌≡◌ {A = Node} (record m { copies = c; logs = a }) (record m { copies = d; logs = b })
 node_with_logs m c d a b e h = λ j. record m { copies = e j; logs = h j }
 
@@ -202,6 +216,7 @@ pass_kept_of-more m t l k =
     (logs-put m.logs t.node t.slot record { done = l.done + 1; kept = drop 1 l.kept } record { done = l.done + 1 + k; kept = drop k (drop 1 l.kept) }
     ∙ ap (λ (b : StreamLog). put [] m.logs t.node (put no_log (nth [] m.logs t.node) t.slot b)) (log-more l k))
 
+-- if one stored entry of a stream passes and then k more, then it is as if k + 1 passed at once
 pub pass_kept-more : (m : Node) (t : Stream) (k : ℕ) → pass_kept (pass_kept m t 1) t k ≡ pass_kept m t (suc k)
 pass_kept-more m t k = ap (λ (l : StreamLog). pass_kept_of (pass_kept m t 1) t l k) (pass_kept-log m t 1) ∙ pass_kept_of-more m t (log m t) k
 
@@ -212,6 +227,7 @@ self_member s n ready =
     let m = s.node n in
     rw (k.members) (k.everywhere m.epoch k.first k.made)
 
+-- a node that is no member of a ready node's view is not that node
 pub outsider_other : (s : SystemState) (n k : ℕ) → IsReady s n → has k (s.node n).members ≡ false → k ≢ n
 outsider_other s n k ready out same =
     let some : has n (s.node n).members ≡ true = self_member s n ready in
@@ -224,6 +240,7 @@ kept_pass s n t ready out h =
     let first = front-parts (passes m) no_kept (log m t).kept 0 h in
     quiet_reaches s n (pass_kept m t 1) ready.live (Keeps-pass_kept m t 1) (λ ch. passes_kept n t out (outsider_other s n t.node ready out) first.0 first.1 ch)
 
+-- if at least c + 2 stored entries may pass, then after one has passed at least c + 1 still may
 pub kept_front : (m : Node) (t : Stream) (c : ℕ) → suc (suc c) ≤ front (passes m) (log m t).kept → suc c ≤ front (passes (pass_kept m t 1)) (log (pass_kept m t 1) t).kept
 unfolding passes_at
 kept_front m t c h = rw (pass_kept-log m t 1) (front-parts (passes m) no_kept (log m t).kept (suc c) h).2

@@ -49,6 +49,7 @@ unfolding to_each
 length-to_each n [] body = refl
 length-to_each n (to ∷ tos) body = ap suc (length-to_each n tos body)
 
+-- each letter that spreads a proposal is one that a node may send about it
 pub invalidation_about : (m : Node) (x : ℕ) (p : Proposal) (l : Letter) → In l (invalidations m x p) → IsAboutProposal m x p l
 invalidation_about m x p =
     let nodes = arbiters p.base_place m.members m.directory in
@@ -105,6 +106,7 @@ answer_request-answered (Some cause) s n from k x want ready got opened few room
     let m = s.node n in
     cut_tells s n k (letter m from (ONack x (entry m x).stamp cause) ∷ []) ready.live (advice_letter m from x (entry m x).stamp cause)
 
+-- if an open node received a request, and 10 letters may go out, then plain moves lead to what it does with it
 pub on_oreq-answered : (s : SystemState) (n from k x : ℕ) (want : Want) → IsReady s n → Received s n from (OReq x want) → is_open (s.node n) ≡ true → length (s.node n).directory ≤ 8 → 10 ≤ k → Answered s n k (on_oreq (s.node n) from x want)
 unfolding on_oreq
 on_oreq-answered s n from k x want ready got opened few room =
@@ -118,6 +120,7 @@ is_open-settle m x stamp place =
     let after = with_gather (with_entry m x (settled_entry (entry m x) stamp place)) x (gather_above stamp (nth None m.gathers x)) in
     cond_both (is_below (entry m x).stamp stamp) after m (λ y. is_open y ≡ is_open m) (λ _. refl) (λ _. refl)
 
+-- if a stamp is above the settled one, then settling it makes the entry the settled one of this stamp and placement
 pub settle-entry : (m : Node) (x : ℕ) (stamp : Stamp) (place : Place) → is_below (entry m x).stamp stamp ≡ true → entry (settle m x stamp place) x ≡ settled_entry (entry m x) stamp place
 unfolding settle
 settle-entry m x stamp place below = rw below (entry-with_entry_same m x (settled_entry (entry m x) stamp place))
@@ -129,6 +132,7 @@ pub record Rebased (s : SystemState) (n x : ℕ) (p : Proposal) (m : Node) : Typ
   pub not_below : is_below (entry m x).stamp p.base ≡ false
   pub below : is_below (entry m x).stamp p.stamp ≡ true
 
+-- if settling the base of a proposal leaves a node, then plain moves reach it, and the proposal fits above its settled stamp
 unfoldable pub IsRebased : SystemState → ℕ → ℕ → Proposal → Option Node → Type 0
 IsRebased s n x p None = Unit {0}
 IsRebased s n x p (Some m) = Rebased s n x p m
@@ -146,6 +150,7 @@ rebased_settled s n x p l ready at says above below =
       below = rw is above;
     }
 
+-- if a proposal above the settled stamp was received, then settling its base leads to a node that the proposal fits
 pub rebased-is : (s : SystemState) (n x : ℕ) (p : Proposal) (l : Letter) → IsReady s n → IsReceivable s n l → IsSettling x p.base p.base_place l → is_below p.base p.stamp ≡ true → is_below (entry (s.node n) x).stamp p.stamp ≡ true → IsRebased s n x p (rebased (s.node n) x p)
 unfolding rebased IsRebased IsPlain
 rebased-is s n x p l ready at says above below =
@@ -180,6 +185,7 @@ refuses_proposal s n k x p cause ready =
     (λ _. cut_tells s n k (letter m p.requester (ONack x p.stamp cause) ∷ []) ready.live (advice_letter m p.requester x p.stamp cause))
     (λ _. cut_none s n m k (still_reaches s n))
 
+-- if the requester is a member, then it is the collector of its proposal
 pub collector-requester : (m : Node) (p : Proposal) (other : ℕ) → has p.requester m.members ≡ true → collector m p other ≡ p.requester
 unfolding collector
 collector-requester m p other h = cond-true (has p.requester m.members) p.requester other h
@@ -223,6 +229,7 @@ oinv_on_base-answered (Some m) s n from k x p ready got opened room r =
     (λ o nb be. hold_or_refuse-answered (hold_cause (t.node n) x p) t n from k x p rt (received_after s t n from (OInv x p) m [] got b (let keeps = first.keeps in rw (b.node) keeps)) o room nb be refl)
     (r.opened ∙ opened) r.not_below r.below)
 
+-- if an open node received a proposal, and 10 letters may go out, then plain moves lead to what it does with it
 pub on_oinv-answered : (s : SystemState) (n from k x : ℕ) (p : Proposal) → IsReady s n → Received s n from (OInv x p) → is_open (s.node n) ≡ true → 10 ≤ k → Answered s n k (on_oinv (s.node n) from x p)
 unfolding on_oinv
 on_oinv-answered s n from k x p ready got opened room =

@@ -29,6 +29,7 @@ unfoldable pub changed : SystemState → ℕ → Node → List Letter → System
 changed s n after sent =
     record { config = s.config; views = s.views; node = λ k. if k == n then after else s.node k; letters = s.letters ++ sent }
 
+-- the system made with another node and more letters is one where the node became this and sent these
 pub Became-changed : (s : SystemState) (n : ℕ) (after : Node) (sent : List Letter) → Became s (changed s n after sent) n after sent
 unfolding changed
 Became-changed s n after sent =
@@ -42,10 +43,12 @@ Became-changed s n after sent =
       only = λ l m. In-append l s.letters sent m;
     }
 
+-- a node that did nothing became what it was, and sent nothing
 pub Became-refl : (s : SystemState) (n : ℕ) → Became s s n (s.node n) []
 Became-refl s n =
     record { config = refl; views = refl; node = refl; others = λ k ne. refl; stay = λ l m. m; new = λ l m. In-nothing l m; only = λ l m. inl m }
 
+-- if a node became another and then a third, then it became the third and sent the letters of both
 pub Became-trans : (s t u : SystemState) (n : ℕ) (m after : Node) (a b : List Letter) → Became s t n m a → Became t u n after b → Became s u n after (a ++ b)
 Became-trans s t u n m after a b p q =
     record {
@@ -103,6 +106,7 @@ pub record LeadsBy (plain : Bool) (s t : SystemState) : Type 0 where
   pub on : (u : SystemState) → Moves t u → Moves s u
   pub plainly : plain ≡ true → PlainMoves s t
 
+-- moves lead from one system to another
 abbrev pub Leads : SystemState → SystemState → Type 0
 Leads = LeadsBy false
 
@@ -113,6 +117,7 @@ pub record ReachesBy (plain : Bool) (s : SystemState) (n : ℕ) (after : Node) (
   pub leads : LeadsBy plain s system
   pub keeps : Keeps (s.node n) after
 
+-- moves of the node lead to where it has become another and has sent these letters
 abbrev pub Reaches : SystemState → ℕ → Node → List Letter → Type 0
 Reaches = ReachesBy false
 
@@ -125,13 +130,16 @@ pub record IsReady (s : SystemState) (n : ℕ) : Type 0 where
   pub steady : IsSteady s
   pub live : IsLive s n
 
+-- a ready node knows its number, the configuration and the views
 pub known : (s : SystemState) (n : ℕ) → IsReady s n → IsKnown s.config s.views n (s.node n)
 known s n r = let h = r.steady in h.nodes n r.live
 
+-- a system is the same as itself
 pub Same-refl : (s : SystemState) → Same s s
 Same-refl s =
     record { config = refl; views = refl; nodes = λ k. refl; sends = record { stay = λ l i. i; only = λ l i. inl i } }
 
+-- if moves lead from one system to another, then there is a sequence of moves between them
 pub Moves-leads : {p : Bool} (s t : SystemState) → LeadsBy p s t → Moves s t
 Moves-leads s t l = l.on t (none t t (Same-refl t))
 
@@ -165,9 +173,11 @@ quiet_changes : (s : SystemState) (n : ℕ) (after : Node) → IsLive s n → Ch
 quiet_changes s n after live =
     Changes-became s (changed s n after []) n after [] nothing live (Became-changed s n after []) (λ l i. In-nothing l i)
 
+-- if a live node may change by one move that sends nothing, then moves reach it
 pub quiet_reaches : (s : SystemState) (n : ℕ) (after : Node) → IsLive s n → Keeps (s.node n) after → (Changes s (changed s n after []) n after nothing → Move s (changed s n after [])) → Reaches s n after []
 quiet_reaches s n after live k move = move_reaches s n after [] k (move (quiet_changes s n after live)) (λ asked. absurd cc)
 
+-- if a live node may change by one plain move that sends nothing, then plain moves reach it
 pub plain_reaches : (s : SystemState) (n : ℕ) (after : Node) → IsLive s n → Keeps (s.node n) after → (move : Changes s (changed s n after []) n after nothing → Move s (changed s n after [])) → ((ch : Changes s (changed s n after []) n after nothing) → IsPlain s (changed s n after []) (move ch)) → PlainReaches s n after []
 plain_reaches s n after live k move is = move_reaches s n after [] k (move (quiet_changes s n after live)) (λ _. is (quiet_changes s n after live))
 
@@ -184,6 +194,7 @@ tells_reaches s n sent live fair =
     move_reaches s n (s.node n) sent (Keeps-refl (s.node n))
     (tells n (Changes-became s (changed s n (s.node n) sent) n (s.node n) sent (IsTellable (s.node n)) live (Became-changed s n (s.node n) sent) fair)) (λ _. tt)
 
+-- if moves reach one node, and from there moves reach a second, then moves reach the second, with the letters of both
 pub then_reaches : {p : Bool} (s : SystemState) (n : ℕ) (m after : Node) (a b : List Letter) → IsReady s n → ReachesBy p s n m a → ((t : SystemState) → IsReady t n → Became s t n m a → ReachesBy p t n after b) → ReachesBy p s n after (a ++ b)
 then_reaches s n m after a b ready r on =
     let second = on r.system (ready_after s r.system n m a ready r.became r.leads r.keeps) r.became in
@@ -201,27 +212,35 @@ then_reaches s n m after a b ready r on =
 
 -- ---- what an act reaches, of whose letters at most so many are sent
 
+-- moves, plain ones if asked for, reach an act's node, with at most k of its letters sent
 abbrev pub ReachedBy : Bool → SystemState → ℕ → ℕ → Act → Type 0
 ReachedBy p s n k a = ReachesBy p s n a.node (take k a.sent)
 
+-- moves reach an act's node, with at most k of its letters sent
 abbrev pub Reached : SystemState → ℕ → ℕ → Act → Type 0
 Reached s n k a = Reaches s n a.node (take k a.sent)
 
+-- plain moves reach an act's node, with at most k of its letters sent
 abbrev pub PlainReached : SystemState → ℕ → ℕ → Act → Type 0
 PlainReached s n k a = PlainReaches s n a.node (take k a.sent)
 
+-- moves, plain ones if asked for, reach the node of an act that answers, with at most k of its letters sent
 abbrev pub AnsweredBy : {A : Type 0} → Bool → SystemState → ℕ → ℕ → Did A → Type 0
 AnsweredBy p s n k d = ReachesBy p s n d.node (take k d.sent)
 
+-- moves reach the node of an act that answers, with at most k of its letters sent
 abbrev pub Answered : {A : Type 0} → SystemState → ℕ → ℕ → Did A → Type 0
 Answered s n k d = Reaches s n d.node (take k d.sent)
 
+-- plain moves reach the node of an act that answers, with at most k of its letters sent
 abbrev pub PlainAnswered : {A : Type 0} → SystemState → ℕ → ℕ → Did A → Type 0
 PlainAnswered s n k d = PlainReaches s n d.node (take k d.sent)
 
+-- if a node is reached without a letter, then also with at most k of none
 pub cut_none : {p : Bool} (s : SystemState) (n : ℕ) (after : Node) (k : ℕ) → ReachesBy p s n after [] → ReachesBy p s n after (take k [])
 cut_none s n after k r = rw (take-none {A = Letter} k) r
 
+-- if a live node may send each of some letters without a change of its state, then moves send at most k of them
 pub cut_tells : {p : Bool} (s : SystemState) (n k : ℕ) (sent : List Letter) → IsLive s n → ((l : Letter) → In l sent → IsTellable (s.node n) l) → ReachesBy p s n (s.node n) (take k sent)
 cut_tells s n k sent live fair = tells_reaches s n (take k sent) live (λ l i. fair l (In-take l k sent i))
 

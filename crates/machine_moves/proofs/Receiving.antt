@@ -39,6 +39,7 @@ pub record IsTaken (m : Node) (l : Letter) : Type 0 where
   pub epoch : l.epoch ≡ m.epoch
   pub opened : needs_open l.body ≡ true → is_open m ≡ true
 
+-- if there is no ground to reject a letter, then the node takes it
 pub rejection-none : (m : Node) (l : Letter) → rejection m l ≡ None → IsTaken m l
 unfolding rejection
 rejection-none m l h =

@@ -103,11 +103,13 @@ few_directory c keeps =
     let within = keeps.directory_nodes in
     omega (arith, length-below 0 c.nodes c.directory keeps.rising (λ k h. within k h) (omega arith), keeps.nodes)
 
+-- if a configuration keeps its limits, then the start of its run is a usual world
 pub start_usual : (c : Config) (txs : List TxDecl) → KeepsLimits c → IsUsual (start c txs)
 unfolding HasEnds start
 start_usual c txs keeps =
     record { steady = start_steady c txs; ends = λ from to l i. no_letter c txs from to l i; few = few_directory c keeps }
 
+-- the start of a run has the run's configuration
 pub start-config : (c : Config) (txs : List TxDecl) → (start c txs).config ≡ c
 unfolding start
 start-config c txs = refl

@@ -61,10 +61,12 @@ pub record IsFair (config : Config) (views : List (List ℕ)) (l : Letter) : Typ
   pub member : has l.from (nth [] views (l.epoch - 1)) ≡ true
   pub says : SaysFair config.slots l.body
 
+-- at every moment each live node knows its number and the views, and each letter that was sent is fair
 pub record IsSteady (s : SystemState) : Type 0 where
   pub nodes : (n : ℕ) → IsLive s n → IsKnown s.config s.views n (s.node n)
   pub letters : (l : Letter) → In l s.letters → IsFair s.config s.views l
 
+-- in a steady system each live node is numbered
 pub IsNumbered-steady : (s : SystemState) → IsSteady s → IsNumbered s
 IsNumbered-steady s h =
     record {
@@ -105,6 +107,7 @@ stream_within : (bound : ℕ) (m : Node) → IsWithin bound m → (s : Stream) (
 stream_within bound m w s i h =
     elim (cases_lt s.slot bound) [ inl less ↦ less | inr more ↦ not_empty i (log m s).kept h (w.kept s more) ]
 
+-- a letter that a known node may send without a change of its state is fair
 pub tellable_fair : (config : Config) (views : List (List ℕ)) (n : ℕ) (m : Node) → IsKnown config views n m → (l : Letter) → IsTellable m l → IsFair config views l
 unfolding SaysFair
 tellable_fair config views n m k _ (request to x want) = IsFair-letter config views n m k to (OReq x want) tt
@@ -119,6 +122,7 @@ tellable_fair config views n m k _ (stored to number s foreign less) = IsFair-le
 tellable_fair config views n m k _ (own_passed to s d le other) = IsFair-letter config views n m k to _ tt
 tellable_fair config views n m k _ (kept_passed to d s foreign le other) = IsFair-letter config views n m k to (RVal s d) tt
 
+-- if a known node sends a letter about a proposal whose stamp is above its base, then the letter is fair
 pub about_fair : (config : Config) (views : List (List ℕ)) (n : ℕ) (m : Node) (x : ℕ) (p : Proposal) → IsKnown config views n m → is_below p.base p.stamp ≡ true → (l : Letter) → IsAboutProposal m x p l → IsFair config views l
 unfolding SaysFair
 about_fair config views n m x p k below _ (to_arbiter to arbiter) = IsFair-letter config views n m k to (OInv x p) below
@@ -185,6 +189,7 @@ installed_known config views n m e left k less le =
       rows = record { slots = k.rows.slots; pending = k.rows.pending; kept = k.rows.kept; held = k.rows.held };
     }
 
+-- if a system is steady, then so is one that is the same
 pub same_keep : (old new : SystemState) → Same old new → IsSteady old → IsSteady new
 same_keep old new same h =
     record {
@@ -254,10 +259,12 @@ fair_invalidation : (config : Config) (views : List (List ℕ)) (l : Letter) (r 
 unfolding SaysFair
 fair_invalidation config views l r is f = rw is at f.says
 
+-- a fair letter that spreads a proposal has one whose stamp is above its base
 pub fair_proposal : (config : Config) (views : List (List ℕ)) (l : Letter) (x : ℕ) (p : Proposal) → l.body ≡ OInv x p → IsFair config views l → is_below p.base p.stamp ≡ true
 unfolding SaysFair
 fair_proposal config views l x p is f = rw is at f.says
 
+-- a fair acknowledgement is of a proposal whose stamp is above its base
 pub fair_acknowledgement : (config : Config) (views : List (List ℕ)) (l : Letter) (x : ℕ) (p : Proposal) (c : Option Content) → l.body ≡ OAck x p c → IsFair config views l → is_below p.base p.stamp ≡ true
 unfolding SaysFair
 fair_acknowledgement config views l x p c is f = rw is at f.says
@@ -276,6 +283,7 @@ proposal_keep old new n x p below ch h =
     loud_keep old new n (holding (old.node n) x p) (IsAboutProposal (old.node n) x p) ch h (Keeps-holding (old.node n) x p) (IsWithin-holding old.config.slots (old.node n) x p below)
     (about_fair old.config old.views n (old.node n) x p (h.nodes n ch.live) below)
 
+-- a move from a steady system leads to a steady one
 pub move_keep : (old new : SystemState) → Move old new → IsSteady old → IsSteady new
 move_keep old new (makes_view set v) h = view_keep old new set v h
 move_keep old new (stops n ch) h =
@@ -326,6 +334,7 @@ move_keep old new (commits n s c less is cause ch) h =
     let ran = run_here (old.node n) c.tx in
     quiet_keep old new n _ ch h (Keeps-committed (old.node n) s c ran _ _) (within_committed old.config.slots (old.node n) s c ran _ _ less)
 
+-- moves from a steady system lead to a steady one
 pub moves_keep : (old new : SystemState) → Moves old new → IsSteady old → IsSteady new
 moves_keep old new (none _ _ same) h = same_keep old new same h
 moves_keep old new (next _ mid _ m ms) h = moves_keep mid new ms (move_keep old mid m h)

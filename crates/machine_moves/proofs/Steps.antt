@@ -62,10 +62,12 @@ refused_step w u =
 
 -- ---- a node has acted
 
+-- the world where a node is another, its letters are posted, and the book is this one
 abbrev pub world_after : World → ℕ → Node → List Letter → Book → World
 world_after w n after letters book =
     record { config = w.config; txs = w.txs; nodes = put no_node w.nodes n after; links = all_posted w.links letters; views = w.views; book = book }
 
+-- in the world after a node acted, it became what it is there and sent these letters
 pub Became-after : (w : World) (n : ℕ) (after : Node) (letters : List Letter) (book : Book) → Became (system w) (system (world_after w n after letters book)) n after letters
 unfolding system
 Became-after w n after letters book =
@@ -143,6 +145,7 @@ stopped_step w n u =
 
 -- ---- install
 
+-- the node once it has installed an epoch: its members are that view's, nobody has reported, and what it gathered is dropped
 abbrev pub viewed : SystemState → ℕ → ℕ → Node
 viewed s n e = record (s.node n) { epoch = e; members = view s e; reported = []; gathers = dropped (s.node n).gathers }
 
@@ -216,6 +219,7 @@ kept_live true stopped live h = refl
 kept_live false true live h = absurd cc
 kept_live false false live h = absurd cc
 
+-- if a view of rising nodes is not refused, then adding it to the world is a new view
 pub new_view : (w : World) (set : List ℕ) → IsUsual w → IsRising set → view_refused w set ≡ None → NewView (system w) (system (record w { views = w.views ++ set ∷ []; book = counted w.book })) set
 unfolding view_refused system
 new_view w set u rising h =
@@ -251,6 +255,7 @@ view_or_not-step None w set u rising is =
 
 -- ---- each step
 
+-- if a step fits the configuration of a usual world, then it is a sequence of moves
 pub step_is_moves : (w : World) (s : Step) (txs : List TxDecl) → IsUsual w → StepFits w.config txs s → IsStep w (stepped w s)
 unfolding StepFits happens step_begin
 step_is_moves w (Begin k) txs u fits = begin_or_not-step (begin_refused w k) w k u

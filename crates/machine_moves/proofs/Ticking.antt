@@ -223,6 +223,7 @@ repeats_spoken n m =
     (Speaks-letters_of n m (repeat_done m) slots (λ i _. Speaks-tells n m (repeat_done m i) (done_again m i))))
     (Speaks-letters_of n m (repeat_leave m) objects (λ x _. Speaks-tells n m (repeat_leave m x) (leave_again m x)))
 
+-- in a steady system plain moves lead to what a tick makes of a node
 pub tick-answered : (s : SystemState) (n k : ℕ) → IsSteady s → Answered s n k (tick (s.node n))
 unfolding tick
 tick-answered s n k steady =

@@ -43,6 +43,7 @@ unfolding begin_free
 begin_free-answered None s n i k c ready = turns_reaches s n i k (Some c) ready
 begin_free-answered (Some other) s n i k c ready = cut_none s n (s.node n) k (still_reaches s n)
 
+-- in a steady system moves lead to what a begin makes of a node
 pub begin-answered : (s : SystemState) (n i id k : ℕ) (tx : List Op) → IsSteady s → Answered s n k (begin (s.node n) i id tx)
 unfolding begin
 begin-answered s n i id k tx steady =
@@ -61,6 +62,7 @@ ask_telling (Some d) m want [] l i = elim i [ ]
 ask_telling (Some d) m want (x ∷ xs) l (here _ _ e) = rw e (request d x want)
 ask_telling (Some d) m want (x ∷ xs) l (there _ _ i) = ask_telling (Some d) m want xs l i
 
+-- each request that a node sends for its objects is a letter that it may send without a change of its state
 pub requests_telling : (m : Node) (want : Want) (xs : List ℕ) (l : Letter) → In l (requests m want xs) → IsTellable m l
 requests_telling m want xs l i = ask_telling (driver m) m want xs l i
 
@@ -108,6 +110,7 @@ committed-length : (m : Node) (i : ℕ) (c : Current) (ran : Ran) (followers : L
 committed-length m i c ran followers writes =
     rw (committed-slot m i c ran followers writes) (omega (arith, length-append (slot m i).pending (new_pending c ran followers writes ∷ [])))
 
+-- each entry that a commit sends is a letter that the node may send once it has committed
 pub commit_telling : (m : Node) (i : ℕ) (c : Current) (ran : Ran) (replicas : List ℕ) (writes : List Write) (l : Letter) → In l (to_each m (meet (without m.me replicas) m.members) (RInv (invalidation m i (without m.me replicas) writes))) → IsTellable (committed m i c ran (without m.me replicas) writes) l
 commit_telling m i c ran replicas writes =
     let followers = without m.me replicas in

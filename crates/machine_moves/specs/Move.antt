@@ -104,6 +104,7 @@ pub record MayAccept (s : SystemState) (n x : ℕ) (p : Proposal) : Type 0 where
   pub greatest : greater_cause p.stamp (entry (s.node n) x).proposal ≡ None
   pub ready : is_source (s.node n) p.base_place ≡ true → unready_cause (s.node n) x ≡ None
 
+-- one move of the machine: a new view, or one node that changes and sends letters that it may send
 pub data Move (old new : SystemState) : Type 0 where
   makes_view : (set : List ℕ) → NewView old new set → Move old new
   stops : (n : ℕ) → Changes old new n (record (old.node n) { stopped = true }) nothing → Move old new

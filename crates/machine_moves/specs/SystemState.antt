@@ -9,6 +9,7 @@ use Rattle.zeus_model.specs.Tables.{nth}
 use Rattle.zeus_model.specs.State.{Node}
 use Rattle.zeus_model.specs.World.{World, node}
 
+-- the configuration, the views, the nodes by number, and all letters that were ever sent
 pub record SystemState : Type 0 where
   pub config : Config
   -- by epoch, from 1
@@ -27,9 +28,11 @@ all_of (xs ∷ xss) = xs ++ all_of xss
 unfoldable pub system : World → SystemState
 system w = record { config = w.config; views = w.views; node = node w; letters = all_of (all_of w.links) }
 
+-- the members of an epoch
 abbrev pub view : SystemState → ℕ → List ℕ
 view s e = nth [] s.views (e - 1)
 
+-- a node is not stopped
 abbrev pub IsLive : SystemState → ℕ → Type 0
 IsLive s n = (s.node n).stopped ≡ false
 
@@ -51,6 +54,7 @@ pub record Sends (old new : SystemState) (allowed : Letter → Type 0) : Type 0 
   pub stay : (l : Letter) → In l old.letters → In l new.letters
   pub only : (l : Letter) → In l new.letters → In l old.letters ⊎ allowed l
 
+-- no letter is allowed
 abbrev pub nothing : Letter → Type 0
 nothing l = ⊥
 

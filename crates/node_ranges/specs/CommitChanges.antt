@@ -142,6 +142,7 @@ KeepsRanges-raise limits n s d node within h =
 
 -- ---- entries that are stored
 
+-- the ranges of an entry that fits, field by field
 pub record InvParts (limits : Limits) (r : RInv) : Type 0 where
   pub node : r.stream.node < limits.nodes
   pub slot : r.stream.slot < limits.slots

@@ -70,6 +70,7 @@ KeepsRanges-holding limits n x p less fit k =
 
 -- ---- gathers
 
+-- a gather whose proposal and content fit the limits
 pub record FitsGathered (limits : Limits) (g : Gather) : Type 0 where
   pub proposal : proposal_fits limits g.proposal ≡ true
   pub content : content_fits limits g.content ≡ true

@@ -19,6 +19,7 @@ use Rattle.node_ranges.specs.NodeSets.{nodes_fit-has, nodes_fit-with_node, nodes
 
 -- ---- the parts of what fits
 
+-- the ranges of a placement that fits, field by field
 pub record PlaceParts (limits : Limits) (place : Place) : Type 0 where
   pub owner : place.owner < limits.nodes
   pub replicas : nodes_fit limits place.replicas ≡ true
@@ -59,6 +60,7 @@ pub object_fits-from : (limits : Limits) (x : ℕ) → x < limits.objects → ob
 unfolding object_fits
 object_fits-from limits x h = lt-ltb x limits.objects h
 
+-- the ranges of a proposal that fits, field by field
 pub record ProposalParts (limits : Limits) (p : Proposal) : Type 0 where
   pub stamp : stamp_fits limits p.stamp ≡ true
   pub requester : p.requester < limits.nodes

@@ -33,6 +33,7 @@ pub FitsSlot-empty : (limits : Limits) (me : ℕ) → FitsSlot limits me no_slot
 unfolding FitsCurrent
 FitsSlot-empty limits me = record { current = tt; few = omega arith; numbered = omega arith; pending = All-nil (FitsPending limits me) }
 
+-- a log without entries fits
 pub FitsLog-empty : (limits : Limits) → FitsLog limits no_log
 FitsLog-empty limits = record { few = omega arith; numbered = λ some. absurd (omega arith); kept = All-nil (FitsKept limits) }
 

@@ -18,15 +18,18 @@ set_changed d f xs i x h e = rw (nth_read d xs i x h e) (sym (put-set d xs i (f 
 pub IsTable-copies : (copies : List (Option Copy)) (holds : List (Option Hold)) (i : ℕ) (c : Option Copy) → IsTable record { copies = copies; holds = holds } → IsTable record { copies = set copies i c; holds = holds }
 IsTable-copies copies holds i c t = record { places = t.places ∙ sym (length-set _ _ _); counted = t.counted }
 
+-- if a hold counts from 1 to 16, then a table with it at one object is still a table
 pub IsTable-holds : (copies : List (Option Copy)) (holds : List (Option Hold)) (i : ℕ) (h : Option Hold) → IsCounted h → IsTable record { copies = copies; holds = holds } → IsTable record { copies = copies; holds = set holds i h }
 IsTable-holds copies holds i h counted t =
     record { places = length-set _ _ _ ∙ t.places; counted = All-set IsCounted holds i h counted t.counted }
 
+-- if a slot can hold an object, then the hold with one more counts from 1 to 16
 pub IsCounted-held : (s : ℕ) (h : Option Hold) → CanHold s h → IsCounted (Some (held s h))
 unfolding CanHold IsCounted held
 IsCounted-held s None can = (omega arith, omega arith)
 IsCounted-held s (Some h) can = (omega arith, omega (arith, can.1))
 
+-- if a hold counts from 1 to 16, then so does what is left of it when it is let go once
 pub IsCounted-unheld : (h : Option Hold) → IsCounted h → IsCounted (unheld h)
 unfolding IsCounted unheld
 IsCounted-unheld None counted = counted

@@ -70,6 +70,7 @@ unheld-changed holds (x ∷ xs) = unheld-changed (put None holds x (unheld (nth 
 pub held-other : (s : ℕ) (holds : List (Option Hold)) (xs : List ℕ) (x : ℕ) → mentions x xs ≡ false → nth None (each_held s holds xs) x ≡ nth None holds x
 held-other s holds xs x h = rw (held-changed s holds xs) (changed-other (λ o. Some (held s o)) holds xs x h)
 
+-- letting go of objects leaves the hold of each other object
 pub unheld-other : (holds : List (Option Hold)) (xs : List ℕ) (x : ℕ) → mentions x xs ≡ false → nth None (each_unheld holds xs) x ≡ nth None holds x
 unheld-other holds xs x h = rw (unheld-changed holds xs) (changed-other unheld holds xs x h)
 
@@ -77,6 +78,7 @@ unheld-other holds xs x h = rw (unheld-changed holds xs) (changed-other unheld h
 pub held-once : (s : ℕ) (holds : List (Option Hold)) (xs : List ℕ) (x : ℕ) → AreDistinct xs → mentions x xs ≡ true → nth None (each_held s holds xs) x ≡ Some (held s (nth None holds x))
 held-once s holds xs x d h = rw (held-changed s holds xs) (changed-once (λ o. Some (held s o)) holds xs x d h)
 
+-- letting go of distinct objects lets go of each of them once
 pub unheld-once : (holds : List (Option Hold)) (xs : List ℕ) (x : ℕ) → AreDistinct xs → mentions x xs ≡ true → nth None (each_unheld holds xs) x ≡ unheld (nth None holds x)
 unheld-once holds xs x d h = rw (unheld-changed holds xs) (changed-once unheld holds xs x d h)
 
@@ -85,6 +87,7 @@ pub positive-each_held : (s : ℕ) (holds : List (Option Hold)) (xs : List ℕ) 
 positive-each_held s holds xs all =
     rw (held-changed s holds xs) (changed-all (λ o. Some (held s o)) IsPositive (λ o _. positive-held s o) holds xs all)
 
+-- if each hold counts at least one, then so does each that is left after objects are let go
 pub positive-each_unheld : (holds : List (Option Hold)) (xs : List ℕ) → ((x : ℕ) → IsPositive (nth None holds x)) → (x : ℕ) → IsPositive (nth None (each_unheld holds xs) x)
 positive-each_unheld holds xs all =
     rw (unheld-changed holds xs) (changed-all unheld IsPositive positive-unheld holds xs all)
@@ -94,6 +97,7 @@ pub unheld-nil : (holds : List (Option Hold)) → each_unheld holds [] ≡ holds
 unfolding each_unheld
 unheld-nil holds = refl
 
+-- letting go of two lists of objects in turn is letting go of both in one
 pub unheld-append : (holds : List (Option Hold)) (xs ys : List ℕ) → each_unheld holds (xs ++ ys) ≡ each_unheld (each_unheld holds xs) ys
 unfolding each_unheld
 unheld-append holds [] ys = refl
@@ -132,9 +136,11 @@ unfolding naming
 naming-push x [] p = refl
 naming-push x (q ∷ qs) p = let rest = naming-push x qs p in omega arith
 
+-- if a new entry names the object, then one entry more names it
 pub naming-more : (x : ℕ) (ps : List Pending) (p : Pending) → mentions x p.named ≡ true → naming x (ps ++ p ∷ []) ≡ naming x ps + 1
 naming-more x ps p h = let push = rw h at (naming-push x ps p) in omega arith
 
+-- if a new entry does not name the object, then as many entries name it as before
 pub naming-same : (x : ℕ) (ps : List Pending) (p : Pending) → mentions x p.named ≡ false → naming x (ps ++ p ∷ []) ≡ naming x ps
 naming-same x ps p h = let push = rw h at (naming-push x ps p) in omega arith
 
@@ -155,6 +161,7 @@ named-beside s t holds y ps other counts = λ x here.
           rw at (counts x (rw at at here))
     ] refl
 
+-- if a slot holds objects, then what entries of another slot name covers that slot's holds as before
 pub named-others : (s t : ℕ) (xs : List ℕ) (holds : List (Option Hold)) (ps : List Pending) → t ≢ s → AreNamed t holds ps → AreNamed t (each_held s holds xs) ps
 unfolding each_held
 named-others s t [] holds ps other counts = counts

@@ -12,6 +12,7 @@ unfolding hold_slot held
 hold_slot-held s None = refl
 hold_slot-held s (Some h) = refl
 
+-- an object that is held once more is held one time more
 pub hold_count-held : (s : ℕ) (h : Option Hold) → hold_count (Some (held s h)) ≡ hold_count h + 1
 unfolding hold_count held
 hold_count-held s None = refl
@@ -49,6 +50,7 @@ unfolding IsPositive held
 positive-held s None = omega arith
 positive-held s (Some h) = omega arith
 
+-- if a hold counts at least one, then so does what is left of it when it is let go once
 pub positive-unheld : (h : Option Hold) → IsPositive h → IsPositive (unheld h)
 unfolding IsPositive unheld
 positive-unheld None p = tt

@@ -10,6 +10,7 @@ unfolding named_after
 distinct-named_after [] ks d = d
 distinct-named_after (op ∷ ops) ks d = distinct-named_after ops (mentioned ks (object_of op)) (distinct-mentioned (object_of op) ks d)
 
+-- operations name no object twice
 pub distinct-named : (ops : List Op) → AreDistinct (named ops)
 unfolding named AreDistinct
 distinct-named ops = distinct-named_after ops [] tt

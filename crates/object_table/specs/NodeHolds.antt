@@ -32,6 +32,7 @@ nth-all d zero i = refl
 nth-all d (suc n) zero = refl
 nth-all d (suc n) (suc i) = nth-all d n i
 
+-- at the start no slot holds an object, and none is named
 pub AreHeld-start : (c : Config) (me k : ℕ) → AreHeld (start_node c me) (replicate k None)
 unfolding start_node naming held_times IsPositive NameOnce
 AreHeld-start c me k =

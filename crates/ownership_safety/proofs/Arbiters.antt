@@ -137,11 +137,13 @@ source-stays place members fewer n rising subset member is =
 
 -- ---- the arbiters
 
+-- a directory node that is a member is an arbiter
 pub arbiters-directory : (place : Place) (members directory : List ℕ) (n : ℕ) → has n directory ≡ true → has n members ≡ true → has n (arbiters place members directory) ≡ true
 unfolding arbiters
 arbiters-directory place members directory n d m =
     with_optional-kept (source place members) (meet directory members) n (grind (arith, has-meet n directory members))
 
+-- the source is an arbiter
 pub arbiters-source : (place : Place) (members directory : List ℕ) (n : ℕ) → source place members ≡ Some n → has n (arbiters place members directory) ≡ true
 unfolding arbiters
 arbiters-source place members directory n is =
@@ -185,10 +187,12 @@ pub new_place-comes : (p : Proposal) → p.want ≢ Leave → has p.requester (n
 unfolding new_place
 new_place-comes p ne = changed-comes p.want p.requester p.base_place ne
 
+-- if the wish is to leave, then the requester is no replica of the new placement
 pub new_place-leaves : (p : Proposal) → p.want ≡ Leave → has p.requester (new_place p).replicas ≡ false
 unfolding new_place
 new_place-leaves p is = changed-leaves p.want p.requester p.base_place is
 
+-- if the base placement's owner is a replica and the wish is allowed, then the new placement's owner is a replica
 pub new_place-placed : (p : Proposal) → IsPlaced p.base_place → MayWant p.want p.requester p.base_place → IsPlaced (new_place p)
 unfolding new_place
 new_place-placed p placed may = changed-placed p.want p.requester p.base_place placed may

@@ -41,6 +41,7 @@ below_ne t s h same =
     let some : is_below s s ≡ true = rw (same) at h in
     absurd cc
 
+-- two stamps are equal, or they are not
 pub stamp_cases : (t s : Stamp) → (t ≡ s) ⊎ (t ≢ s)
 stamp_cases t s =
     elim (cases_Bool (is_below t s)) [

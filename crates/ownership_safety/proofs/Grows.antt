@@ -22,13 +22,16 @@ pub record Extends (chain longer : List Proposal) : Type 0 where
   pub at_least : length chain ≤ length longer
   pub same : (v : ℕ) → v < length chain → nth no_proposal longer v ≡ nth no_proposal chain v
 
+-- a chain extends itself
 pub Extends-refl : (chain : List Proposal) → Extends chain chain
 Extends-refl chain = record { at_least = le_refl (length chain); same = λ v h. refl }
 
+-- a chain with more proposals at the end extends the chain
 pub Extends-append : (chain more : List Proposal) → Extends chain (chain ++ more)
 Extends-append chain more =
     record { at_least = simp length-append (omega arith); same = λ v h. nth-append no_proposal chain more v h }
 
+-- if a second chain extends the first and a third the second, then the third extends the first
 pub Extends-trans : (a b c : List Proposal) → Extends a b → Extends b c → Extends a c
 Extends-trans a b c one two =
     let first = one.at_least in
@@ -36,11 +39,13 @@ Extends-trans a b c one two =
     record { at_least = omega arith; same = λ v h. two.same v (omega arith) ∙ one.same v h }
 
 module _ (chain longer : List Proposal) (extends : Extends chain longer) where
+  -- if a chain extends another, then it has the same stamps up to the other's length
   pub chain_stamp-longer : (v : ℕ) → v ≤ length chain → chain_stamp longer v ≡ chain_stamp chain v
   unfolding chain_stamp
   chain_stamp-longer zero h = refl
   chain_stamp-longer (suc v) h = ap (λ (p : Proposal). p.stamp) (extends.same v h)
 
+  -- if a chain extends another, then it has the same placements up to the other's length
   pub chain_place-longer : (declared : Place) (v : ℕ) → v ≤ length chain → chain_place declared longer v ≡ chain_place declared chain v
   unfolding chain_place
   chain_place-longer declared zero h = refl
@@ -48,28 +53,34 @@ module _ (chain longer : List Proposal) (extends : Extends chain longer) where
 
 -- ---- one node after another
 
+-- what holds of one node and of all others holds of every node
 pub each_node : (P : ℕ → Type 0) (n : ℕ) → P n → ((m : ℕ) → m ≢ n → P m) → (m : ℕ) → P m
 each_node P n here others m =
     elim (cases_eq m n) [ inl same ↦ subst P (sym same) here | inr other ↦ others m other ]
 
 module _ (old new : Object) (n : ℕ) (others : SameOthers old new n) where
+  -- if all nodes but one stay as they are, then each other has the rank that it had
   pub others-rank : (m : ℕ) → m ≢ n → rank new m ≡ rank old m
   others-rank m other = rw (others.entry m other) refl
 
+  -- if all nodes but one stay as they are and the rank of that one does not fall, then no rank falls
   pub rank-not_below : is_below (rank new n) (rank old n) ≡ false → (m : ℕ) → is_below (rank new m) (rank old m) ≡ false
   rank-not_below here =
       each_node (λ m. is_below (rank new m) (rank old m) ≡ false) n here
       (λ m other. rw (others-rank m other) (is_below-irrefl (rank old m)))
 
+  -- if all nodes but one stay as they are and the settled stamp of that one does not fall, then no settled stamp falls
   pub settled-not_below : is_below (new.entry n).stamp (old.entry n).stamp ≡ false → (m : ℕ) → is_below (new.entry m).stamp (old.entry m).stamp ≡ false
   settled-not_below here =
       each_node (λ m. is_below (new.entry m).stamp (old.entry m).stamp ≡ false) n here
       (λ m other. rw (others.entry m other) (is_below-irrefl (old.entry m).stamp))
 
+  -- if all nodes but one stay as they are and that one, if stopped, stays so, then each stopped node stays so
   pub stopped-kept : (old.stopped n ≡ true → new.stopped n ≡ true) → (m : ℕ) → old.stopped m ≡ true → new.stopped m ≡ true
   stopped-kept here =
       each_node (λ m. old.stopped m ≡ true → new.stopped m ≡ true) n here (λ m other h. others.stopped m other ∙ h)
 
+  -- if all nodes but one stay as they are and the epoch of that one does not fall, then no epoch falls
   pub epoch-kept : old.epoch n ≤ new.epoch n → (m : ℕ) → old.epoch m ≤ new.epoch m
   epoch-kept here =
       each_node (λ m. old.epoch m ≤ new.epoch m) n here (λ m other. let same = others.epoch m other in omega arith)
@@ -77,24 +88,31 @@ module _ (old new : Object) (n : ℕ) (others : SameOthers old new n) where
 -- ---- what goes on to hold
 
 module _ (old new : Object) (grows : Grows old new) where
+  -- a member of a view is still a member of it after a move
   pub member-grows : (e n : ℕ) → IsView old e → IsMember old e n → IsMember new e n
   member-grows e n v h = rw (grows.views e v) h
 
+  -- a member of an old view after a move was a member of it before
   pub member-back : (e n : ℕ) → IsView old e → IsMember new e n → IsMember old e n
   member-back e n v h = rw (← grows.views e v) h
 
+  -- the source in an old epoch is still the source there after a move
   pub source-grows : (e : ℕ) (place : Place) (n : ℕ) → IsView old e → IsSource old e place n → IsSource new e place n
   source-grows e place n v h = rw (grows.views e v) h
 
+  -- the source in an old epoch after a move was the source there before
   pub source-back : (e : ℕ) (place : Place) (n : ℕ) → IsView old e → IsSource new e place n → IsSource old e place n
   source-back e place n v h = rw (← grows.views e v) h
 
+  -- an arbiter in an old epoch is still an arbiter there after a move
   pub arbiter-grows : (e : ℕ) (place : Place) (n : ℕ) → IsView old e → IsArbiter old e place n → IsArbiter new e place n
   arbiter-grows e place n v h = rw (grows.views e v, grows.directory) h
 
+  -- an arbiter in an old epoch after a move was an arbiter there before
   pub arbiter-back : (e : ℕ) (place : Place) (n : ℕ) → IsView old e → IsArbiter new e place n → IsArbiter old e place n
   arbiter-back e place n v h = rw (← grows.views e v, ← grows.directory) h
 
+  -- what a node has acknowledged stays acknowledged after a move
   pub acked-grows : (n : ℕ) (p : Proposal) (e : ℕ) → HasAcked old n p e → HasAcked new n p e
   acked-grows n p e a = (a.0, a.1, grows.letters (Acknowledges n a.0 e p a.1) a.2)
 
@@ -102,6 +120,7 @@ module _ (old new : Object) (grows : Grows old new) where
   said-grows p e (inl i) = inl (i.0, i.1, grows.letters (Invalidates i.0 i.1 e p) i.2)
   said-grows p e (inr (n, a)) = inr (n, acked-grows n p e a)
 
+  -- a proposal that is chosen in an epoch stays chosen there after a move
   pub chosen-grows : (p : Proposal) (e : ℕ) → IsChosen old p e → IsChosen new p e
   chosen-grows p e c =
       record {
@@ -125,6 +144,7 @@ module _ (old new : Object) (grows : Grows old new) where
         ]
       ]
 
+  -- a stamp that is blocked in an old epoch stays blocked there after a move
   pub blocked-grows : (t : Stamp) (place : Place) (e : ℕ) → IsView old e → IsBlocked old t place e → IsBlocked new t place e
   unfolding IsBlocked
   blocked-grows t place e v (a, arbiter, (never, why)) = (
@@ -143,13 +163,16 @@ module _ (old new : Object) (grows : Grows old new) where
   )
 
   module _ (chain longer : List Proposal) (extends : Extends chain longer) where
+    -- if the chain is extended, then each decided version keeps its stamp
     pub stamp_at-grows : (v : ℕ) → v ≤ length chain → chain_stamp chain v ≡ chain_stamp longer v
     stamp_at-grows v h = sym (chain_stamp-longer chain longer extends v h)
 
+    -- if the chain is extended, then each decided version keeps its placement
     pub place_at-grows : (v : ℕ) → v ≤ length chain → place_at old chain v ≡ place_at new longer v
     place_at-grows v h =
         sym (chain_place-longer chain longer extends old.declared v h) ∙ ap (λ (d : Place). chain_place d longer v) (sym grows.declared)
 
+    -- a stamp and a placement that are decided stay decided after a move
     pub decided-grows : (t : Stamp) (place : Place) → IsDecided old chain t place → IsDecided new longer t place
     decided-grows t place is =
         record {
@@ -158,6 +181,7 @@ module _ (old new : Object) (grows : Grows old new) where
           place = is.place ∙ place_at-grows t.ver is.ver;
         }
 
+    -- what holds of a proposal that was said still holds after a move
     pub proposal-grows : (p : Proposal) → IsProposal old chain p → IsProposal new longer p
     proposal-grows p is =
         record {
@@ -170,6 +194,7 @@ module _ (old new : Object) (grows : Grows old new) where
           base_place = is.base_place ∙ place_at-grows p.base.ver is.decided;
         }
 
+    -- a link of the chain is still a link after a move
     pub link-grows : (v : ℕ) (p : Proposal) → v < length chain → IsLink old chain v p → IsLink new longer v p
     link-grows v p inside is =
         record {
@@ -185,6 +210,7 @@ module _ (old new : Object) (grows : Grows old new) where
           ];
         }
 
+  -- what holds of an acknowledgement still holds after a move
   pub ack-grows : (from to e : ℕ) (p : Proposal) (c : Option Content) → IsView old e → IsAck old from to e p c → IsAck new from to e p c
   ack-grows from to e p c v is =
       record {
@@ -196,6 +222,7 @@ module _ (old new : Object) (grows : Grows old new) where
 
 -- ---- one move after another
 
+-- an object that stays as it is rises: nothing of it falls or is taken back
 pub Rises-refl : (o : Object) → Rises o o
 Rises-refl o =
     record {

@@ -23,9 +23,11 @@ use Rattle.ownership_safety.proofs.KeepsViews.{nothing-only, quiet-node, entries
 
 -- ---- what holds after a live node acted in its epoch
 
+-- if a node acts, then each node stays in its epoch
 pub acts-epochs : (old new : Object) (n : ℕ) → Acts old new n → (m : ℕ) → new.epoch m ≡ old.epoch m
 acts-epochs old new n acts = each_node (λ m. new.epoch m ≡ old.epoch m) n acts.epoch acts.others.epoch
 
+-- if a node acts and nothing is taken back, then live nodes are still in all views, and letters come from members
 pub acts-viewed : (old new : Object) (n : ℕ) → Acts old new n → Grows old new → IsViewed old → IsViewed new
 acts-viewed old new n acts grows viewed =
     viewed-grows old new grows viewed acts.setting.views
@@ -63,6 +65,7 @@ module _ (old new : Object) (n : ℕ) (p : Proposal) (a : ℕ) (c : Option Conte
       (λ from to e q. nothing-only old new notes.sends (Invalidates from to e q))
       (λ from to e q d. nothing-only old new notes.sends (Acknowledges from to e q d))
 
+  -- a noted acknowledgement takes nothing back
   pub grows_Notes : Grows old new
   grows_Notes = quiet_Notes.grows
 
@@ -115,6 +118,7 @@ module _ (old new : Object) (n : ℕ) (p : Proposal) (a : ℕ) (c : Option Conte
               (λ d k. subst (λ (q : Proposal). (b : ℕ) × In (Acknowledges b n (old.epoch n) q (Some d)) old.letters) one (was.content d k)))
         ]
 
+    -- the invariant holds after an acknowledgement is noted
     pub keeps_Notes : OwnershipInvariant new chain
     keeps_Notes =
         let entries : (m : ℕ) → new.entry m ≡ old.entry m = each_node (λ m. new.entry m ≡ old.entry m) n notes.entry notes.acts.others.entry in
@@ -140,9 +144,11 @@ module _ (old new : Object) (n : ℕ) (tells : Tells old new n) where
       (λ from to e q m. elim (tells-letter (Invalidates from to e q) m) [ inl before ↦ before | inr now ↦ absurd cc ])
       (λ from to e q d m. elim (tells-letter (Acknowledges from to e q d) m) [ inl before ↦ before | inr now ↦ absurd cc ])
 
+  -- a told placement takes nothing back
   pub grows_Tells : Grows old new
   grows_Tells = quiet_Tells.grows
 
+  -- if the invariant holds, then also after a node has told its settled placement
   pub keeps_Tells : (chain : List Proposal) → OwnershipInvariant old chain → OwnershipInvariant new chain
   keeps_Tells chain ownership =
       let entries : (m : ℕ) → new.entry m ≡ old.entry m = each_node (λ m. new.entry m ≡ old.entry m) n tells.entry tells.acts.others.entry in

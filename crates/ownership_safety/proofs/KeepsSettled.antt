@@ -168,12 +168,14 @@ module _ (old new : Object) (chain : List Proposal) (ownership : OwnershipInvari
             ap (λ (y : Entry). y.stamp) (settles.acts.others.entry x other) ∙ ap (λ (y : ℕ). (old.entry y).stamp) same ∙ ownership.known.1) m refl,
       )
 
+  -- if a node settles a decided stamp, then nothing is taken back
   pub grows_Settles : (u : ℕ) → Settles old new chain n u → Grows old new
   grows_Settles zero settles = absurd (let first = settles.first in omega arith)
   grows_Settles (suc u) settles =
       let fixes = settles-fixes u settles in
       fixes-grows old new n (nth no_proposal chain u) fixes.0 fixes.1 chain ownership
 
+  -- if a node settles a decided stamp, then the invariant holds after it
   pub keeps_Settles : (u : ℕ) → Settles old new chain n u → OwnershipInvariant new chain
   keeps_Settles zero settles = absurd (let first = settles.first in omega arith)
   keeps_Settles (suc u) settles =
@@ -211,6 +213,7 @@ module _ (old new : Object) (chain : List Proposal) (ownership : OwnershipInvari
         sends = decides.sends;
       }
 
+  -- a decision takes nothing back
   pub grows_Decides : Grows old new
   grows_Decides = fixes-grows old new n g.proposal (old.epoch n) decides-fixes chain ownership
 
@@ -342,6 +345,7 @@ module _ (old new : Object) (chain : List Proposal) (ownership : OwnershipInvari
               (n, fixes-stamp old new n g.proposal (old.epoch n) decides-fixes chain ownership ∙ sym first-stamp ∙ ap (λ (v : ℕ). chain_stamp longer v) (sym first-length));
         }
 
+  -- a decision is of what is decided already, or the first of its version; the invariant holds after it
   pub keeps_Decides : IsAgain old new chain n g.proposal ⊎ IsFirst old new chain n g.proposal
   keeps_Decides =
       elim (chosen-chain old chain ownership g.proposal (old.epoch n) decides-chosen) [

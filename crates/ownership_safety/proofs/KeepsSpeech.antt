@@ -54,6 +54,7 @@ module _ (old new : Object) (n : ℕ) (p : Proposal) (drives : Drives old new n 
         sends = drives.sends;
       }
 
+  -- a driven request takes nothing back
   pub grows_Drives : Grows old new
   grows_Drives = says-grows old new n p says_Drives
 
@@ -103,6 +104,7 @@ module _ (old new : Object) (n : ℕ) (p : Proposal) (drives : Drives old new n 
         | inr both ↦ inr (rw (says-rank old new n p says_Drives) both.1)
       ])
 
+  -- the invariant holds after a node has driven a request
   pub keeps_Drives : OwnershipInvariant new chain
   keeps_Drives =
       speaks-ownership old new n p says_Drives chain ownership record {
@@ -136,9 +138,11 @@ module _ (old new : Object) (n : ℕ) (p : Proposal) (accepts : Accepts old new 
         sends = accepts.sends;
       }
 
+  -- an accepted proposal takes nothing back
   pub grows_Accepts : Grows old new
   grows_Accepts = says-grows old new n p says_Accepts
 
+  -- if the invariant holds, then also after a node has accepted a proposal
   pub keeps_Accepts : (chain : List Proposal) → OwnershipInvariant old chain → OwnershipInvariant new chain
   keeps_Accepts chain ownership =
       let base = settled-base old chain ownership n p accepts.acts.live accepts.said accepts.arbiter accepts.not_below_base accepts.below in
@@ -171,6 +175,7 @@ module _ (old new : Object) (n : ℕ) (p : Proposal) (redrives : Redrives old ne
         sends = redrives.sends;
       }
 
+  -- a proposal that is said again takes nothing back
   pub grows_Redrives : Grows old new
   grows_Redrives = says-grows old new n p says_Redrives
 
@@ -225,6 +230,7 @@ module _ (old new : Object) (n : ℕ) (p : Proposal) (redrives : Redrives old ne
               ]
         ]
 
+  -- if the invariant holds, then also after a node has said again what it holds
   pub keeps_Redrives : (chain : List Proposal) → OwnershipInvariant old chain → OwnershipInvariant new chain
   keeps_Redrives chain ownership =
       let held = ownership.held n p redrives.held in

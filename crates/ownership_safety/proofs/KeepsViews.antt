@@ -63,6 +63,7 @@ entries-ownership old new chain ownership quiet viewed same gathers told =
     (λ m. rw (same m) (decided-grows old new quiet.grows chain chain (Extends-refl chain) (old.entry m).stamp (old.entry m).place (ownership.settled m)))
     told
 
+-- if a move sends nothing and takes nothing back, then each placement that was told is decided after it
 pub told-kept : (old new : Object) (chain : List Proposal) → OwnershipInvariant old chain → Grows old new → Sends old new nothing → (t : Stamp) (place : Place) → In (Validates t place) new.letters → IsDecided new chain t place
 told-kept old new chain ownership grows sends t place m =
     decided-grows old new grows chain chain (Extends-refl chain) t place (ownership.told t place (nothing-only old new sends (Validates t place) m))
@@ -81,6 +82,7 @@ module _ (old new : Object) (set : List ℕ) (made : NewView old new set) where
       let last : suc (length old.views) - 1 ≡ length old.views = omega arith in
       rw (made.views, last) (nth-last [] old.views set)
 
+  -- a new view takes nothing back and sends nothing about a proposal
   pub quiet_NewView : Quiet old new
   quiet_NewView =
       record {
@@ -101,6 +103,7 @@ module _ (old new : Object) (set : List ℕ) (made : NewView old new set) where
         acks = λ from to e p c m. nothing-only old new made.sends (Acknowledges from to e p c) m;
       }
 
+  -- a new view takes nothing back
   pub grows_NewView : Grows old new
   grows_NewView = quiet_NewView.grows
 
@@ -144,6 +147,7 @@ module _ (old new : Object) (set : List ℕ) (made : NewView old new set) where
         acknowledgements = acknowledgements-viewed old new grows_NewView viewed;
       }
 
+  -- if the invariant holds, then also after a view is made
   pub keeps_NewView : (chain : List Proposal) → OwnershipInvariant old chain → OwnershipInvariant new chain
   keeps_NewView chain ownership =
       entries-ownership old new chain ownership quiet_NewView (viewed_NewView ownership.viewed) made.entry
@@ -153,6 +157,7 @@ module _ (old new : Object) (set : List ℕ) (made : NewView old new set) where
 -- ---- a node stops
 
 module _ (old new : Object) (n : ℕ) (stops : Stops old new n) where
+  -- a stop takes nothing back and sends nothing about a proposal
   pub quiet_Stops : Quiet old new
   quiet_Stops =
       quiet-node old new n stops.setting stops.others (λ h. stops.stopped) (let same = stops.epoch in omega arith)
@@ -160,9 +165,11 @@ module _ (old new : Object) (n : ℕ) (stops : Stops old new n) where
       (λ from to e p. nothing-only old new stops.sends (Invalidates from to e p))
       (λ from to e p c. nothing-only old new stops.sends (Acknowledges from to e p c))
 
+  -- a stop takes nothing back
   pub grows_Stops : Grows old new
   grows_Stops = quiet_Stops.grows
 
+  -- if the invariant holds, then also after a node stops
   pub keeps_Stops : (chain : List Proposal) → OwnershipInvariant old chain → OwnershipInvariant new chain
   keeps_Stops chain ownership =
       let entries : (m : ℕ) → new.entry m ≡ old.entry m = each_node (λ m. new.entry m ≡ old.entry m) n stops.entry stops.others.entry in
@@ -179,6 +186,7 @@ module _ (old new : Object) (n : ℕ) (stops : Stops old new n) where
 -- ---- a node goes on to a view
 
 module _ (old new : Object) (n e : ℕ) (installs : Installs old new n e) where
+  -- a node that goes on to a later view takes nothing back and sends nothing about a proposal
   pub quiet_Installs : Quiet old new
   quiet_Installs =
       quiet-node old new n installs.setting installs.others (λ h. installs.stopped ∙ h) (let same = installs.epoch in let later = installs.later in omega arith)
@@ -186,9 +194,11 @@ module _ (old new : Object) (n e : ℕ) (installs : Installs old new n e) where
       (λ from to f p. nothing-only old new installs.sends (Invalidates from to f p))
       (λ from to f p c. nothing-only old new installs.sends (Acknowledges from to f p c))
 
+  -- a node that goes on to a later view takes nothing back
   pub grows_Installs : Grows old new
   grows_Installs = quiet_Installs.grows
 
+  -- if the invariant holds, then also after a node goes on to a later view
   pub keeps_Installs : (chain : List Proposal) → OwnershipInvariant old chain → OwnershipInvariant new chain
   keeps_Installs chain ownership =
       let entries : (m : ℕ) → new.entry m ≡ old.entry m = each_node (λ m. new.entry m ≡ old.entry m) n installs.entry installs.others.entry in

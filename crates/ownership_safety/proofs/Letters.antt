@@ -14,6 +14,7 @@ use Rattle.ownership_safety.specs.Kept.{Grows}
 use Rattle.ownership_safety.proofs.Grows.{member-grows}
 
 module _ (old new : Object) (grows : Grows old new) where
+  -- a node that is live after a move was live before it
   pub live-back : (n : ℕ) → IsLive new n → IsLive old n
   live-back n live =
       elim (cases_Bool (old.stopped n)) [
@@ -31,6 +32,7 @@ module _ (old new : Object) (grows : Grows old new) where
   kept-viewed from e (v, low, member) =
       (grows.viewed e v, omega (arith, grows.epoch from), member-grows old new grows e from v member)
 
+  -- after a move each invalidation comes from a member of its epoch, which is not above the sender's
   pub invalidations-viewed : IsViewed old → (from to e : ℕ) (p : Proposal) → In (Invalidates from to e p) new.letters → IsView new e × (e ≤ new.epoch from) × IsMember new e from
   invalidations-viewed viewed from to e p m =
       elim (grows.invalidations from to e p m) [
@@ -38,6 +40,7 @@ module _ (old new : Object) (grows : Grows old new) where
         | inr now ↦ speaks-viewed viewed from e now.live now.epoch
       ]
 
+  -- after a move each acknowledgement comes from a member of its epoch, which is not above the sender's
   pub acknowledgements-viewed : IsViewed old → (from to e : ℕ) (p : Proposal) (c : Option Content) → In (Acknowledges from to e p c) new.letters → IsView new e × (e ≤ new.epoch from) × IsMember new e from
   acknowledgements-viewed viewed from to e p c m =
       elim (grows.acks from to e p c m) [
@@ -61,6 +64,7 @@ module _ (old new : Object) (grows : Grows old new) where
       }
 
   module _ (chain : List Proposal) (ownership : OwnershipInvariant old chain) where
+    -- after a move each node still has acknowledged in the order of stamps: the lower stamp in no later epoch
     pub ack_order-grows : (n : ℕ) (p q : Proposal) (e f : ℕ) → HasAcked new n p e → HasAcked new n q f → is_below q.stamp p.stamp ≡ true → f ≤ e
     ack_order-grows n p q e f (to, c, m) (tu, d, k) below =
         elim (grows.acks n to e p c m) [

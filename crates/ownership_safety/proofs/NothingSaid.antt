@@ -16,14 +16,17 @@ use Rattle.ownership_safety.specs.Kept.{Grows}
 use Rattle.ownership_safety.proofs.Grows.{Extends, arbiter-grows, acked-grows, proposal-grows, ack-grows, link-grows, blocked-grows}
 use Rattle.ownership_safety.proofs.Letters.{ack_order-grows}
 
+-- a move that takes nothing back and sends no invalidation and no acknowledgement
 pub record Quiet (old new : Object) : Type 0 where
   pub grows : Grows old new
   pub invalidations : (from to e : ℕ) (p : Proposal) → In (Invalidates from to e p) new.letters → In (Invalidates from to e p) old.letters
   pub acks : (from to e : ℕ) (p : Proposal) (c : Option Content) → In (Acknowledges from to e p c) new.letters → In (Acknowledges from to e p c) old.letters
 
+-- what a node has acknowledged after a quiet move it had acknowledged before
 pub acked-back : (old new : Object) → Quiet old new → (n : ℕ) (p : Proposal) (e : ℕ) → HasAcked new n p e → HasAcked old n p e
 acked-back old new quiet n p e a = (a.0, a.1, quiet.acks n a.0 e p a.1 a.2)
 
+-- what was said after a quiet move was said before
 pub said-back : (old new : Object) → Quiet old new → (p : Proposal) (e : ℕ) → IsSaid new p e → IsSaid old p e
 said-back old new quiet p e (inl i) = inl (i.0, i.1, quiet.invalidations i.0 i.1 e p i.2)
 said-back old new quiet p e (inr (n, a)) = inr (n, acked-back old new quiet n p e a)

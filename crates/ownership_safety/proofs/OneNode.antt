@@ -182,6 +182,7 @@ gathers_asked : all_acks.proposal ≡ asked
 unfolding gather_for
 gathers_asked = refl
 
+-- moves reach an object with one decided proposal
 pub one_decision : (o : Object) × (chain : List Proposal) × IsReached o chain × (length chain ≡ 1)
 unfolding gather_for
 one_decision = (

@@ -22,6 +22,7 @@ owner-source o e place n is member =
     let owner : has place.owner (view o e) ≡ true = rw is member in
     source-owner place (view o e) owner ∙ ap (λ (m : ℕ). Some m) is
 
+-- if the owner of a placement is a member, then it is an arbiter
 pub owner-arbiter : (o : Object) (e : ℕ) (place : Place) (n : ℕ) → place.owner ≡ n → IsMember o e n → IsArbiter o e place n
 owner-arbiter o e place n is member = arbiters-source place (view o e) o.directory n (owner-source o e place n is member)
 
@@ -145,6 +146,7 @@ module _ (o : Object) (chain : List Proposal) (ownership : OwnershipInvariant o 
       let not_below : is_below (o.entry n).stamp p.stamp ≡ false = rw rank_is at (ack-rank o chain ownership n p e acked) in
       not_below-ver (o.entry n).stamp p.stamp not_below
 
+  -- if a node holds no proposal, then each that it drove has a version not above its settled one
   pub free-driven : (n e : ℕ) (p : Proposal) → (o.entry n).proposal ≡ None → IsSaid o p e → p.stamp.driver ≡ n → p.stamp.ver ≤ (o.entry n).stamp.ver
   free-driven n e p free said driver =
       let rank_is : rank o n ≡ (o.entry n).stamp = entry_rank-none (o.entry n).stamp (o.entry n).proposal free in

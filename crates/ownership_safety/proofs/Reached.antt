@@ -21,6 +21,7 @@ first_ownership : (old new : Object) (chain : List Proposal) (n : ℕ) (p : Prop
 first_ownership old new chain n p last (inl again) = let inside = again.inside in absurd (omega arith)
 first_ownership old new chain n p last (inr first) = first.ownership
 
+-- if the invariant holds, then also after any move
 pub move-ownership : (old new : Object) (chain longer : List Proposal) → OwnershipInvariant old chain → IsMove old new chain longer → OwnershipInvariant new longer
 move-ownership old new chain longer ownership (makes_view set is) = keeps_NewView old new set is chain ownership
 move-ownership old new chain longer ownership (stops n is) = keeps_Stops old new n is chain ownership
@@ -36,6 +37,7 @@ move-ownership old new chain longer ownership (decides_again n g is inside) =
 move-ownership old new chain longer ownership (decides_first n g is last) =
     first_ownership old new chain n g.proposal last (keeps_Decides old new chain ownership n g is)
 
+-- if the invariant holds, then a move takes nothing back
 pub move-grows : (old new : Object) (chain longer : List Proposal) → OwnershipInvariant old chain → IsMove old new chain longer → Grows old new
 move-grows old new chain longer ownership (makes_view set is) = grows_NewView old new set is
 move-grows old new chain longer ownership (stops n is) = grows_Stops old new n is
@@ -49,11 +51,13 @@ move-grows old new chain longer ownership (tells n is) = grows_Tells old new n i
 move-grows old new chain longer ownership (decides_again n g is inside) = grows_Decides old new chain ownership n g is
 move-grows old new chain longer ownership (decides_first n g is last) = grows_Decides old new chain ownership n g is
 
+-- the invariant holds of every object that moves reach
 pub reached-ownership : (o : Object) (chain : List Proposal) → IsReached o chain → OwnershipInvariant o chain
 reached-ownership o chain (begins _ start) = start-ownership o start
 reached-ownership o chain (moves old _ before _ reached move) =
     move-ownership old o before chain (reached-ownership old before reached) move
 
+-- a move extends the chain, or leaves it
 pub move-extends : (old new : Object) (chain longer : List Proposal) → IsMove old new chain longer → Extends chain longer
 move-extends old new chain longer (decides_first n g is last) = Extends-append chain (g.proposal ∷ [])
 move-extends old new chain longer (makes_view set is) = Extends-refl chain
@@ -70,16 +74,19 @@ move-extends old new chain longer (decides_again n g is inside) = Extends-refl c
 -- ---- moves one after another
 
 module _ (old : Object) (chain : List Proposal) where
+  -- if the invariant holds, then also after a run of moves
   pub run-ownership : (new : Object) (longer : List Proposal) → OwnershipInvariant old chain → IsRun old chain new longer → OwnershipInvariant new longer
   run-ownership new longer ownership none = ownership
   run-ownership new longer ownership (further mid _ before _ run move) =
       move-ownership mid new before longer (run-ownership mid before ownership run) move
 
+  -- if the invariant holds, then in a run of moves views, letters and stops stay, and epochs, ranks and settled stamps do not fall
   pub run-rises : (new : Object) (longer : List Proposal) → OwnershipInvariant old chain → IsRun old chain new longer → Rises old new
   run-rises new longer ownership none = Rises-refl old
   run-rises new longer ownership (further mid _ before _ run move) =
       Rises-further old mid new (run-rises mid before ownership run) (move-grows mid new before longer (run-ownership mid before ownership run) move)
 
+  -- a run of moves extends the chain, or leaves it
   pub run-extends : (new : Object) (longer : List Proposal) → IsRun old chain new longer → Extends chain longer
   run-extends new longer none = Extends-refl chain
   run-extends new longer (further mid _ before _ run move) =
@@ -88,6 +95,7 @@ module _ (old : Object) (chain : List Proposal) where
   pub run-one : (new : Object) (longer : List Proposal) → IsMove old new chain longer → IsRun old chain new longer
   run-one new longer move = further old new chain longer none move
 
+  -- one run of moves and then another are a run
   pub run-append : (mid : Object) (before : List Proposal) → IsRun old chain mid before → (new : Object) (longer : List Proposal) → IsRun mid before new longer → IsRun old chain new longer
   run-append mid before one new longer none = one
   run-append mid before one new longer (further there _ so_far _ run move) =

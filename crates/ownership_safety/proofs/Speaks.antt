@@ -20,12 +20,14 @@ use Rattle.ownership_safety.proofs.NothingSaid.{blocks-kept, held-grows, gather-
 
 -- ---- the letters about a proposal
 
+-- the invalidation is the node's, in its epoch, of this proposal, and goes to an arbiter of the base
 pub record IsNewInvalidation (o : Object) (n : ℕ) (p : Proposal) (from to e : ℕ) (q : Proposal) : Type 0 where
   pub from_node : from ≡ n
   pub epoch : e ≡ o.epoch n
   pub proposal : q ≡ p
   pub arbiter : IsArbiter o (o.epoch n) p.base_place to
 
+-- the acknowledgement is the node's, in its epoch, of this proposal, and goes to the requester if that is a member
 pub record IsNewAcknowledgement (o : Object) (n : ℕ) (p : Proposal) (from to e : ℕ) (q : Proposal) (c : Option Content) : Type 0 where
   pub from_node : from ≡ n
   pub epoch : e ≡ o.epoch n
@@ -48,6 +50,7 @@ about-validation o n p t place (inr h) = elim h [ ]
 
 -- ---- a node says a proposal and holds it
 
+-- a live node holds a proposal not below its rank, keeps what it has settled, and sends letters about this proposal alone
 pub record Says (old new : Object) (n : ℕ) (p : Proposal) : Type 0 where
   pub acts : Acts old new n
   pub stamp : (new.entry n).stamp ≡ (old.entry n).stamp
@@ -71,9 +74,11 @@ pub record Speaks (old new : Object) (chain : List Proposal) (n : ℕ) (p : Prop
   pub blocks : (t : Stamp) (e : ℕ) → t.ver ≡ p.stamp.ver → t ≢ p.stamp → 1 ≤ e → IsLesser e t (old.epoch n) p.stamp → IsBlocked new t p.base_place e
 
 module _ (old new : Object) (n : ℕ) (p : Proposal) (says : Says old new n p) where
+  -- a node that says a proposal has its stamp as its rank
   pub says-rank : rank new n ≡ p.stamp
   says-rank = entry_rank-some (new.entry n).stamp (new.entry n).proposal p says.held
 
+  -- each invalidation after a node says a proposal was sent before, or is the node's own of this proposal
   pub says-invalidations : (from to e : ℕ) (q : Proposal) → In (Invalidates from to e q) new.letters → In (Invalidates from to e q) old.letters ⊎ IsNewInvalidation old n p from to e q
   says-invalidations from to e q m =
       elim (says.sends.only (Invalidates from to e q) m) [
@@ -81,6 +86,7 @@ module _ (old new : Object) (n : ℕ) (p : Proposal) (says : Says old new n p) w
         | inr now ↦ inr (about-invalidation old n p from to e q now)
       ]
 
+  -- each acknowledgement after a node says a proposal was sent before, or is the node's own of this proposal
   pub says-acks : (from to e : ℕ) (q : Proposal) (c : Option Content) → In (Acknowledges from to e q c) new.letters → In (Acknowledges from to e q c) old.letters ⊎ IsNewAcknowledgement old n p from to e q c
   says-acks from to e q c m =
       elim (says.sends.only (Acknowledges from to e q c) m) [

@@ -49,6 +49,7 @@ module _ (o : Object) (start : IsStart o) where
         acknowledgements = λ from to e p c m. absurd (start-silent _ m);
       }
 
+  -- the invariant holds of an object in the beginning, with nothing decided
   pub start-ownership : OwnershipInvariant o []
   start-ownership =
       record {

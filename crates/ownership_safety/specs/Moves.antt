@@ -32,6 +32,7 @@ pub record Sends (old new : Object) (allowed : Letter → Type 0) : Type 0 where
   pub kept : (l : Letter) → In l old.letters → In l new.letters
   pub only : (l : Letter) → In l new.letters → In l old.letters ⊎ allowed l
 
+-- no letter is allowed
 abbrev pub nothing : Letter → Type 0
 nothing l = ⊥
 
@@ -56,6 +57,7 @@ pub data IsAcknowledgement (o : Object) (n : ℕ) (p : Proposal) : Letter → Ty
   to_collector : (to : ℕ) (c : Option Content) → (IsMember o (o.epoch n) p.requester → to ≡ p.requester) → IsAsSource o n p c
       → IsAcknowledgement o n p (Acknowledges n to (o.epoch n) p c)
 
+-- the letter is the node's invalidation or acknowledgement of the proposal, in its epoch
 abbrev pub IsAboutProposal : Object → ℕ → Proposal → Letter → Type 0
 IsAboutProposal o n p l = IsInvalidation o n p l ⊎ IsAcknowledgement o n p l
 

@@ -19,6 +19,7 @@ pub data Letter : Type 0 where
   Acknowledges : (from to epoch : ℕ) → Proposal → Option Content → Letter
   Validates : Stamp → Place → Letter
 
+-- what each node knows of one object, the views, and all letters about it that were ever sent
 pub record Object : Type 0 where
   pub directory : List ℕ
   -- the placement that it was declared with
@@ -37,12 +38,15 @@ pub record Object : Type 0 where
 abbrev pub view : Object → ℕ → List ℕ
 view o e = nth [] o.views (e - 1)
 
+-- the epoch has a view
 abbrev pub IsView : Object → ℕ → Type 0
 IsView o e = (1 ≤ e) × (e ≤ length o.views)
 
+-- the node is not stopped
 abbrev pub IsLive : Object → ℕ → Type 0
 IsLive o n = o.stopped n ≡ false
 
+-- the node is a member of the epoch's view
 abbrev pub IsMember : Object → ℕ → ℕ → Type 0
 IsMember o e n = has n (view o e) ≡ true
 
@@ -54,6 +58,7 @@ IsSource o e place n = source place (view o e) ≡ Some n
 abbrev pub IsArbiter : Object → ℕ → Place → ℕ → Type 0
 IsArbiter o e place n = has n (arbiters place (view o e) o.directory) ≡ true
 
+-- an invalidation with the proposal was sent in the epoch
 abbrev pub HasInvalidated : Object → Proposal → ℕ → Type 0
 HasInvalidated o p e = (from : ℕ) × (to : ℕ) × In (Invalidates from to e p) o.letters
 
@@ -78,6 +83,7 @@ unfoldable pub entry_rank : Stamp → Option Proposal → Stamp
 entry_rank settled None = settled
 entry_rank settled (Some p) = p.stamp
 
+-- the rank of a node: the stamp of the proposal that it holds, else its settled stamp
 abbrev pub rank : Object → ℕ → Stamp
 rank o n = entry_rank (o.entry n).stamp (o.entry n).proposal
 
@@ -99,15 +105,19 @@ abbrev pub IsBlocker : Object → Stamp → ℕ → ℕ → Type 0
 IsBlocker o t e a =
     (HasAckedStamp o a t e → ⊥) × ((o.stopped a ≡ true) ⊎ ((e < o.epoch a) ⊎ (is_below t (rank o a) ≡ true)))
 
+-- some arbiter of the placement in the epoch blocks the stamp there
 unfoldable pub IsBlocked : Object → Stamp → Place → ℕ → Type 0
 IsBlocked o t place e = (a : ℕ) × IsArbiter o e place a × IsBlocker o t e a
 
+-- the placement that stands for none
 abbrev pub no_place : Place
 no_place = record { owner = 0; replicas = [] }
 
+-- the stamp of the declared placement
 abbrev pub first_stamp : Stamp
 first_stamp = record { ver = 0; driver = 0 }
 
+-- the proposal that stands for none
 abbrev pub no_proposal : Proposal
 no_proposal = record { stamp = first_stamp; requester = 0; base = first_stamp; base_place = no_place; want = Own }
 
@@ -116,10 +126,12 @@ unfoldable pub chain_stamp : List Proposal → ℕ → Stamp
 chain_stamp chain zero = first_stamp
 chain_stamp chain (suc v) = (nth no_proposal chain v).stamp
 
+-- the placements of the chain by version, from the declared one on
 unfoldable pub chain_place : Place → List Proposal → ℕ → Place
 chain_place declared chain zero = declared
 chain_place declared chain (suc v) = new_place (nth no_proposal chain v)
 
+-- the placement of a version: the declared one, or the one that the chain's proposal made
 abbrev pub place_at : Object → List Proposal → ℕ → Place
 place_at o chain v = chain_place o.declared chain v
 

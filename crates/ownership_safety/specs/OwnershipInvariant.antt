@@ -80,6 +80,7 @@ pub record IsDecided (o : Object) (chain : List Proposal) (t : Stamp) (there : P
 abbrev pub IsLesser : ℕ → Stamp → ℕ → Stamp → Type 0
 IsLesser e t e1 s = (e < e1) ⊎ ((e ≡ e1) × (is_below t s ≡ true))
 
+-- what holds of an object and the chain of its decided proposals, after each move
 pub record OwnershipInvariant (o : Object) (chain : List Proposal) : Type 0 where
   pub viewed : IsViewed o
   pub declared : IsPlaced o.declared

@@ -21,6 +21,7 @@ pub data IsMove (old new : Object) (chain : List Proposal) : List Proposal → T
   decides_again : (n : ℕ) (g : Gather) → Decides old new n g → g.proposal.base.ver < length chain → IsMove old new chain chain
   decides_first : (n : ℕ) (g : Gather) → Decides old new n g → g.proposal.base.ver ≡ length chain → IsMove old new chain (chain ++ g.proposal ∷ [])
 
+-- moves lead from a start to the object, and the chain has what they decided on the way
 pub data IsReached : Object → List Proposal → Type 0 where
   begins : (o : Object) → IsStart o → IsReached o []
   moves : (old new : Object) (chain longer : List Proposal) → IsReached old chain → IsMove old new chain longer → IsReached new longer

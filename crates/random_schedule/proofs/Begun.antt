@@ -55,6 +55,7 @@ first_found b txs i k s h here new =
     let f : first_new b (k ∷ drop (i + 1) txs) ≡ Some k = rw new refl in
     sym f ∙ (sym (ap (first_new b) e) ∙ front)
 
+-- if all transactions of a list are begun, then there is no next one to begin
 pub all_begun : (b : Book) (txs : List ℕ) → AreBegun b txs (length txs) → None ≡ first_new b txs
 unfolding first_new
 all_begun b txs s =
@@ -73,9 +74,11 @@ queue_slot w queues i q s h here =
 pub queue_is : (w : World) (queues : List Queue) (i : ℕ) (q : Queue) → AreQueues w queues → i < length queues → q ≡ get_or queues i q → IsQueue w.txs q
 queue_is w queues i q s h here = all_at (IsQueue w.txs) queues i q s.each h here
 
+-- if of each queue so many transactions are begun, then so many are of the queue at an index
 pub queue_begun : (b : Book) (queues : List Queue) (begun : List ℕ) (i : ℕ) (q : Queue) → AreAllBegun b queues begun → i < length queues → q ≡ get_or queues i q → AreBegun b q.txs.items (get_or begun i 0)
 queue_begun b queues begun i q s h here = subst (λ (m : ℕ). AreBegun b q.txs.items m) (Rattle.zeus_base.specs.TableLaws.nth-get_or 0 begun i) (s.each i q (got queues i q h here))
 
+-- if of one queue another number is begun, then of each queue so many are begun with that number set
 pub begun_set : (b : Book) (queues : List Queue) (begun : List ℕ) (i n : ℕ) (q : Queue) → AreAllBegun b queues begun → i < length queues → q ≡ get_or queues i q → AreBegun b q.txs.items n → AreAllBegun b queues (set begun i n)
 begun_set b queues begun i n q s h here new =
     let count = s.count in
@@ -150,6 +153,7 @@ ready_done w queues i out whole h kept = all_done (λ (ps : List Queue). filter_
 
 -- ---- the making of the queues
 
+-- with the queue of the slot at an index added, the slots of the queues and those behind the index are all slots
 pub slots_more : (queues after : List Queue) (q : Queue) (slots : List Stream) (i : ℕ) (s : Stream) → i < length slots → s ≡ get_or slots i s → map (λ (p : Queue). p.slot) queues ++ drop i slots ≡ slots
     → q.slot ≡ s → after ≡ queues ++ q ∷ [] → map (λ (p : Queue). p.slot) after ++ drop (i + 1) slots ≡ slots
 slots_more queues after q slots i s h here kept same added =

@@ -18,9 +18,11 @@ use Rattle.random_schedule.specs.declared.fresh.FreshPacket.{FreshPacket}
 pub got : {A : Type 0} (xs : List A) (i : ℕ) (x : A) → i < length xs → x ≡ get_or xs i x → slice_get xs i ≡ Some x
 got xs i x h here = slice_get-get_or xs i x h ∙ ap Some (sym here)
 
+-- what holds of each element holds of the one that is read at an index within the list
 pub all_at : {A : Type 0} (P : A → Type 0) (xs : List A) (i : ℕ) (x : A) → All P xs → i < length xs → x ≡ get_or xs i x → P x
 all_at P xs i x all h here = subst P (sym here) (all i x h)
 
+-- what holds of each element holds of the one that a look by index gives
 pub all_got : {A : Type 0} (P : A → Type 0) (xs : List A) (i : ℕ) (x : A) → All P xs → slice_get xs i ≡ Some x → P x
 all_got P xs i x all is =
     let within = slice_get_within xs i x is in
@@ -43,9 +45,11 @@ rows_all P f k (suc n) b c h each =
     (row_all P (f k) 0 c c (omega arith) (λ j less. each k j (omega arith) less))
     (rows_all P f (suc k) n b c (omega arith) each)
 
+-- all slots of a configuration are slots of it
 pub streams_slots : (c : Config) → AreSlots c (streams c)
 streams_slots c = rows_all (IsSlot c) stream 0 c.nodes c.nodes c.slots (omega arith) (λ i j h g. record { node = h; slot = g })
 
+-- the packets that a schedule begins with are of links of the configuration
 pub start_links : (c : Config) → AreLinks c (pairs first_packet (below c.nodes) (below c.nodes))
 start_links c = rows_all (IsLink c) first_packet 0 c.nodes c.nodes c.nodes (omega arith) (λ i j h g. record { from = h; to = g })
 
@@ -54,6 +58,7 @@ behind_link : (c : Config) (p q : FreshPacket) → IsLink c p → IsLink c q →
 unfolding behind
 behind_link c p q h g = cond_both (same_link p q) (record p { number = p.number + 1 }) q (IsLink c) (λ _. record { from = h.from; to = h.to }) (λ _. g)
 
+-- if all links are of the configuration, then so they are once a packet of one is used
 pub used_links : (c : Config) (p : FreshPacket) (links : List FreshPacket) → IsLink c p → AreLinks c links → AreLinks c (map (behind p) links)
 used_links c p links h all = All-map (IsLink c) (behind p) links (All-weaker (IsLink c) (λ q. IsLink c (behind p q)) (λ q g. behind_link c p q h g) links all)
 
@@ -67,11 +72,13 @@ if_got P xs i (Some x) is all = all_got P xs i x all is
 pub chosen_all : {A : Type 0} (P : A → Type 0) (u : ℕ) (xs : List A) → All P xs → IfSome (chosen u xs) P
 chosen_all P u xs all = if_got P xs (u % length xs) (chosen u xs) refl all
 
+-- a slot that is chosen among some of the configuration's is one of the configuration
 pub trying_slots : (c : Config) (p : Stream → Bool) (u : ℕ) (slots : List Stream) → slots ≡ streams c → IfSome (chosen u (filter p slots)) (IsSlot c)
 trying_slots c p u slots is =
     let all : AreSlots c slots = rw is (streams_slots c) in
     chosen_all (IsSlot c) u (filter p slots) (All-filter p (IsSlot c) slots all)
 
+-- a link that is chosen among some of the configuration's is one of the configuration
 pub chosen_links : (c : Config) (p : FreshPacket → Bool) (u : ℕ) (links : List FreshPacket) → AreLinks c links → IfSome (chosen u (filter p links)) (IsLink c)
 chosen_links c p u links all = chosen_all (IsLink c) u (filter p links) (All-filter p (IsLink c) links all)
 
@@ -93,6 +100,7 @@ chosen_some w u links =
     (λ p h. ltb-true 0 (count_sent w p) (and_parts (is_live w p.to) (nat_lt 0 (count_sent w p)) h).1)
     (filter (can_repeat w) links) (filter_passes (can_repeat w) links))
 
+-- if all links are of the configuration, then so they are once the chosen packet, if any, is used
 pub used_at_links : (c : Config) (links : List FreshPacket) (o : Option FreshPacket) → IfSome o (IsLink c) → AreLinks c links → AreLinks c (used_at links o)
 unfolding used_at
 used_at_links c links None h all = all

@@ -20,6 +20,7 @@ pub record Grows (r q : TxRecord) : Type 0 where
   pub acked : is_some r.acked ≡ true → is_some q.acked ≡ true
   pub refused : r.refused ≡ true → q.refused ≡ true
 
+-- what the records say of transactions stays
 pub record BookGrows (b c : Book) : Type 0 where
   pub records : (id : ℕ) → Grows (record_of b id) (record_of c id)
 
@@ -29,9 +30,11 @@ grows-same r = record { begun = λ h. h; acked = λ h. h; refused = λ h. h }
 grows-on : (r s q : TxRecord) → Grows r s → Grows s q → Grows r q
 grows-on r s q g h = record { begun = λ e. h.begun (g.begun e); acked = λ e. h.acked (g.acked e); refused = λ e. h.refused (g.refused e) }
 
+-- a book grows if it stays as it is
 pub book-same : (b : Book) → BookGrows b b
 book-same b = record { records = λ id. grows-same (record_of b id) }
 
+-- if a book grows twice in a row, then it grows over both
 pub book-on : (b c d : Book) → BookGrows b c → BookGrows c d → BookGrows b d
 book-on b c d g h = record { records = λ id. grows-on (record_of b id) (record_of c id) (record_of d id) (g.records id) (h.records id) }
 
@@ -67,6 +70,7 @@ read-grows b id reply =
     book-on b replied (book_ack pointed id) (reply-grows b id reply)
     (book-on replied pointed (book_ack pointed id) (point-grows replied id) (ack-grows pointed id))
 
+-- a begin makes the book grow
 pub begun-grows : (o : BeginOutcome) (b : Book) (id : ℕ) → BookGrows b (book_begun b id o).book
 unfolding book_begun
 begun-grows Begun b id = begin-grows b id
@@ -102,6 +106,7 @@ pass_numbers-grows [] own s b = book-same b
 pass_numbers-grows (k ∷ ks) own s b =
     then-grows b (pass_tx b own (tx_of b s k)) (λ c. pass_numbers c own s ks) (pass_tx-grows (tx_of b s k) own b) (pass_numbers-grows ks own s)
 
+-- passes make the book grow
 pub passes-grow : (ps : List Passed) (me : ℕ) (b : Book) → BookGrows b (book_passes b me ps).book
 unfolding book_passes
 passes-grow [] me b = book-same b
@@ -122,5 +127,6 @@ tried-grows (Read id reply) s degree b = read-grows b id reply
 tried-grows (NoCopy id x) s degree b = refused-grows (is_none degree) b id
 tried-grows _ s degree b = book-same b
 
+-- a try and the passes behind it make the book grow
 pub try-grows : (a : Tried) (s : Stream) (degree : Option ℕ) (n : ℕ) (passed : List Passed) (b : Book) → BookGrows b (change_then (book_tried b s degree a) (λ c. book_passes c n passed)).book
 try-grows a s degree n passed b = then-grows b (book_tried b s degree a) (λ c. book_passes c n passed) (tried-grows a s degree b) (passes-grow passed n)

@@ -31,12 +31,14 @@ last_is (v ∷ vs) h =
 view_below : (w : World) (i : ℕ) → IsRanged w → IsBelow w.config.nodes (nth [] w.views i)
 view_below w i r = λ k h. nodes_fit-has (limits_of w.config) (nth [] w.views i) k (r.members i) h
 
+-- if there is a view and its running members rise, then a view of them is a step that fits
 pub left_fits : (w : World) → IsRanged w → 0 < length w.views → IsRising (members_left w) → FitsStep w.config (length w.txs) (View (members_left w))
 unfolding FitsStep
 left_fits w r some rises =
     let last : IsBelow w.config.nodes (last_view w.views) = rw (← last_is w.views some) (view_below w (length w.views - 1) r) in
     (rises, live_among-below w w.config.nodes (last_view w.views) last)
 
+-- the live nodes are below the configuration's number of nodes
 pub live_below : (w : World) → IsBelow w.config.nodes (live_nodes w)
 live_below w = live_among-below w w.config.nodes (below w.config.nodes) (below-bound w.config.nodes)
 
@@ -51,20 +53,25 @@ tick_counts w u stops = tick_quiet (chosen u (live_nodes w)) stops
 
 -- ---- the nodes that are behind
 
+-- if all nodes of a list are below a bound, then its head is
 pub first_below : (b n : ℕ) (ns : List ℕ) → IsBelow b (n ∷ ns) → n < b
 first_below b n ns h = h n (has-head n ns)
 
+-- if all nodes of a list are below a bound, then those behind its head are
 pub rest_below : (b n : ℕ) (ns : List ℕ) → IsBelow b (n ∷ ns) → IsBelow b ns
 rest_below b n ns h = λ k is. h k (has-tail k n ns is)
 
+-- if the head node's epoch is older than the last view's, then it is the least that is behind
 pub is_behind : (w : World) (n : ℕ) (ns : List ℕ) → (node w n).epoch < length w.views → Some n ≡ first_of (if_behind w) (n ∷ ns)
 unfolding first_of if_behind or_else where_true
 is_behind w n ns h = let test = Rattle.std.proofs.lemmas.Bool.lt-ltb (node w n).epoch (length w.views) h in rw test refl
 
+-- if the head node's epoch is the last view's, then the least that is behind is among those after it
 pub not_behind : (w : World) (n : ℕ) (ns : List ℕ) → length w.views ≤ (node w n).epoch → first_of (if_behind w) ns ≡ first_of (if_behind w) (n ∷ ns)
 unfolding first_of if_behind or_else where_true
 not_behind w n ns h = let test = Rattle.std.proofs.lemmas.Bool.le-ltb (node w n).epoch (length w.views) h in rw test refl
 
+-- in an empty list none is behind
 pub none_behind : (w : World) → None ≡ first_of (if_behind w) []
 unfolding first_of
 none_behind w = refl

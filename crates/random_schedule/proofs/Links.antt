@@ -16,6 +16,7 @@ has_slots w s r h =
     let z = k.sizes in
     rw z.slots h.slot
 
+-- a slot has the number of a current transaction exactly if it has the transaction
 pub current_is : (o : Option Current) → is_some (option_map (λ (c : Current). c.id) o) ≡ is_some o
 current_is None = refl
 current_is (Some c) = refl

@@ -10,6 +10,7 @@ use Rattle.zeus_model.specs.Tables.{below, numbers_from}
 use Rattle.zeus_model.specs.World.{World}
 use Rattle.random_schedule.specs.Choices.{chosen, live_nodes}
 
+-- a running node of a set is a member that is live
 pub live_among-has : (w : World) (k : ℕ) (ms : List ℕ) → has k (live_among w ms) ≡ (has k ms && is_live w k)
 unfolding has live_among
 live_among-has w k [] = refl
@@ -22,9 +23,11 @@ live_among-rises w b (m ∷ ms) r =
     let kept = live_among-rises w (suc m) ms r.1 in
     cond_both (is_live w m) (m ∷ live_among w ms) (live_among w ms) (RisesFrom b) (λ _. (r.0, kept)) (λ _. RisesFrom-lower b (suc m) (live_among w ms) (omega (arith, r.0)) kept)
 
+-- if a set rises, then so do its running nodes
 pub live_among-rising : (w : World) (ms : List ℕ) → IsRising ms → IsRising (live_among w ms)
 live_among-rising w ms r = live_among-rises w 0 ms r
 
+-- if the nodes of a set are below a bound, then so are its running ones
 pub live_among-below : (w : World) (b : ℕ) (ms : List ℕ) → IsBelow b ms → IsBelow b (live_among w ms)
 live_among-below w b ms h = λ k here.
     let split = live_among-has w k ms in
@@ -39,6 +42,7 @@ pub record IsLeft (w : World) (all left running : List ℕ) : Type 0 where
   pub rising : IsRising running
   pub members : (k : ℕ) → has k running ≡ (has k all && (has k left || is_live w k))
 
+-- at the beginning all nodes of the set are left to look at, and all count as running
 pub all_left : (w : World) (ms : List ℕ) → IsRising ms → IsLeft w ms ms ms
 all_left w ms r = record {
   rises = (0, r);
@@ -53,6 +57,7 @@ unfolding has numbers_from
 numbers-below i zero k h = absurd cc
 numbers-below i (suc n) k h = grind (arith, nat_tests, numbers-below (suc i) n k)
 
+-- the numbers below n are below n
 pub below-bound : (n : ℕ) → IsBelow n (below n)
 below-bound n = λ k h. let less = numbers-below 0 n k h in omega arith
 
@@ -68,6 +73,7 @@ chosen_live w u n h = live_among-below w w.config.nodes (below w.config.nodes) (
 
 -- ---- a node of those that are left
 
+-- if the head node that is left is live, then it stays among the running ones
 pub still_running : (w : World) (all running rest : List ℕ) (n : ℕ) → IsLeft w all (n ∷ rest) running → is_live w n ≡ true → IsLeft w all rest running
 unfolding has RisesFrom
 still_running w all running rest n h live = record {
@@ -76,6 +82,7 @@ still_running w all running rest n h live = record {
   members = λ k. grind (arith, nat_tests, h.members k, live);
 }
 
+-- if the head node that is left is not live, then it is taken out of the running ones
 pub runs_no_more : (w : World) (all running rest : List ℕ) (n : ℕ) → IsLeft w all (n ∷ rest) running → is_live w n ≡ false → IsLeft w all rest (without n running)
 unfolding has RisesFrom
 runs_no_more w all running rest n h dead =
@@ -86,6 +93,7 @@ runs_no_more w all running rest n h dead =
       members = λ k. grind (arith, nat_tests, has-without k n running, h.members k, none, dead);
     }
 
+-- once no node is left to look at, the running ones are the live ones of the set
 pub none_left : (w : World) (all running : List ℕ) → IsRising all → IsLeft w all [] running → running ≡ live_among w all
 unfolding has
 none_left w all running r h =
@@ -104,6 +112,7 @@ looked_at w all running after left rest n h next is =
 
 -- ---- the node at a place
 
+-- if no element is to be passed over, then the one looked for is the head
 pub found_here : (ms rest : List ℕ) (n left : ℕ) (whole : Option ℕ) → slice_get ms left ≡ whole → ms ≡ n ∷ rest → left ≡ 0 → Some n ≡ whole
 found_here ms rest n left whole kept is none =
     let here : slice_get (n ∷ rest) 0 ≡ Some n = refl in

@@ -31,6 +31,7 @@ pub not_closed : (w : World) (k n : ℕ) → k < n → is_closed w k ≡ false �
 unfolding each_closed
 not_closed w k n h c = rw (numbers-next k n h, c) refl
 
+-- past the last transaction all that are left are closed
 pub none_left : (w : World) (k n : ℕ) → n ≤ k → each_closed w (numbers_from k (n - k)) ≡ true
 unfolding each_closed numbers_from
 none_left w k n h = let s : n - k ≡ 0 = omega arith in rw s refl

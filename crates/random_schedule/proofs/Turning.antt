@@ -45,12 +45,14 @@ settled_on w v k g h =
     let here : (node v (tx_decl v k).node).stopped ≡ (node v (tx_decl w k).node).stopped = ap (λ (t : TxDecl). (node v t.node).stopped) same in
     grind (arith, r.acked, r.refused, stopped, here)
 
+-- if a world grows, then the transactions that are settled stay so
 pub are_settled_on : (w v : World) (n : ℕ) → WorldGrows w v → AreSettled w n → AreSettled v n
 are_settled_on w v n g s = record {
   within = rw (ap length g.txs) s.within;
   each = λ k h. settled_on w v k g (s.each k h);
 }
 
+-- if a world grows, then what a chooser keeps is still that of the world
 pub keeps_on : (w v : World) (c : Chooser) → WorldGrows w v → KeepsUp w c → KeepsUp v c
 keeps_on w v c g s =
     let q = s.queues in
@@ -64,6 +66,7 @@ keeps_on w v c g s =
 
 -- ---- a schedule under way
 
+-- the world of a schedule that is under way is reached
 pub is_reached : (s : Scheduler) → IsUnderWay s → IsReached s.world
 is_reached s h =
     record {
@@ -89,6 +92,7 @@ same_run c d txs others ss ts config same steps =
     ap (λ (l : List Step). run (start c txs) l) (sym steps)
     ∙ (ap (λ (x : Config). run (start x txs) ts) (sym config) ∙ ap (λ (x : List TxDecl). run (start d x) ts) (sym same))
 
+-- if a schedule under way takes one more step that fits, then it is under way still
 pub goes_on : (s t : Scheduler) (step : Step) → IsUnderWay s → t.world ≡ stepped s.world step → t.steps.items ≡ s.steps.items ++ step ∷ [] → FitsStep s.world.config (length s.world.txs) step
     → KeepsUp s.world t.chooser → t.settled ≡ s.settled → IsUnderWay t
 goes_on s t step h world steps fits keeps settled =
@@ -103,6 +107,7 @@ goes_on s t step h world steps fits keeps settled =
       settled = rw settled (are_settled_on s.world t.world s.settled g h.settled);
     }
 
+-- a step leaves the configuration and the transactions
 pub same_script : (s t : Scheduler) (step : Step) → t.world ≡ stepped s.world step → IsOfSame s t
 same_script s t step world =
     let g : WorldGrows s.world t.world = rw world (step-grows s.world step) in
@@ -110,17 +115,20 @@ same_script s t step world =
 
 -- ---- the run of turns
 
+-- if all transactions are closed, then the schedule has ended
 pub over : (f : Faults) (n : ℕ) (s : Schedule) (words : Lcg) → all_closed s.world ≡ true → scheduled f n s words ≡ (s, words)
 unfolding scheduled
 over f zero s words h = refl
 over f (suc n) s words h = rw h refl
 
+-- if turns are left and a transaction is open, then the schedule goes on from the turn of the next word
 pub turn_on : (f : Faults) (n i : ℕ) (s : Schedule) (words : Lcg) → i < n → all_closed s.world ≡ false → scheduled f (n - (i + 1)) (turned f s (next_word words).0) (next_word words).1 ≡ scheduled f (n - i) s words
 unfolding scheduled
 turn_on f n i s words less h =
     let m : n - i ≡ suc (n - (i + 1)) = omega arith in
     rw (m, h) refl
 
+-- if no turns are left, then the schedule has ended
 pub no_turn : (f : Faults) (n i : ℕ) (s : Schedule) (words : Lcg) → n ≤ i → (s, words) ≡ scheduled f (n - i) s words
 unfolding scheduled
 no_turn f n i s words h = let m : n - i ≡ 0 = omega arith in rw m refl
@@ -140,6 +148,7 @@ few_steps f (suc n) s words = elim (cases_Bool (all_closed s.world)) [
 
 -- ---- the start
 
+-- a scheduler at the start of a run, with no step taken, is under way
 pub started : (s : Scheduler) (c : Config) (txs : List TxDecl) → KeepsLimits c → FitsTxs c txs → s.world ≡ start c txs → s.steps.items ≡ [] → KeepsUp (start c txs) s.chooser → s.settled ≡ 0 → IsUnderWay s
 unfolding start run
 started s c txs limits fits world steps keeps settled =
@@ -158,12 +167,15 @@ started s c txs limits fits world steps keeps settled =
 
 -- ---- what a run of turns leaves
 
+-- two schedulers with one schedule have the same configuration and transactions
 pub same_schedule : (s t : Scheduler) → schedule_of t ≡ schedule_of s → IsOfSame s t
 same_schedule s t same = record { config = ap (λ (x : Schedule). x.world.config) same; txs = ap (λ (x : Schedule). x.world.txs) same }
 
+-- if the configuration and the transactions stay twice in a row, then they stay over both
 pub same_on : (s t u : Scheduler) → IsOfSame s t → IsOfSame t u → IsOfSame s u
 same_on s t u h g = record { config = g.config ∙ h.config; txs = g.txs ∙ h.txs }
 
+-- if a turn is the schedule's next one, then what is left of it leads to the same end
 pub turn_leads : (f : Faults) (n i : ℕ) (s mid after : Schedule) (words left : Lcg) (whole : Schedule × Lcg) → i < n → all_closed s.world ≡ false → mid ≡ s → after ≡ turned f mid (next_word words).0 → left ≡ (next_word words).1
     → scheduled f (n - i) s words ≡ whole → scheduled f (n - (i + 1)) after left ≡ whole
 turn_leads f n i s mid after words left whole less open_ same turn rest kept =
@@ -176,11 +188,13 @@ of_start : (s t : Scheduler) (c : Config) (txs : List TxDecl) → schedule_of s 
 unfolding start
 of_start s t c txs begun same = (same.config ∙ ap (λ (x : Schedule). x.world.config) begun, same.txs ∙ ap (λ (x : Schedule). x.world.txs) begun)
 
+-- a scheduler under way that began at the start of a run has the world to which its steps lead
 pub run_of : (s t : Scheduler) (c : Config) (txs : List TxDecl) → schedule_of s ≡ schedule_start c txs → IsOfSame s t → IsUnderWay t → t.world ≡ run (start c txs) t.steps.items
 run_of s t c txs begun same h =
     let of = of_start s t c txs begun same in
     h.leads ∙ (ap (λ (x : Config). run (start x t.world.txs) t.steps.items) of.0 ∙ ap (λ (x : List TxDecl). run (start c x) t.steps.items) of.1)
 
+-- the steps of a scheduler under way that began at the start of a run fit its configuration
 pub fits_of : (s t : Scheduler) (c : Config) (txs : List TxDecl) → schedule_of s ≡ schedule_start c txs → IsOfSame s t → IsUnderWay t → All (FitsStep c (length txs)) t.steps.items
 fits_of s t c txs begun same h =
     let of = of_start s t c txs begun same in
@@ -188,6 +202,7 @@ fits_of s t c txs begun same h =
     let Q : List TxDecl → Type 0 = λ x. All (FitsStep c (length x)) t.steps.items in
     subst Q of.1 (subst P of.0 h.fits)
 
+-- a schedule of n turns takes at most n steps
 pub few_of : (f : Faults) (n : ℕ) (s t : Schedule) (words left : Lcg) (c : Config) (txs : List TxDecl) → s ≡ schedule_start c txs → ◌≡◌ {A = Schedule × Lcg} (t, left) (scheduled f n s words) → length t.steps ≤ n
 few_of f n s t words left c txs begun is =
     let few = few_steps f n s words in

@@ -26,6 +26,7 @@ live_nodes w = live_among w (below w.config.nodes)
 
 -- ---- slots
 
+-- the slot of a node
 abbrev pub stream : ℕ → ℕ → Stream
 stream n s = record { node = n; slot = s }
 
@@ -42,6 +43,7 @@ txs_from k s (t ∷ ts) = if same_stream (stream t.node t.slot) s then k ∷ txs
 abbrev pub own_txs : Stream → List TxDecl → List ℕ
 own_txs s txs = txs_from 0 s txs
 
+-- a transaction is begun
 unfoldable pub is_begun : Book → ℕ → Bool
 is_begun b k = is_some (record_of b k).begun
 
@@ -50,6 +52,7 @@ unfoldable pub first_new : Book → List ℕ → Option ℕ
 first_new b [] = None
 first_new b (k ∷ ks) = if is_begun b k then first_new b ks else Some k
 
+-- a slot has a current transaction
 unfoldable pub has_current : World → Stream → Bool
 has_current w s = is_some (slot (node w s.node) s.slot).current
 

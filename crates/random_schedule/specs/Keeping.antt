@@ -9,6 +9,7 @@ use Rattle.random_schedule.specs.Schedule.{Progress, Schedule}
 use Rattle.random_schedule.specs.declared.chooser.Chooser.{Chooser}
 use Rattle.random_schedule.specs.declared.scheduler.Scheduler.{Scheduler}
 
+-- what a chooser keeps, as the schedule has it
 abbrev pub progress_of : Chooser → Progress
 progress_of c = record { fresh = c.fresh.items; stops = c.stops }
 
@@ -19,6 +20,7 @@ pub record KeepsUp (w : World) (c : Chooser) : Type 0 where
   pub begun : AreAllBegun w.book c.queues.items c.begun.items
   pub fresh : AreLinks w.config c.fresh.items
 
+-- a scheduler's world, progress and steps, as the schedule has them
 abbrev pub schedule_of : Scheduler → Schedule
 schedule_of s = record { world = s.world; progress = progress_of s.chooser; steps = s.steps.items }
 

@@ -16,6 +16,7 @@ pub record IsSlot (c : Config) (s : Stream) : Type 0 where
   pub node : s.node < c.nodes
   pub slot : s.slot < c.slots
 
+-- each slot of a list is one of the configuration
 abbrev pub AreSlots : Config → List Stream → Type 0
 AreSlots c slots = All (IsSlot c) slots
 
@@ -24,6 +25,7 @@ pub record IsLink (c : Config) (p : FreshPacket) : Type 0 where
   pub from : p.from < c.nodes
   pub to : p.to < c.nodes
 
+-- each link of a list is one of the configuration
 abbrev pub AreLinks : Config → List FreshPacket → Type 0
 AreLinks c links = All (IsLink c) links
 

@@ -30,6 +30,7 @@ pub record Schedule : Type 0 where
 
 -- ---- tick, begin and try
 
+-- a tick of the chosen node, or of node 0 if none was chosen
 unfoldable pub tick_or_first : Option ℕ → Step
 tick_or_first None = Tick 0
 tick_or_first (Some n) = Tick n
@@ -38,6 +39,7 @@ tick_or_first (Some n) = Tick n
 abbrev pub tick_of : World → ℕ → Step
 tick_of w u = tick_or_first (chosen u (live_nodes w))
 
+-- the begin of the chosen transaction, or else a tick
 unfoldable pub begin_at : World → ℕ → Option ℕ → Step
 begin_at w u None = tick_of w u
 begin_at w u (Some k) = Begin k
@@ -46,6 +48,7 @@ begin_at w u (Some k) = Begin k
 abbrev pub begin_step : World → ℕ → Step
 begin_step w u = begin_at w u (chosen u (ready_txs w))
 
+-- the try of the chosen slot, or else a tick
 unfoldable pub try_at : World → ℕ → Option Stream → Step
 try_at w u None = tick_of w u
 try_at w u (Some s) = Try s.node s.slot
@@ -64,6 +67,7 @@ arriving w fresh u = chosen u (filter (can_arrive w) fresh)
 abbrev pub arrival : ℕ → ℕ → FreshPacket → Step
 arrival loss u p = if nat_lt (u / 64 % 100) loss then Tick p.to else Deliver p.from p.to p.number
 
+-- the arrival of the chosen packet or its loss, or else a tick
 unfoldable pub arrival_at : ℕ → World → ℕ → Option FreshPacket → Step
 arrival_at loss w u None = tick_of w u
 arrival_at loss w u (Some p) = arrival loss u p
@@ -72,6 +76,7 @@ arrival_at loss w u (Some p) = arrival loss u p
 abbrev pub fresh_step : ℕ → World → List FreshPacket → ℕ → Step
 fresh_step loss w fresh u = arrival_at loss w u (arriving w fresh u)
 
+-- two packets are of the same sender and receiver
 unfoldable pub same_link : FreshPacket → FreshPacket → Bool
 same_link p q = (p.from == q.from) && (p.to == q.to)
 
@@ -79,6 +84,7 @@ same_link p q = (p.from == q.from) && (p.to == q.to)
 unfoldable pub behind : FreshPacket → FreshPacket → FreshPacket
 behind p q = if same_link p q then record p { number = p.number + 1 } else q
 
+-- of each link the next fresh packet, once the chosen one, if any, is used
 unfoldable pub used_at : List FreshPacket → Option FreshPacket → List FreshPacket
 used_at fresh None = fresh
 used_at fresh (Some p) = map (behind p) fresh
@@ -87,6 +93,7 @@ used_at fresh (Some p) = map (behind p) fresh
 abbrev pub fresh_after : World → List FreshPacket → ℕ → List FreshPacket
 fresh_after w fresh u = used_at fresh (arriving w fresh u)
 
+-- a delivery of one of the packets that the chosen link has, or else a tick
 unfoldable pub repeat_at : World → ℕ → Option FreshPacket → Step
 repeat_at w u None = tick_of w u
 repeat_at w u (Some p) = Deliver p.from p.to (u / 64 % count_sent w p)
@@ -97,6 +104,7 @@ repeat_step w fresh u = repeat_at w u (chosen u (filter (can_repeat w) fresh))
 
 -- ---- views and stops
 
+-- a stop of the chosen node, or else a tick
 unfoldable pub stop_at : World → ℕ → Option ℕ → Step
 stop_at w u None = tick_of w u
 stop_at w u (Some n) = Stop n
@@ -110,6 +118,7 @@ abbrev pub stop_step : ℕ → World → ℕ → ℕ → Step
 stop_step most w stops u =
     if may_stop most w stops u then stop_at w u (chosen (u / 8) (live_nodes w)) else tick_of w u
 
+-- an install of the last view at the chosen node, or else a stop
 unfoldable pub install_at : ℕ → World → ℕ → ℕ → Option ℕ → Step
 install_at most w stops u None = stop_step most w stops u
 install_at most w stops u (Some n) = Install n (length w.views)

@@ -6,6 +6,7 @@ use Rattle.bank_report.specs.declared.numbers.BankNumbers.{BankNumbers}
 use Rattle.smallbank.specs.Run.{bank_text, bank_world, unclosed}
 use Rattle.smallbank.specs.Top.{AsksNone, HasEnded, IsAnswered, IsAsked, IsDue, IsWritten, Sinks, status_of, usage_line}
 
+-- if the words ask for no bank, and the line of usage was written or failed, then the program has answered
 pub refused_answer : (asks : BankNumbers → Type 0) (s : Sinks) (r : Status) → AsksNone asks → HasEnded s usage_line Usage r → IsAnswered asks s r
 unfolding IsAnswered IsDue
 refused_answer asks s r none (inl w) = subst (λ (q : Status). IsAnswered asks s q) (sym w.0) (none, w.1)

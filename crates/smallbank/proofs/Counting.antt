@@ -18,6 +18,7 @@ unclosed_more w k n h =
     let one : k + 1 ≡ suc k = omega arith in
     rw one (unclosed_next w k (n - k) (n - suc k) (omega arith))
 
+-- past the last transaction none is left that is not closed
 pub unclosed-none : (w : World) (k n : ℕ) → n ≤ k → unclosed_of w (numbers_from k (n - k)) ≡ 0
 unfolding numbers_from unclosed_of
 unclosed-none w k n h = let none : n - k ≡ 0 = omega arith in rw none refl
@@ -26,6 +27,7 @@ one-few : (w : World) (k : ℕ) → unclosed_one w k ≤ 1
 unfolding unclosed_one
 one-few w k = cond_both (is_closed w k) 0 1 (λ (i : ℕ). i ≤ 1) (λ _. omega arith) (λ _. omega arith)
 
+-- of n transactions at most n are not closed
 pub unclosed-few : (w : World) (k n : ℕ) → unclosed_of w (numbers_from k n) ≤ n
 unfolding numbers_from unclosed_of
 unclosed-few w k zero = omega arith

@@ -20,6 +20,7 @@ objects_more before a n h =
     ∙ append_assoc before (bank_object a ∷ []) (bank_object a ∷ rest)
     ∙ ap (λ (os : List ObjectDecl). before ++ os) (sym next))
 
+-- past the last account no object is left
 pub objects-none : (a n : ℕ) → n ≤ a → objects_from a (n - a) ≡ []
 unfolding objects_from
 objects-none a n h = let none : n - a ≡ 0 = omega arith in rw none refl

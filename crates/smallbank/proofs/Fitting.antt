@@ -31,6 +31,7 @@ bank_wider a b (Withdraw x v) le f = account_wider a b x v le f
 bank_wider a b (Pay x y v) le f = (account_wider a b x v le f.0, account_wider a b y v le f.1)
 bank_wider a b (Save x v) le f = account_wider a b x v le f
 
+-- if orders fit so many accounts, then they fit more accounts
 pub orders_wider : (a b : ℕ) (os : List Order) → a ≤ b → All (FitsOrder a) os → All (FitsOrder b) os
 orders_wider a b os le fits =
     All-weaker (FitsOrder a) (FitsOrder b) (λ o f. record { node = f.node; slot = f.slot; tx = bank_wider a b o.tx le f.tx }) os fits
@@ -113,6 +114,7 @@ each_fits accounts k [] fits = tt
 each_fits accounts k (o ∷ os) fits =
     (tx_fits accounts k o (All-head (FitsOrder accounts) o os fits), each_fits accounts (suc k) os (All-tail (FitsOrder accounts) o os fits))
 
+-- if at most 10,000 orders fit the accounts, then their transactions fit the bank's configuration
 pub txs_fit : (accounts : ℕ) (os : List Order) → length os ≤ 10000 → All (FitsOrder accounts) os → FitsTxs (bank_config accounts) (map declared_tx os)
 txs_fit accounts os few fits =
     let count = length-map os declared_tx in
@@ -125,6 +127,7 @@ unfolding declared_tx
 same_operations [] = refl
 same_operations (o ∷ os) = ap (λ (all : List (List Op)). operations o.tx ∷ all) (same_operations os)
 
+-- if orders fit 1 to 128 accounts, then their declared transactions are those of the bank
 pub is_bank : (accounts : ℕ) (os : List Order) → 1 ≤ accounts → accounts ≤ 128 → All (FitsOrder accounts) os → IsBank accounts (map tx_of os) (map declared_tx os)
 is_bank accounts os some few fits =
     record {

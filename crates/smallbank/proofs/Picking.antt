@@ -18,6 +18,7 @@ use Rattle.smallbank.specs.declared.orders.Order.{Order}
 fits_either : (accounts : ℕ) (b : Bool) (t u : BankTx) → FitsBank accounts t → FitsBank accounts u → FitsBank accounts (if b then t else u)
 fits_either accounts b t u f g = cond_both b t u (FitsBank accounts) (λ _. f) (λ _. g)
 
+-- if accounts and amount are in range, then the transaction of any kind fits the bank
 pub fits_kind : (accounts kind a b v : ℕ) → a < accounts → b < accounts → 1 ≤ v → v ≤ 100 → FitsBank accounts (tx_of_kind kind a b v)
 unfolding tx_of_kind FitsBank
 fits_kind accounts kind a b v here there some few =
@@ -41,6 +42,7 @@ tx-fits accounts words some =
     let there : b.0 < accounts = mod-lt (next_word a.1).0 some in
     fits_kind accounts kind.0 a.0 b.0 (v.0 + 1) here there (omega arith) (omega arith)
 
+-- if there is an account, then the order that words pick fits
 pub picked-fits : (accounts : ℕ) (words : Lcg) → 1 ≤ accounts → FitsOrder accounts (picked_order accounts words).0
 unfolding picked_order
 picked-fits accounts words some =
@@ -52,11 +54,13 @@ picked-fits accounts words some =
 
 -- ---- orders one after another
 
+-- as many orders are picked as asked for
 pub length-picked : (accounts count : ℕ) (words : Lcg) → length (picked_orders accounts count words).0 ≡ count
 unfolding picked_orders
 length-picked accounts zero words = refl
 length-picked accounts (suc n) words = let rest = length-picked accounts n (picked_order accounts words).1 in omega arith
 
+-- if there is an account, then all orders that words pick fit
 pub all_picked-fit : (accounts count : ℕ) (words : Lcg) → 1 ≤ accounts → All (FitsOrder accounts) (picked_orders accounts count words).0
 unfolding picked_orders
 all_picked-fit accounts zero words some = All-nil (FitsOrder accounts)
@@ -69,6 +73,7 @@ pub record IsPicking (accounts rest : ℕ) (orders : List Order) (words : Lcg) (
   pub orders_are : orders ++ (picked_orders accounts rest words).0 ≡ all.0
   pub words_are : (picked_orders accounts rest words).1 ≡ all.1
 
+-- before the first order is picked, all orders are left to pick
 pub picking_none : (accounts count : ℕ) (orders : List Order) (words : Lcg) → orders ≡ []
     → IsPicking accounts (count - 0) orders words (picked_orders accounts count words)
 picking_none accounts count orders words none =
@@ -85,6 +90,7 @@ picking_next accounts rest orders words all k =
       words_are = k.words_are;
     }
 
+-- if the next order is picked and added, then those that are left give the same whole
 pub picking_more : (accounts count number : ℕ) (orders more : List Order) (words next : Lcg) (all : List Order × Lcg) → number < count
     → more ≡ orders ++ (picked_order accounts words).0 ∷ [] → next ≡ (picked_order accounts words).1 → IsPicking accounts (count - number) orders words all
     → IsPicking accounts (count - (number + 1)) more next all
@@ -95,6 +101,7 @@ picking_more accounts count number orders more words next all less grown left k 
 pair : (orders : List Order) (words : Lcg) (all : List Order × Lcg) → orders ≡ all.0 → words ≡ all.1 → (orders, words) ≡ all
 pair orders words (a, b) h k = cc
 
+-- once as many orders are picked as asked for, they are the whole
 pub picking_all : (accounts count number : ℕ) (orders : List Order) (words : Lcg) (all : List Order × Lcg) → count ≤ number
     → IsPicking accounts (count - number) orders words all → (orders, words) ≡ all
 unfolding picked_orders

@@ -56,6 +56,7 @@ on c txs done (s ∷ ss) w limits fit before after leads config same =
     let next : stepped w s ≡ run (start c txs) (done ++ s ∷ []) = ap (λ (v : World). stepped v s) leads ∙ sym (run_push (start c txs) done s) in
     on c txs (done ++ s ∷ []) ss (stepped w s) limits fit (All-push P done s before head) (All-tail P s ss after) next (kept.config ∙ config) (kept.txs ∙ same)
 
+-- a run of steps that fit leaves the declared transactions
 pub run-txs : (c : Config) (txs : List TxDecl) (steps : List Step) → KeepsLimits c → FitsTxs c txs → All (FitsStep c (length txs)) steps
     → (run (start c txs) steps).txs ≡ txs
 unfolding start run
@@ -83,6 +84,7 @@ Law =
     (accounts : ℕ) (txs : List BankTx) (declared : List TxDecl) (steps : List Step) → IsBank accounts txs declared → FitsTxs (bank_config accounts) declared
     → All (FitsStep (bank_config accounts) (length declared)) steps → KeepsMoney accounts txs (run (start (bank_config accounts) declared) steps)
 
+-- a bank's script has at most 10,000 orders
 pub few_orders : (n : BankNumbers) (os : List Order) (words : Lcg) (c : Config) (txs : List TxDecl) → FitsNumbers n → IsScriptOf n os words c txs → length os ≤ 10000
 few_orders n os words c txs f s =
     let count : length os ≡ n.txs = ap (λ (q : List Order × Lcg). length q.0) s.picked ∙ length-picked n.accounts n.txs (words_from n.start) in
@@ -96,9 +98,11 @@ orders_fit n os words c txs f s =
     subst (λ (x : List Order). All (FitsOrder n.accounts) x) (sym (ap (λ (q : List Order × Lcg). q.0) s.picked))
     (all_picked-fit n.accounts n.txs (words_from n.start) f.some_accounts)
 
+-- the configuration of a bank's script keeps its limits
 pub script_limits : (n : BankNumbers) (os : List Order) (words : Lcg) (c : Config) (txs : List TxDecl) → FitsNumbers n → IsScriptOf n os words c txs → KeepsLimits c
 script_limits n os words c txs f s = subst KeepsLimits (sym s.config_is) (bank_limits n.accounts f.some_accounts f.few_accounts)
 
+-- the transactions of a bank's script fit its configuration
 pub script_fits : (n : BankNumbers) (os : List Order) (words : Lcg) (c : Config) (txs : List TxDecl) → FitsNumbers n → IsScriptOf n os words c txs → FitsTxs c txs
 script_fits n os words c txs f s =
     subst (λ (x : Config). FitsTxs x txs) (sym s.config_is)
@@ -145,6 +149,7 @@ good_run n steps w law f r =
       promise = λ k. subst (λ (ss : List Step). KeepsPromise (start c (bank_declared n)) (take k ss)) r.steps_are (r.promise k);
     }
 
+-- if the law of the bank's money holds, then what is told of a run of its script is true
 pub told_run : (n : BankNumbers) (os : List Order) (words : Lcg) (c : Config) (txs : List TxDecl) (steps : List Step) (w : World) → Law → FitsNumbers n
     → IsScriptOf n os words c txs → IsRunOf n words c txs steps w → IsToldOf n os steps w
 told_run n os words c txs steps w law f s r =

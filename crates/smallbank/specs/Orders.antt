@@ -39,6 +39,7 @@ picked_orders accounts (suc n) words =
     let rest = picked_orders accounts n first.1 in
     (first.0 ∷ rest.0, rest.1)
 
+-- the bank's transaction of an order
 abbrev pub tx_of : Order → BankTx
 tx_of o = o.tx
 

@@ -46,6 +46,7 @@ unfoldable pub unclosed_of : World → List ℕ → ℕ
 unclosed_of w [] = 0
 unclosed_of w (k ∷ ks) = unclosed_one w k + unclosed_of w ks
 
+-- how many of all transactions are not closed
 abbrev pub unclosed : World → ℕ
 unclosed w = unclosed_of w (below (length w.txs))
 

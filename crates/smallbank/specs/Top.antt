@@ -37,6 +37,7 @@ pub record Sinks : Type 0 where
   pub faults_before : ℕ
   pub faults_after : ℕ
 
+-- a sink with what it had written before and after, and its faults before and after
 abbrev pub sinks : Option (List ℕ) → Option (List ℕ) → ℕ → ℕ → Sinks
 sinks before after faults_before faults_after =
     record { before = before; after = after; faults_before = faults_before; faults_after = faults_after }

@@ -8,6 +8,7 @@ use Rattle.zeus_model.specs.World.{World}
 use Rattle.storm.specs.Counts.{count, counted, has_failed, is_cut_off, is_refused, is_unfinished, number_of, summed}
 use Rattle.storm.specs.declared.counts.TxCounts.{TxCounts}
 
+-- the count of the first n + 1 numbers is that of the first n, and one more if the next one passes
 pub count-next : (test : ℕ → Bool) (n : ℕ) → count test (n + 1) ≡ count test n + (if test n then 1 else 0)
 unfolding count
 count-next test n = rw add-one refl
@@ -16,6 +17,7 @@ one-few : (b : Bool) → (if b then 1 else 0) ≤ 1
 one-few true = omega arith
 one-few false = omega arith
 
+-- of n numbers at most n pass
 pub count-few : (test : ℕ → Bool) (n : ℕ) → count test n ≤ n
 unfolding count
 count-few test zero = omega arith
@@ -28,6 +30,7 @@ pub counted-next : (w : World) (k : ℕ) (c : TxCounts) (a f r s u : ℕ) → c 
 counted-next w k c a f r s u is ea ef er es eu =
     rw (is, ea, ef, er, es, eu, count-next (is_acked w) k, count-next (has_failed w) k, count-next (is_refused w) k, count-next (is_cut_off w) k, count-next (is_unfinished w) k) refl
 
+-- the sum of the first n + 1 objects is that of the first n, and the number of the next one
 pub summed-next : (map : List Versioned) (n : ℕ) → summed map (n + 1) ≡ summed map n + number_of (content map n).value
 unfolding summed
 summed-next map n = rw add-one refl
@@ -42,6 +45,7 @@ wrapped-next map n s v r is value added =
 pub counted-yes : (test : ℕ → Bool) (n before after : ℕ) → before ≡ count test n → test n ≡ true → after ≡ before + 1 → after ≡ count test (n + 1)
 counted-yes test n before after is passes more = rw (more, is, count-next test n, passes) refl
 
+-- if the next number does not pass, then the count stays
 pub counted-no : (test : ℕ → Bool) (n before after : ℕ) → before ≡ count test n → test n ≡ false → after ≡ before → after ≡ count test (n + 1)
 counted-no test n before after is fails same =
     let zero_more : count test n + 0 ≡ count test n = omega arith in

@@ -108,6 +108,7 @@ pub drawn_none : (n : StormNumbers) (i count : ℕ) (words : Lcg) → count ≤ 
 unfolding drawn_txs
 drawn_none n i count words h = let e : count - i ≡ 0 = omega arith in rw e refl
 
+-- if a drawn transaction is added, then with those that the words behind it give the whole is as before
 pub drawn_more : (n : StormNumbers) (i count : ℕ) (txs after : List TxDecl) (t : TxDecl) (words rest : Lcg) (whole : Drawn (List TxDecl)) → i < count → (t, rest) ≡ drawn_tx n words → after ≡ txs ++ t ∷ []
     → (txs ++ (drawn_txs n (count - i) words).0, (drawn_txs n (count - i) words).1) ≡ whole
     → (after ++ (drawn_txs n (count - (i + 1)) rest).0, (drawn_txs n (count - (i + 1)) rest).1) ≡ whole

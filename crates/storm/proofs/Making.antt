@@ -27,6 +27,7 @@ few-tx ops some few =
     let objects = named-few [] ops in
     record { some = some; few = omega arith; objects = omega arith }
 
+-- 1 to 8 operations make a transaction
 pub few-made : (ops : List Op) → 1 ≤ length ops → length ops ≤ 8 → made_tx ops ≡ Ok ops
 unfolding made_tx named
 few-made ops some few =

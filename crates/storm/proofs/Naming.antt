@@ -17,6 +17,7 @@ decimal_bytes n h =
     (λ m ds many front. All-append IsNameByte ds ((48 + m % 10) ∷ []) front (All-cons IsNameByte (48 + m % 10) [] (digit_byte (m % 10) (omega arith)) (All-nil IsNameByte)))
     n h
 
+-- the name of an object below 256 is a name
 pub storm_name-is : (i : ℕ) → i < 256 → IsName (storm_name i)
 unfolding storm_name
 storm_name-is i h =

@@ -37,6 +37,7 @@ few-txs n w config txs words steps r drawn leads =
     let few = r.txs in
     omega (arith, ap length all, ap length ts, count)
 
+-- if a storm's numbers are in range, then the world of its run has at most 256 objects
 pub few-objects : (n : StormNumbers) (w : World) (config : Config) (txs : List TxDecl) (steps : List Step) → AreInRange n → config ≡ storm_config n
     → w ≡ run (start config txs) steps → length w.config.objects ≤ 256
 few-objects n w config txs steps r same leads =
@@ -45,6 +46,7 @@ few-objects n w config txs steps r same leads =
     let objects = r.objects in
     omega (arith, ap (λ (c : Config). length c.objects) (all ∙ same), count)
 
+-- what holds holds also if a result is fine
 pub if_ok : {T E P : Type 0} (r : Result T E) → P → IfOk r (λ _. P)
 if_ok (Ok v) p = p
 if_ok (Err e) p = tt

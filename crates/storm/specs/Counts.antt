@@ -20,6 +20,7 @@ count test (suc n) = count test n + (if test n then 1 else 0)
 unfoldable pub has_failed : World → ℕ → Bool
 has_failed w k = is_acked w k && is_some (reply_or (record_of w.book k).reply).failed
 
+-- a transaction was refused
 abbrev pub is_refused : World → ℕ → Bool
 is_refused w k = (record_of w.book k).refused
 

@@ -33,6 +33,7 @@ storm_config n =
 unfoldable pub storm_name : ℕ → List ℕ
 storm_name i = codes "o" ++ decimal i
 
+-- the names of all objects
 abbrev pub storm_names : StormNumbers → List (List ℕ)
 storm_names n = map storm_name (below n.objects)
 

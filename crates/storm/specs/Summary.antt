@@ -28,5 +28,6 @@ objects_text e =
     codes "epoch" ++ number e.epoch ++ codes " lost" ++ number e.lost ++ line_end ++ codes "sum" ++ number e.sum ++ line_end
     ++ codes "end\n"
 
+-- the numbers, the steps, the counts and the objects, line by line
 abbrev pub summary : StormEnd → List ℕ
 summary e = numbers_line e.numbers ++ steps_line e ++ counts_line e ++ objects_text e

@@ -119,6 +119,7 @@ fits_kept s st line after fits h is =
     let f = moved s (marks_after st.marks told.event) after.marks (map_after s st.map told.event) after.map told.marks told.map (fitting_after s st told.event fits h told.allowed) in
     record { marks = f.marks; objects = f.objects; versions = f.versions }
 
+-- what is told before the first line fits the script
 pub fits_start : (s : Script) → Fits s (start s)
 unfolding start
 fits_start s =

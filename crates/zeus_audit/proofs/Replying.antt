@@ -68,16 +68,19 @@ few_versions s st x fits h =
 
 -- ---- what is taken, of what was read
 
+-- if a line acknowledges a transaction that has its point, then it is taken and the transaction is acknowledged
 pub ack_from : (st : State) (n k : ℕ) (line : List ℕ) → ack_shape (cut 32 line) ≡ Ok k → mark_of st k ≡ marks.Passed → ack_taken st n line ≡ Ok record st { stage = stages.Steps n further.Acks; marks = set st.marks k marks.Acked }
 unfolding ack_taken in_form if_passed
 ack_from st n k line shape passed =
     let within : k < length st.marks = marked_within st.marks k (λ e. cc) in
     rw (shape, passed, put-set marks.New st.marks k marks.Acked within) refl
 
+-- if a transaction was not begun, then to mark it as begun is what a begin does to the marks
 pub begun_new : (ms : List Mark) (k : ℕ) → k < length ms → nth marks.New ms k ≡ marks.New → set ms k marks.Begun ≡ begun_marks ms k
 unfolding begun_marks if_new
 begun_new ms k within new = rw (new, put-set marks.New ms k marks.Begun within) refl
 
+-- if a transaction was begun already, then a begin leaves the marks
 pub begun_old : (ms : List Mark) (k : ℕ) (m : Mark) → nth marks.New ms k ≡ m → (m ≡ marks.New → ⊥) → ms ≡ begun_marks ms k
 unfolding begun_marks if_new
 begun_old ms k marks.New is old = absurd (old refl)
@@ -85,11 +88,13 @@ begun_old ms k marks.Begun is old = rw is refl
 begun_old ms k marks.Passed is old = rw is refl
 begun_old ms k marks.Acked is old = rw is refl
 
+-- if a line tells the reply of the operations, then it is taken, and the transaction has its point behind those so far
 pub reply_from : (st : State) (k : ℕ) (ops : List Op) (line : List ℕ) (map : List Versioned) (points : List ℕ) → k < length st.marks → bytes_eq line (point_text k (run_at st.map ops).reply) ≡ true → points ≡ st.points ++ k ∷ [] → map ≡ applied_map st.map ops
     → replied st k ops line ≡ Ok record { stage = st.stage; marks = set st.marks k marks.Passed; points = points; map = map }
 unfolding replied kept
 reply_from st k ops line map points within same added left = rw (same, added, left, put-set marks.New st.marks k marks.Passed within) refl
 
+-- if a line tells the point of a begun transaction, then what counts is whether its reply is right
 pub point_from : (s : Script) (st : State) (k : ℕ) (ops : List Op) (line : List ℕ) → point_shape s.config.version (cut 32 line) ≡ Ok k → mark_of st k ≡ marks.Begun → ops_of s k ≡ ops → point_taken s st line ≡ replied st k ops line
 unfolding point_taken in_form if_begun
 point_from s st k ops line shape begun same = rw (shape, begun, same) refl

@@ -28,6 +28,7 @@ ack_words ws =
     read_bind _ _ _ (ended-sound k.1) (λ e r.
     read_ok _ _ (p ∙ ap (λ l. codes "!" ∷ l) (q.0 ∙ ap (λ l. decimal k.0 ∷ l) r)))))
 
+-- if a line has the shape of an acknowledgement, then it is the text of that acknowledgement
 pub ack_shape-sound : (line : List ℕ) → IfRead (ack_shape (cut 32 line)) (λ k. line ≡ ack_text k)
 ack_shape-sound line = read_weaken _ _ (λ k p. line_of_words line _ p) (ack_words (cut 32 line))
 
@@ -60,6 +61,7 @@ state_words k ws =
     read_bind _ _ _ (ended-sound w.1) (λ e z.
     read_ok _ _ (p ∙ ap (λ l. codes "tx" ∷ l) (q.0 ∙ (ap (λ m. decimal m ∷ n.1) same ∙ ap (λ l. decimal k ∷ l) (r ∙ (ap (λ v. v ∷ w.1) t ∙ ap (λ l. tx_state_text state ∷ l) z)))))))))))
 
+-- if a line has the shape of a transaction's state, then it is the text of that state
 pub state_shape-sound : (k : ℕ) (line : List ℕ) → IfRead (state_shape k (cut 32 line)) (λ state. line ≡ stands_text k state)
 state_shape-sound k line = read_weaken _ _ (λ state p. line_of_words line _ p) (state_words k (cut 32 line))
 
@@ -84,5 +86,6 @@ copy_words nodes version name ws =
     read_bind _ _ _ (ended-sound value.1) (λ e z.
     read_ok _ _ (p ∙ ap (λ l. codes "copy" ∷ l) (q ∙ ap (λ l. name ∷ l) (r.0 ∙ ap (λ l. decimal node.0 ∷ l) (s ∙ (ap (λ x. x ∷ w.1) t ∙ ap (λ l. state_text state ∷ l) (u.0 ∙ ap (λ l. decimal ver.0 ∷ l) (v.0 ∙ ap (λ l. value_text value.0 ∷ l) z)))))))))))))))
 
+-- if a line has the shape of a copy, then it is the text of that copy
 pub copy_shape-sound : (nodes version : ℕ) (name line : List ℕ) → IfRead (copy_shape nodes version name (cut 32 line)) (λ c. line ≡ copy_text name c.node record { value = c.value; ver = c.ver; state = c.state })
 copy_shape-sound nodes version name line = read_weaken _ _ (λ c p. line_of_words line _ p) (copy_words nodes version name (cut 32 line))

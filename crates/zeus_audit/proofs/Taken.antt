@@ -16,16 +16,20 @@ Holds (Err rule) P = Unit {0}
 pub record IfTaken (r : Result State Rule) (P : State → Type 0) : Type 0 where
   pub holds : Holds r P
 
+-- what holds of a state holds if the state is taken
 pub taken_ok : (st : State) (P : State → Type 0) → P st → IfTaken (Ok st) P
 taken_ok st P p = record { holds = p }
 
+-- if a rule is broken, then anything holds of what is taken
 pub taken_err : (rule : Rule) (P : State → Type 0) → IfTaken (Err rule) P
 taken_err rule P = record { holds = tt }
 
+-- what holds in both cases of a test holds of the case that is taken
 pub taken_cond : (b : Bool) (x y : Result State Rule) (P : State → Type 0) → (b ≡ true → IfTaken x P) → (b ≡ false → IfTaken y P) → IfTaken (cond b x y) P
 taken_cond true x y P p q = p refl
 taken_cond false x y P p q = q refl
 
+-- if a shape is read and then what follows has it, then so has the line that must have the shape
 pub taken_form : {A : Type 0} (r : Result A Kind) (f : A → Result State Rule) {Q : A → Type 0} (P : State → Type 0) → IfRead r Q → ((x : A) → r ≡ Ok x → Q x → IfTaken (f x) P) → IfTaken (in_form r f) P
 unfolding in_form
 taken_form (Ok x) f P q p = p x refl q.holds
@@ -37,11 +41,13 @@ unfolding in_form
 taken_any (Ok x) f P p = p x
 taken_any (Err k) f P p = record { holds = tt }
 
+-- if a test lets a state pass, and what holds follows from the test, then it holds of what is taken
 pub taken_kept : (b : Bool) (rule : Rule) (st : State) (P : State → Type 0) → (b ≡ true → P st) → IfTaken (kept b rule st) P
 unfolding kept
 taken_kept true rule st P p = record { holds = p refl }
 taken_kept false rule st P p = record { holds = tt }
 
+-- if what follows holds for a begun transaction, then it holds where the transaction must be begun
 pub taken_begun : (m : Mark) (r : Result State Rule) (P : State → Type 0) → (m ≡ marks.Begun → IfTaken r P) → IfTaken (if_begun m r) P
 unfolding if_begun
 taken_begun marks.New r P p = record { holds = tt }
@@ -49,6 +55,7 @@ taken_begun marks.Begun r P p = p refl
 taken_begun marks.Passed r P p = record { holds = tt }
 taken_begun marks.Acked r P p = record { holds = tt }
 
+-- if what follows holds for a transaction with a point, then it holds where it must have one
 pub taken_passed : (m : Mark) (r : Result State Rule) (P : State → Type 0) → (m ≡ marks.Passed → IfTaken r P) → IfTaken (if_passed m r) P
 unfolding if_passed
 taken_passed marks.New r P p = record { holds = tt }

@@ -31,6 +31,7 @@ use Rattle.zeus_audit.proofs.Tells.{Tells, Allows, Comes, is_closed, marks_after
 
 -- ---- what a mark says of the events so far
 
+-- what a transaction's mark says of the events so far: its begin, its point and its acknowledgement
 unfoldable pub Shows : Mark → ℕ → List Event → Type 0
 Shows marks.New k es = (¬ HasPoint es k) × (¬ Among es (Acked k))
 Shows marks.Begun k es = Among es (Begun k) × (¬ HasPoint es k) × (¬ Among es (Acked k))

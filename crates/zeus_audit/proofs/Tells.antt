@@ -35,16 +35,19 @@ use Rattle.zeus_audit.proofs.Taken.{IfTaken, taken_ok, taken_err, taken_cond, ta
 
 -- ---- what an event changes, and when it may come
 
+-- the marks after an event: of a begin, a point or an acknowledgement that of its transaction changes
 unfoldable pub marks_after : List Mark → Event → List Mark
 marks_after ms (Begun k) = begun_marks ms k
 marks_after ms (Point k reply) = put marks.New ms k marks.Passed
 marks_after ms (Acked k) = put marks.New ms k marks.Acked
 marks_after ms _ = ms
 
+-- the points after an event: that of a point is added
 unfoldable pub points_after : List ℕ → Event → List ℕ
 points_after ks (Point k reply) = ks ++ k ∷ []
 points_after ks _ = ks
 
+-- the map after an event: that of a point is applied
 unfoldable pub map_after : Script → List Versioned → Event → List Versioned
 map_after s m (Point k reply) = applied_map m (ops_of s k)
 map_after s m _ = m
@@ -75,6 +78,7 @@ Comes before after (Stands k state) = (before ≡ true) × (after ≡ true)
 Comes before after (Copied x n c) = (before ≡ true) × (after ≡ true)
 Comes before after Quiet = before ≡ after
 
+-- a line says an event that is allowed where it stands, and the state after it is changed by that event
 pub record Tells (s : Script) (st : State) (line : List ℕ) (after : State) : Type 0 where
   pub event : Event
   pub says : Says s line event

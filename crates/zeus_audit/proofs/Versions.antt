@@ -84,6 +84,7 @@ applied_few m ops b y few h =
     let all = written_few (run_at m ops).writes m b y h in
     omega arith
 
+-- operations do not make a map shorter
 pub applied_least : (m : List Versioned) (ops : List Op) → length m ≤ length (applied_map m ops)
 applied_least m ops = written_least (run_at m ops).writes m
 
@@ -95,6 +96,7 @@ start_vers [] x = omega arith
 start_vers (o ∷ os) zero = omega arith
 start_vers (o ∷ os) (suc x) = start_vers os x
 
+-- at the start each version is 0
 pub start_few : (c : Config) (x : ℕ) → (content (start_map c) x).ver ≤ 0
 unfolding start_map
 start_few c x = start_vers c.objects x
@@ -103,12 +105,14 @@ start_size : (os : List ObjectDecl) → length os ≤ length (map declared_conte
 start_size [] = omega arith
 start_size (o ∷ os) = let rest = start_size os in omega arith
 
+-- the map at the start has at least as many places as the configuration has objects
 pub start_least : (c : Config) → length c.objects ≤ length (start_map c)
 unfolding start_map
 start_least c = start_size c.objects
 
 -- ---- how many points there are
 
+-- one if the test is true, else none
 abbrev pub one_if : Bool → ℕ
 one_if true = 1
 one_if false = 0
@@ -131,6 +135,7 @@ count-put (x ∷ ms) (suc k) m h =
     further true n n' p q h = omega arith
     further false n n' p q h = h
 
+-- there are at most as many points as marks
 pub count_few : (ms : List Mark) → count_of_points ms ≤ length ms
 unfolding count_of_points
 count_few [] = omega arith
@@ -140,6 +145,7 @@ count_few (m ∷ ms) = go (has_point m) (count_of_points ms) (count_few ms)
     go true n h = omega arith
     go false n h = omega arith
 
+-- at the start there is no point
 pub count_start : (n : ℕ) → count_of_points (replicate n marks.New) ≡ 0
 unfolding count_of_points has_point
 count_start zero = refl

@@ -40,6 +40,7 @@ lines_taken s st n [] = ended st n false
 lines_taken s st n (p ∷ []) = ended st n (is_end st.stage p)
 lines_taken s st n (p ∷ q ∷ ps) = line_done (line_taken s st p) n (λ t. lines_taken s t (suc n) (q ∷ ps))
 
+-- the verdict: sound if all lines were taken, else the line that fails and its rule
 unfoldable pub verdict_of : Result State Failing → Verdict
 verdict_of (Ok st) = verdicts.Sound
 verdict_of (Err f) = verdicts.Fails f.line f.rule

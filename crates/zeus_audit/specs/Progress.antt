@@ -20,6 +20,7 @@ pub record State : Type 0 where
   pub points : List ℕ
   pub map : List Versioned
 
+-- what the lines so far tell, as the rules have it
 abbrev pub state_of : Progress → State
 state_of p = record { stage = p.stage; marks = p.marks.items; points = p.points.items; map = p.map }
 

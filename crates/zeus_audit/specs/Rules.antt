@@ -90,6 +90,7 @@ packet_line st _ = Err rules.Form
 
 -- ---- the first line, and the lines of the steps
 
+-- the head line names the script's version; then the lines of steps come
 unfoldable pub head_taken : Script → State → List ℕ → Result State Rule
 head_taken s st line = kept (bytes_eq line (head_text s.config.version)) rules.Form (next st (stages.Steps 0 further.Nothing))
 
@@ -169,6 +170,7 @@ unfoldable pub is_above : Option ℕ → ℕ → Bool
 is_above None node = true
 is_above (Some last) node = nat_lt last node
 
+-- a copy's state is Valid
 unfoldable pub is_valid : CopyState → Bool
 is_valid copy_states.Valid = true
 is_valid _ = false

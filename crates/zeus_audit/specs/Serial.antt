@@ -46,6 +46,7 @@ pub record IsCurrent (c : Copy) (left : Versioned) : Type 0 where
   pub valid : c.state ≡ copy_states.Valid → (c.ver ≡ left.ver) × (c.value ≡ left.value)
   pub same : c.ver ≡ left.ver → c.value ≡ left.value
 
+-- the events of a report are those of a serial history of the script's transactions
 pub record IsSerialHistory (s : Script) (es : List Event) : Type 0 where
   -- each point is that of a transaction of the script
   pub known : All (λ k. k < length s.txs) (points_of es)

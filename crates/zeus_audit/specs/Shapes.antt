@@ -78,6 +78,7 @@ state_shape k ws = do
   e ← ended w.1
   Ok state
 
+-- no node if the word was `-`, else the node that the next word names
 unfoldable pub owner_of : ℕ → Bool × List (List ℕ) → Result (Option ℕ × List (List ℕ)) Kind
 owner_of nodes (true, ws) = Ok (None, ws)
 owner_of nodes (false, ws) = range_at 0 nodes ws >>= λ n. Ok (Some n.0, n.1)
@@ -86,6 +87,7 @@ owner_of nodes (false, ws) = range_at 0 nodes ws >>= λ n. Ok (Some n.0, n.1)
 unfoldable pub owner_at : ℕ → List (List ℕ) → Result (Option ℕ × List (List ℕ)) Kind
 owner_at nodes ws = owner_of nodes (word_if (codes "-") ws)
 
+-- no node if the word was `-`, else the rising nodes that the next word names
 unfoldable pub replicas_of : ℕ → Bool × List (List ℕ) → Result (List ℕ × List (List ℕ)) Kind
 replicas_of nodes (true, ws) = Ok ([], ws)
 replicas_of nodes (false, ws) = do

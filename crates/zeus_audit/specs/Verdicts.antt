@@ -8,6 +8,7 @@ use Rattle.zeus_audit.specs.declared.verdict.Rule.TheVariants as rules
 use Rattle.zeus_audit.specs.declared.verdict.Verdict.{Verdict}
 use Rattle.zeus_audit.specs.declared.verdict.Verdict.TheVariants as verdicts
 
+-- the word of a rule
 unfoldable pub rule_text : Rule → List ℕ
 rule_text rules.Form = codes "form"
 rule_text rules.Point = codes "point"

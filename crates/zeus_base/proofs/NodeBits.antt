@@ -77,25 +77,31 @@ length-nodes_from (suc w) n bits h =
 
 -- ---- the byte and its nodes
 
+-- the nodes of a byte rise from one to the next
 pub IsRising-nodes_of : (bits : ℕ) → IsRising (nodes_of bits)
 unfolding nodes_of
 IsRising-nodes_of bits = RisesFrom-nodes_from 8 0 bits
 
+-- the nodes of a byte are below 8
 pub IsBelow-nodes_of : (bits : ℕ) → IsBelow 8 (nodes_of bits)
 unfolding nodes_of
 IsBelow-nodes_of bits = λ k h. IsBelow-nodes_from 8 0 bits k h
 
+-- the nodes of a byte are a set of nodes: they rise, and are below 8
 pub IsNodeSet-nodes_of : (bits : ℕ) → IsNodeSet (nodes_of bits)
 IsNodeSet-nodes_of bits = record { rising = IsRising-nodes_of bits; below = IsBelow-nodes_of bits }
 
+-- a number is a node of a byte exactly if the byte has that bit set
 pub has-nodes_of : (k bits : ℕ) → bits < 2 ^ 8 → has k (nodes_of bits) ≡ (bit_at bits k == 1)
 unfolding nodes_of
 has-nodes_of k bits h = rw (zero-add k) at (has-nodes_from 8 0 bits k h)
 
+-- a byte has as many nodes as bits that are set
 pub length-nodes_of : (bits : ℕ) → bits < 2 ^ 8 → length (nodes_of bits) ≡ ones bits
 unfolding nodes_of
 length-nodes_of bits h = length-nodes_from 8 0 bits h
 
+-- the byte 0 has no node
 pub nodes_of-zero : nodes_of 0 ≡ []
 unfolding nodes_of nodes_from
 nodes_of-zero = refl
@@ -111,11 +117,13 @@ max_digit a b h g = grind (arith, nat_tests)
 min_digit : (a b : ℕ) → a < 2 → b < 2 → (min a b == 1) ≡ ((a == 1) && (b == 1))
 min_digit a b h g = grind (arith, nat_tests)
 
+-- the nodes of the bitwise "or" of two bytes are the union of their nodes
 pub nodes_of-or : (a b : ℕ) → a < 2 ^ 8 → b < 2 ^ 8 → nodes_of (bit_or a b) ≡ join (nodes_of a) (nodes_of b)
 nodes_of-or a b h g =
     by_members (bit_or a b) (join (nodes_of a) (nodes_of b)) (or_of_8 a b h g) (RisesFrom-join 0 (nodes_of a) (nodes_of b) (IsRising-nodes_of a) (IsRising-nodes_of b)) (λ k.
     rw (has-join k (nodes_of a) (nodes_of b), has-nodes_of k a h, has-nodes_of k b g, bit_at_or a b k) (max_digit (bit_at a k) (bit_at b k) (bit_at-lt a k) (bit_at-lt b k)))
 
+-- the nodes of the bitwise "and" of two bytes are the intersection of their nodes
 pub nodes_of-and : (a b : ℕ) → a < 2 ^ 8 → b < 2 ^ 8 → nodes_of (bit_and a b) ≡ meet (nodes_of a) (nodes_of b)
 nodes_of-and a b h g =
     let fits : bit_and a b < 2 ^ 8 = omega (arith, and_le_l a b) in
@@ -129,6 +137,7 @@ set_digit a k n h =
       | inr other ↦ rw (bit_at_set_other w8 a n h k other, ne_eqb k n other) refl
     ]
 
+-- if bit n of a byte is set, then its nodes are those from before with n
 pub nodes_of-set : (a n : ℕ) → a < 2 ^ 8 → n < 8 → nodes_of (bit_or a (1 * 2 ^ n % 2 ^ 8)) ≡ with_node n (nodes_of a)
 nodes_of-set a n h g =
     let fits : bit_or a (1 * 2 ^ n % 2 ^ 8) < 2 ^ 8 = or_of_8 a (1 * 2 ^ n % 2 ^ 8) h (omega arith) in
@@ -147,22 +156,26 @@ clear_digit a k n f h =
       ]
     ]
 
+-- if bit n of a byte is cleared, then its nodes are those from before without n
 pub nodes_of-clear : (a n : ℕ) → a < 2 ^ 8 → n < 8 → nodes_of (bit_and a (bit_not w8 (1 * 2 ^ n % 2 ^ 8))) ≡ without n (nodes_of a)
 nodes_of-clear a n h g =
     let fits : bit_and a (bit_not w8 (1 * 2 ^ n % 2 ^ 8)) < 2 ^ 8 = omega (arith, and_le_l a (bit_not w8 (1 * 2 ^ n % 2 ^ 8))) in
     by_members (bit_and a (bit_not w8 (1 * 2 ^ n % 2 ^ 8))) (without n (nodes_of a)) fits (RisesFrom-without 0 n (nodes_of a) (IsRising-nodes_of a)) (λ k.
     rw (has-without k n (nodes_of a), has-nodes_of k a h) (clear_digit a k n h g))
 
+-- the byte 0 has no least node
 pub least-zero : (a : ℕ) → a ≡ 0 → least (nodes_of a) ≡ None
 unfolding least
 least-zero a is = ap (λ (b : ℕ). least (nodes_of b)) is ∙ ap least nodes_of-zero
 
+-- the least node of a byte above 0 is the number of its zeros below the lowest set bit
 pub least-nodes_of : (a : ℕ) → 0 < a → a < 2 ^ 8 → least (nodes_of a) ≡ Some (trailing_zeros w8 a)
 least-nodes_of a h g =
     let lowest = bit_at-trailing_zeros w8 a h g in
     let t = trailing_zeros w8 a in
     least-from_members 0 t (nodes_of a) (IsRising-nodes_of a) (rw (has-nodes_of t a g, lowest.1) refl) (λ k l. rw (has-nodes_of k a g, lowest.2 k l) refl)
 
+-- if a byte has no node, then it is 0
 pub nodes_of-empty : (a : ℕ) → a < 2 ^ 8 → nodes_of a ≡ [] → a ≡ 0
 nodes_of-empty a h is = sym (bits_of-view a [] is h) ∙ unfold bits_of in refl
 
@@ -173,6 +186,7 @@ is_subset-false a b h g s =
     same_from_members 0 0 (meet (nodes_of a) (nodes_of b)) (nodes_of a) (RisesFrom-meet 0 (nodes_of a) (nodes_of b) (IsRising-nodes_of a)) (IsRising-nodes_of a) (λ k. grind (arith, has-meet k (nodes_of a) (nodes_of b), is_subset-has k (nodes_of a) (nodes_of b) s)) in
     sym (bits_of-nodes_of (bit_and a b) fits) ∙ (ap bits_of (nodes_of-and a b h g ∙ kept) ∙ bits_of-nodes_of a h)
 
+-- the "and" of two bytes is the first byte exactly if its nodes lie in those of the second
 pub is_subset-nodes_of : (a b : ℕ) → a < 2 ^ 8 → b < 2 ^ 8 → (bit_and a b == a) ≡ is_subset (nodes_of a) (nodes_of b)
 is_subset-nodes_of a b h g =
     let one : bit_and a b ≡ a → is_subset (nodes_of a) (nodes_of b) ≡ true =
@@ -180,6 +194,7 @@ is_subset-nodes_of a b h g =
     let other = is_subset-false a b h g in
     grind (arith, nat_tests)
 
+-- two bytes are equal exactly if they have the same nodes
 pub same_nodes-nodes_of : (a b : ℕ) → a < 2 ^ 8 → b < 2 ^ 8 → (a == b) ≡ same_nodes (nodes_of a) (nodes_of b)
 same_nodes-nodes_of a b h g =
     let tells = bytes_eq-Decides (nodes_of a) (nodes_of b) in

@@ -52,6 +52,7 @@ pub bits_of-nodes_of : (bits : ℕ) → bits < 2 ^ 8 → bits_of (nodes_of bits)
 unfolding nodes_of
 bits_of-nodes_of bits h = rw (bits_of-nodes_from 8 0 bits h) (omega arith)
 
+-- if a byte shows these nodes, then their bits are that byte
 pub bits_of-view : (bits : ℕ) (ns : List ℕ) → nodes_of bits ≡ ns → bits < 2 ^ 8 → bits_of ns ≡ bits
 bits_of-view bits ns is h = rw (← is) (bits_of-nodes_of bits h)
 
@@ -59,5 +60,6 @@ bits_of-view bits ns is h = rw (← is) (bits_of-nodes_of bits h)
 abbrev pub set_of : List ℕ → Inside
 set_of ns = record { bits = bits_of ns }
 
+-- the set made from the nodes of a byte is that byte again
 pub set_of-nodes_of : (s : Inside) → s.bits < 2 ^ 8 → set_of (nodes_of s.bits) ≡ s
 set_of-nodes_of s h = rw (bits_of-nodes_of s.bits h) refl

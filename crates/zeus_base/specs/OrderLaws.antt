@@ -43,28 +43,35 @@ stream_by a b h = λ i. record { node = h.0 i; slot = h.1 i }
 
 -- ---- stamps
 
+-- if the test says that two stamps are one, then they are equal
 pub same_stamp-true : (a b : Stamp) → same_stamp a b ≡ true → a ≡ b
 unfolding same_stamp
 same_stamp-true a b h = stamp_by a b (same_pair a.ver a.driver b.ver b.driver h)
 
+-- the test says that a stamp is the same as itself
 pub same_stamp-refl : (a : Stamp) → same_stamp a a ≡ true
 unfolding same_stamp
 same_stamp-refl a = same_pair-refl a.ver a.driver
 
+-- if two stamps are equal, then the test says that they are one
 pub same_stamp-from : (a b : Stamp) → a ≡ b → same_stamp a b ≡ true
 same_stamp-from a b is = rw is (same_stamp-refl b)
 
+-- the test is true exactly if the two stamps are equal
 pub same_stamp-decides : (a b : Stamp) → (same_stamp a b ≡ true) ↔ (a ≡ b)
 same_stamp-decides a b = (same_stamp-true a b, same_stamp-from a b)
 
+-- no stamp is below itself
 pub is_below-irrefl : (a : Stamp) → is_below a a ≡ false
 unfolding is_below
 is_below-irrefl a = lex_irrefl a.ver a.driver
 
+-- if a stamp is below a second and the second is below a third, then the stamp is below the third
 pub is_below-trans : (a b c : Stamp) → is_below a b ≡ true → is_below b c ≡ true → is_below a c ≡ true
 unfolding is_below
 is_below-trans a b c h g = lex_trans a.ver a.driver b.ver b.driver c.ver c.driver h g
 
+-- if one stamp is below another, then the other is not below it
 pub is_below-asym : (a b : Stamp) → is_below a b ≡ true → is_below b a ≡ false
 unfolding is_below
 is_below-asym a b h = lex_asym a.ver a.driver b.ver b.driver h
@@ -79,6 +86,7 @@ pub is_below-lower : (a b : Stamp) → a.ver < b.ver → is_below a b ≡ true
 unfolding is_below
 is_below-lower a b h = grind (arith, nat_tests)
 
+-- if one stamp is below another, then its version is not above the other's
 pub is_below-ver : (a b : Stamp) → is_below a b ≡ true → a.ver ≤ b.ver
 unfolding is_below
 is_below-ver a b h = grind (arith, nat_tests)
@@ -88,6 +96,7 @@ pub is_below-not_above_trans : (a b c : Stamp) → is_below b a ≡ false → is
 unfolding is_below
 is_below-not_above_trans a b c h g = lex_le_lt a.ver a.driver b.ver b.driver c.ver c.driver h g
 
+-- if a is below b and c is not below b, then a is below c
 pub is_below-trans_not_above : (a b c : Stamp) → is_below a b ≡ true → is_below c b ≡ false → is_below a c ≡ true
 unfolding is_below
 is_below-trans_not_above a b c h g = lex_lt_le a.ver a.driver b.ver b.driver c.ver c.driver h g
@@ -99,28 +108,35 @@ not_below-trans a b c h g = lex_le_le a.ver a.driver b.ver b.driver c.ver c.driv
 
 -- ---- streams
 
+-- if the test says that two streams are one, then they are equal
 pub same_stream-true : (a b : Stream) → same_stream a b ≡ true → a ≡ b
 unfolding same_stream
 same_stream-true a b h = stream_by a b (same_pair a.node a.slot b.node b.slot h)
 
+-- the test says that a stream is the same as itself
 pub same_stream-refl : (a : Stream) → same_stream a a ≡ true
 unfolding same_stream
 same_stream-refl a = same_pair-refl a.node a.slot
 
+-- if two streams are equal, then the test says that they are one
 pub same_stream-from : (a b : Stream) → a ≡ b → same_stream a b ≡ true
 same_stream-from a b is = rw is (same_stream-refl b)
 
+-- the test is true exactly if the two streams are equal
 pub same_stream-decides : (a b : Stream) → (same_stream a b ≡ true) ↔ (a ≡ b)
 same_stream-decides a b = (same_stream-true a b, same_stream-from a b)
 
+-- no stream is before itself
 pub is_before-irrefl : (a : Stream) → is_before a a ≡ false
 unfolding is_before
 is_before-irrefl a = lex_irrefl a.node a.slot
 
+-- if a stream is before a second and the second is before a third, then the stream is before the third
 pub is_before-trans : (a b c : Stream) → is_before a b ≡ true → is_before b c ≡ true → is_before a c ≡ true
 unfolding is_before
 is_before-trans a b c h g = lex_trans a.node a.slot b.node b.slot c.node c.slot h g
 
+-- if one stream is before another, then the other is not before it
 pub is_before-asym : (a b : Stream) → is_before a b ≡ true → is_before b a ≡ false
 unfolding is_before
 is_before-asym a b h = lex_asym a.node a.slot b.node b.slot h

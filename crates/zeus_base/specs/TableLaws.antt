@@ -6,23 +6,27 @@ use Rattle.std.proofs.Math.ListN.{get_or, set}
 use Rattle.std.proofs.lemmas.List.{get_or_default}
 use Rattle.zeus_base.specs.Tables.{nth, put}
 
+-- an index within a list reads the same after elements are appended
 pub nth-append : {A : Type 0} (d : A) (xs ys : List A) (i : ℕ) → i < length xs → nth d (xs ++ ys) i ≡ nth d xs i
 unfolding nth
 nth-append d [] ys i h = absurd (omega arith)
 nth-append d (x ∷ xs) ys zero h = refl
 nth-append d (x ∷ xs) ys (suc i) h = nth-append d xs ys i (omega arith)
 
+-- the index at the end of a list reads the element that was appended
 pub nth-last : {A : Type 0} (d : A) (xs : List A) (y : A) → nth d (xs ++ y ∷ []) (length xs) ≡ y
 unfolding nth
 nth-last d [] y = refl
 nth-last d (x ∷ xs) y = nth-last d xs y
 
+-- an index after a cut at the front reads what stood as many places further on
 pub nth-drop : {A : Type 0} (d : A) (j : ℕ) (xs : List A) (i : ℕ) → nth d (drop j xs) i ≡ nth d xs (i + j)
 unfolding nth
 nth-drop d zero xs i = let e : i + 0 ≡ i = omega arith in rw e
 nth-drop d (suc j) [] i = refl
 nth-drop d (suc j) (x ∷ xs) i = let e : i + suc j ≡ suc (i + j) = omega arith in rw e (nth-drop d j xs i)
 
+-- the index that was written reads what was written
 pub nth-put_same : {A : Type 0} (d : A) (xs : List A) (i : ℕ) (v : A) → nth d (put d xs i v) i ≡ v
 unfolding nth put
 nth-put_same d [] zero v = refl
@@ -30,6 +34,7 @@ nth-put_same d [] (suc i) v = nth-put_same d [] i v
 nth-put_same d (x ∷ xs) zero v = refl
 nth-put_same d (x ∷ xs) (suc i) v = nth-put_same d xs i v
 
+-- each other index than the one written reads as before
 pub nth-put_other : {A : Type 0} (d : A) (xs : List A) (i j : ℕ) (v : A) → i ≢ j → nth d (put d xs i v) j ≡ nth d xs j
 unfolding nth put
 nth-put_other d [] zero zero v h = absurd (h refl)
@@ -41,6 +46,7 @@ nth-put_other d (x ∷ xs) zero (suc j) v h = refl
 nth-put_other d (x ∷ xs) (suc i) zero v h = refl
 nth-put_other d (x ∷ xs) (suc i) (suc j) v h = nth-put_other d xs i j v (λ e. h (ap suc e))
 
+-- if the index is within the list, then writing there leaves the length
 pub length-put : {A : Type 0} (d : A) (xs : List A) (i : ℕ) (v : A) → i < length xs → length (put d xs i v) ≡ length xs
 unfolding put
 length-put d [] i v h = absurd (omega arith)
@@ -61,6 +67,7 @@ nth-past d [] i h = refl
 nth-past d (x ∷ xs) zero h = absurd (omega arith)
 nth-past d (x ∷ xs) (suc i) h = nth-past d xs i (omega arith)
 
+-- an index within a list of one value repeated reads that value
 pub nth-replicate : {A : Type 0} (d v : A) (n i : ℕ) → i < n → nth d (replicate n v) i ≡ v
 unfolding nth
 nth-replicate d v zero i h = absurd (omega arith)
@@ -69,6 +76,7 @@ nth-replicate d v (suc n) (suc i) h = nth-replicate d v n i (omega arith)
 
 -- ---- the lists of the code
 
+-- reading with a default is std's get_or
 pub nth-get_or : {A : Type 0} (d : A) (xs : List A) (i : ℕ) → nth d xs i ≡ get_or xs i d
 unfolding nth
 nth-get_or d [] i = refl
@@ -94,20 +102,24 @@ nth_found d [] i x e = cc
 nth_found d (y ∷ ys) zero x e = cc
 nth_found d (y ∷ ys) (suc i) x e = nth_found d ys i x e
 
+-- if a list has nothing at an index, then reading there gives the default
 pub nth_none : {A : Type 0} (d : A) (xs : List A) (i : ℕ) → None ≡ slice_get xs i → nth d xs i ≡ d
 unfolding nth
 nth_none d [] i e = refl
 nth_none d (y ∷ ys) zero e = cc
 nth_none d (y ∷ ys) (suc i) e = nth_none d ys i e
 
+-- if the index is within the list, then writing there is std's set
 pub put-set : {A : Type 0} (d : A) (xs : List A) (i : ℕ) (v : A) → i < length xs → put d xs i v ≡ set xs i v
 unfolding put
 put-set d [] i v h = absurd (omega arith)
 put-set d (x ∷ xs) zero v h = refl
 put-set d (x ∷ xs) (suc i) v h = ap (λ l. x ∷ l) (put-set d xs i v (omega arith))
 
+-- if what stands at an index is set there again, then the list stays
 pub set-nth : {A : Type 0} (d : A) (xs : List A) (i : ℕ) → i < length xs → set xs i (nth d xs i) ≡ xs
 set-nth d xs i h = sym (put-set d xs i (nth d xs i) h) ∙ put-nth d xs i h
 
+-- the index that was set reads what was set
 pub nth-set_same : {A : Type 0} (d : A) (xs : List A) (i : ℕ) (v : A) → i < length xs → nth d (set xs i v) i ≡ v
 nth-set_same d xs i v h = ap (λ l. nth d l i) (sym (put-set d xs i v h)) ∙ nth-put_same d xs i v

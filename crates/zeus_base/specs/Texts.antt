@@ -44,6 +44,7 @@ same_text-take s t h g =
     let parts = Decides-and (s.len == t.len) (bytes_eq s.bytes t.bytes) (Decides-eqb s.len t.len) bytes in
     same_from_decides ((s.len == t.len) && bytes_eq s.bytes t.bytes) (same_text (take s.len s.bytes) (take t.len t.bytes)) parts (λ e. (ap (λ (k : Inside). k.len) (back (texts.0 e)), ap (λ (k : Inside). k.bytes) (back (texts.0 e))), λ p. texts.1 (ap (λ (n : ℕ). take n s.bytes) p.0 ∙ ap (λ (bs : List ℕ). take t.len bs) p.1))
 
+-- if two padded texts are of one length, then comparing their 32 bytes compares the texts
 pub same_text-length : (s t : Inside) (r : Bool) → IsPadded s → IsPadded t → s.len ≡ t.len → r ≡ bytes_eq s.bytes t.bytes → r ≡ same_text (take s.len s.bytes) (take t.len t.bytes)
 same_text-length s t r h g same is =
     rw (← same_text-take s t h g, eq-eqb s.len t.len same) is

@@ -24,12 +24,15 @@ use Rattle.zeus_packet.specs.declared.write.Write.{Write}
 unfoldable pub nodes_fit : Limits → List ℕ → Bool
 nodes_fit limits ns = list_all (λ n. nat_lt n limits.nodes) ns
 
+-- a stream has a node and a slot of the limits
 unfoldable pub stream_fits : Limits → Stream → Bool
 stream_fits limits s = nat_lt s.node limits.nodes && nat_lt s.slot limits.slots
 
+-- the driver of a stamp is a node of the limits
 unfoldable pub stamp_fits : Limits → Stamp → Bool
 stamp_fits limits s = nat_lt s.driver limits.nodes
 
+-- an object is below the number of objects
 unfoldable pub object_fits : Limits → ℕ → Bool
 object_fits limits x = nat_lt x limits.objects
 
@@ -43,6 +46,7 @@ want_fits Own requester base = true
 want_fits Read requester base = true
 want_fits Leave requester base = not (base.owner == requester) && has requester base.replicas
 
+-- the stamps, the requester, the base place and the wish of a proposal fit
 unfoldable pub proposal_fits : Limits → Proposal → Bool
 proposal_fits limits p =
     stamp_fits limits p.stamp && nat_lt p.requester limits.nodes && stamp_fits limits p.base
@@ -53,6 +57,7 @@ unfoldable pub value_fits : Limits → Value → Bool
 value_fits limits (Num n) = true
 value_fits limits (Text t) = limits.version == 2
 
+-- a write has an object and a value of the limits
 unfoldable pub write_fits : Limits → Write → Bool
 write_fits limits w = object_fits limits w.obj && value_fits limits w.value
 
@@ -71,6 +76,7 @@ inv_fits limits r =
     stream_fits limits r.stream && nat_lt r.number 4294967295 && nat_le r.done r.number && nodes_fit limits r.followers
     && writes_fit limits r.writes
 
+-- if a content is sent along, then its value fits
 unfoldable pub content_fits : Limits → Option Content → Bool
 content_fits limits None = true
 content_fits limits (Some c) = value_fits limits c.value
@@ -96,6 +102,7 @@ cause_fits limits NotArbiter = true
 cause_fits limits NotCollector = true
 cause_fits limits OwnPlace = true
 
+-- each field of a letter's body keeps its range
 unfoldable pub body_fits : Limits → Body → Bool
 body_fits limits (RInv r) = inv_fits limits r
 body_fits limits (RAck s number) = stream_fits limits s

@@ -66,11 +66,13 @@ u16_at = do
   bytes ← bytes_at 2
   gives (from_be_bytes w16 bytes)
 
+-- a number of four bytes
 unfoldable pub u32_at : Reader ℕ
 u32_at = do
   bytes ← bytes_at 4
   gives (from_be_bytes w32 bytes)
 
+-- a number of eight bytes
 unfoldable pub u64_at : Reader ℕ
 u64_at = do
   bytes ← bytes_at 8
@@ -80,9 +82,11 @@ u64_at = do
 unfoldable pub node_at : Limits → Reader ℕ
 node_at limits = checked (λ n. nat_lt n limits.nodes) u8_at
 
+-- a slot is below the number of slots
 unfoldable pub slot_at : Limits → Reader ℕ
 slot_at limits = checked (λ s. nat_lt s limits.slots) u8_at
 
+-- an object is below the number of objects
 unfoldable pub object_at : Limits → Reader ℕ
 object_at limits = checked (λ x. nat_lt x limits.objects) u16_at
 
@@ -115,6 +119,7 @@ unfoldable pub may_own : Option ℕ → ℕ → Bool
 may_own None n = true
 may_own (Some leaver) n = not (n == leaver)
 
+-- who leaves, if anyone, is in the set
 unfoldable pub has_leaver : Option ℕ → List ℕ → Bool
 has_leaver None ns = true
 has_leaver (Some leaver) ns = has leaver ns

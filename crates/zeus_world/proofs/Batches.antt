@@ -13,16 +13,19 @@ use Rattle.lossy_fabric.specs.Links.{LinkState, letters, numbered, room, row_let
 use Rattle.zeus_world.specs.Posting.{AreFrom, CanPost}
 use Rattle.lossy_fabric.proofs.Sending.{letters-nth}
 
+-- there are as many rows of letters as rows of links
 pub length-letters : (rows : List (List LinkState)) → length (letters rows) ≡ length rows
 unfolding letters
 length-letters [] = refl
 length-letters (r ∷ rows) = ap suc (length-letters rows)
 
+-- a row has letters for as many receivers as it has links
 pub length-row_letters : (ls : List LinkState) → length (row_letters ls) ≡ length ls
 unfolding row_letters
 length-row_letters [] = refl
 length-row_letters (l ∷ ls) = ap suc (length-row_letters ls)
 
+-- a sender has as many links as lists of letters
 pub length-row : (rows : List (List LinkState)) (i : ℕ) → length (nth [] rows i) ≡ length (nth [] (letters rows) i)
 length-row rows i = sym (length-row_letters (nth [] rows i)) ∙ ap length (sym (letters-nth rows i))
 
@@ -30,10 +33,12 @@ length-row rows i = sym (length-row_letters (nth [] rows i)) ∙ ap length (sym 
 pub length-posted : (links : List (List (List Letter))) (l : Letter) → l.from < length links → length (posted links l) ≡ length links
 length-posted links l h = length-put [] links l.from _ h
 
+-- after a letter of links that there are is posted, its sender has as many links as before
 pub length-posted_row : (links : List (List (List Letter))) (l : Letter) → l.from < length links → l.to < length (nth [] links l.from) → length (nth [] (posted links l) l.from) ≡ length (nth [] links l.from)
 length-posted_row links l h k =
     ap length (nth-put_same [] links l.from _) ∙ length-put [] (nth [] links l.from) l.to _ k
 
+-- if a batch can be posted, then the link of its head letter is there
 pub first_link : (rows : List (List LinkState)) (l : Letter) (ls : List Letter) → CanPost rows (l ∷ ls) → IsLink rows l.from l.to
 unfolding AreFrom
 first_link rows l ls c =
@@ -43,10 +48,12 @@ first_link rows l ls c =
       to = rw (from) c.receivers.0.1;
     }
 
+-- if a batch can be posted, then its head letter fits the largest limits
 pub first_fits : (rows : List (List LinkState)) (l : Letter) (ls : List Letter) → CanPost rows (l ∷ ls) → fits l (largest 2) ≡ true
 unfolding AreFrom
 first_fits rows l ls c = c.receivers.0.2
 
+-- if a batch can be posted, then the link of its head letter has room for one more
 pub first_room : (rows : List (List LinkState)) (l : Letter) (ls : List Letter) → CanPost rows (l ∷ ls) → 0 < room rows l.from l.to
 unfolding AreFrom HasRoom
 first_room rows l ls c =
@@ -81,6 +88,7 @@ later_post rows after l ls c e r =
 pub drop-here : {A : Type 0} (xs : List A) (i : ℕ) (x : A) → i < length xs → x ≡ get_or xs i x → drop i xs ≡ x ∷ drop (i + 1) xs
 drop-here xs i x h is = rw (add-one, drop-cons xs i x h, ← is) refl
 
+-- past the end of a list nothing is left
 pub drop-end : {A : Type 0} (xs : List A) (i : ℕ) → length xs ≤ i → drop i xs ≡ []
 drop-end [] zero h = refl
 drop-end [] (suc i) h = refl
@@ -92,6 +100,7 @@ pub posted_first : (links : List (List (List Letter))) (l : Letter) (ls : List L
 unfolding all_posted
 posted_first links l ls = refl
 
+-- a batch without a letter leaves the links
 pub posted_none : (links : List (List (List Letter))) → links ≡ all_posted links []
 unfolding all_posted
 posted_none links = refl
@@ -101,6 +110,7 @@ pub noted_first : (before : List Packet) (links : List (List (List Letter))) (l 
 unfolding packets
 noted_first before links l ls n e = rw (append_assoc, e) refl
 
+-- a batch without a letter notes no packet
 pub noted_none : (before : List Packet) (links : List (List (List Letter))) → before ≡ before ++ packets links []
 unfolding packets
 noted_none before links = sym (append-nil before)

@@ -60,6 +60,7 @@ written_least (w ∷ ws) m =
     let rest = written_least ws (put no_content m w.0 v) in
     omega arith
 
+-- if no version is past its count, then after a transaction that names at most 8 objects none is past one more
 pub versions_after : (o k : ℕ) (m : List Versioned) (tx : List Op) → HasVersions o k m → length (named tx) ≤ 8 → HasVersions o (k + 1) (applied_map m tx)
 versions_after o k m tx h few =
     let writes = run-few (λ x. (content m x).value) tx in
@@ -80,6 +81,7 @@ start_size : (os : List ObjectDecl) → length os ≤ length (map declared_conte
 start_size [] = omega arith
 start_size (o ∷ os) = let rest = start_size os in omega arith
 
+-- at the start no version is past 0
 pub versions_start : (c : Config) → HasVersions (length c.objects) 0 (start_map c)
 unfolding start_map
 versions_start c = record { size = start_size c.objects; few = start_vers c.objects }
@@ -102,6 +104,7 @@ pub ops_there : (w : World) (place : ℕ) (p : Point) (t : TxDecl) → slice_get
 unfolding ops_at
 ops_there w place p t point tx = ap (λ (q : Point). (tx_decl w q.id).tx) (nth_found no_point w.book.points place p (sym point)) ∙ ap (λ (d : TxDecl). d.tx) (nth_found no_tx w.txs p.id t tx)
 
+-- if the point at a place is of no declared transaction, then there are no operations at that place
 pub ops_none : (w : World) (place : ℕ) (p : Point) → slice_get w.book.points place ≡ Some p → None ≡ slice_get w.txs p.id → ops_at w place ≡ []
 unfolding ops_at
 ops_none w place p point tx = ap (λ (q : Point). (tx_decl w q.id).tx) (nth_found no_point w.book.points place p (sym point)) ∙ ap (λ (d : TxDecl). d.tx) (nth_none no_tx w.txs p.id tx)
@@ -119,6 +122,7 @@ names_objects w k t m r is size =
     let each : All (λ x. x < length w.config.objects) (named t.tx) = rw same at (FitsTx-declared w.config k (tx_decl w k) fits).named in
     All-weaker (λ x. x < length w.config.objects) (λ x. x < length m) (λ x less. omega arith) (named t.tx) each
 
+-- a declared transaction of a ranged world names at most 8 objects
 pub names_few : (w : World) (k : ℕ) (t : TxDecl) → IsRanged w → Some t ≡ slice_get w.txs k → length (named t.tx) ≤ 8
 names_few w k t r is =
     let fits = tx_fits w k r (slice_get_within w.txs k t (sym is)) in

@@ -21,6 +21,7 @@ use Rattle.zeus_world.specs.Shown.{IsKept}
 use Rattle.zeus_world.specs.Taken.{IsTaken}
 use Rattle.zeus_world.specs.declared.report.Report.{Report}
 
+-- if some steps lead to the world and the book is of its configuration, then the world is known
 pub known : (w : World) (b : BookState) → IsKept w b → IsKnown w
 known w b k = reached_known w k.reached
 
@@ -96,11 +97,13 @@ kept_after w v s b c k f e nodes slots =
 
 -- ---- what a step ensures
 
+-- if every run keeps its promise, then so does the world after a step that fits
 pub promised_stepped : (w v : World) (s t : Step) → IsReached w → FitsStep w.config (length w.txs) s → EveryRunKeepsItsPromise → s ≡ t → v ≡ (happens w t).world → HasPromise v
 promised_stepped w v s t r f promise is e =
     let after : v ≡ stepped w s = e ∙ ap (λ (u : Step). stepped w u) (sym is) in
     rw after (reached_promised (stepped w s) (reached_step w s r f) promise)
 
+-- if every run keeps its promise, then so does the world after a call, whether the step was taken or memory was wanting
 pub promised_after : (w v : World) (s t : Step) (report : Report) (r : Result (Unit {0}) NoMemory) → IsReached w → FitsStep w.config (length w.txs) s → EveryRunKeepsItsPromise → s ≡ t
     → IfOk r (λ u. IsTaken report v (happens w t)) → OnErr r (v ≡ w) → HasPromise v
 promised_after w v s t report (Ok u) r f promise is ok err = promised_stepped w v s t r f promise is ok.becomes

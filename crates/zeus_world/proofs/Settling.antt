@@ -43,6 +43,7 @@ pub record IsMade (c : BookChange) (b : BookState) (ps qs : IdsState) : Type 0 w
   pub points : ps.ids ≡ c.points
   pub acks : qs.ids ≡ c.acked
 
+-- if a call leaves the lists of a change equation, then the book and the lists are those of the change
 pub made : (c : BookChange) (b : BookState) (points acked : IdsState) → so_far b points acked ≡ c → IsMade c b points acked
 made c b points acked e = record {
   book = ap (λ (d : BookChange). d.book) e;
@@ -81,6 +82,7 @@ room_most : (L : List LinkState) (count most : ℕ) → count ≤ most → HasRo
 unfolding HasRoom
 room_most L count most h r to k = let m = r to k in omega arith
 
+-- if the letters of a node's act fit, and each of its links has room for 64, then those that it said can be posted
 pub can_post : (w : World) (n : ℕ) (all said : List Letter) (L : List (List LinkState)) → said ≡ take 64 all → IsRanged w → n < w.config.nodes → letters L ≡ w.links → AreBy n all → AllFit (limits_of w.config) all → HasRoom 64 (nth [] L n) → CanPost L said
 can_post w n all said L is r h e by fit room =
     let size : length L ≡ w.config.nodes = sym (length-letters L) ∙ ap length e ∙ r.senders in
@@ -96,11 +98,13 @@ can_post w n all said L is r h e by fit room =
 pub sender_there : (w : World) (n : ℕ) (L : List (List LinkState)) → IsRanged w → n < w.config.nodes → letters L ≡ w.links → n < length L
 sender_there w n L r h e = let size : length L ≡ w.config.nodes = sym (length-letters L) ∙ ap length e ∙ r.senders in rw size h
 
+-- at most 64 letters are said
 pub few_letters : (said all : List Letter) → said ≡ take 64 all → length said ≤ 64
 few_letters said all e = rw e (length-take-most 64 all)
 
 -- ---- the lists of a report
 
+-- if both lists have room for as many ids as there are records, then the book's lists have theirs
 pub has_lists : (b : Book) (count : ℕ) (points acked : IdsState) → count ≡ length b.records → count ≤ points.room → count ≤ acked.room → HasLists b points acked
 has_lists b count points acked e p a =
     let one = how_many-most has_no_point b.records in
@@ -109,6 +113,7 @@ has_lists b count points acked e p a =
 
 -- ---- the world after it
 
+-- the world with other nodes, links and book
 abbrev pub world_with : World → List Node → List (List (List Letter)) → Book → World
 world_with w nodes links book = record { config = w.config; txs = w.txs; nodes = nodes; links = links; views = w.views; book = book }
 
@@ -158,12 +163,14 @@ quiet_taken w n after a c links b r h e f p q alone =
 
 -- ---- links that are there, and a world that only counts
 
+-- if two nodes are of the configuration, then the link between them is there
 pub link_there : (w : World) (from to : ℕ) (L : List (List LinkState)) → IsRanged w → from < w.config.nodes → to < w.config.nodes → letters L ≡ w.links → IsLink L from to
 link_there w from to L r h k e =
     let size : length L ≡ w.config.nodes = sym (length-letters L) ∙ ap length e ∙ r.senders in
     let row : length (nth [] L from) ≡ w.config.nodes = length-row L from ∙ ap (λ (x : List (List (List Letter))). length (nth [] x from)) e ∙ r.receivers from h in
     record { from = rw size h; to = rw row k }
 
+-- if a step is refused with an answer, and the report tells it alone, then the report tells what happens
 pub alone_as : (w : World) (a : Answer) (r : Report) (e : Event) (links : List (List (List Letter))) (b : Book) → e ≡ refuse_step w a → links ≡ w.links → b ≡ counted w.book → IsAlone a r → IsTaken r (world_with w w.nodes links b) e
 alone_as w a r e links b is f g alone =
     alone_taken w (world_with w w.nodes links b) a r e is

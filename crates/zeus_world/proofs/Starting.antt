@@ -33,6 +33,7 @@ unfolding letters
 rows_none zero n = refl
 rows_none (suc m) n = ap (λ (r : List (List Letter)). r ∷ letters (replicate m (replicate n no_link))) (row_none n) ∙ ap (λ (rs : List (List (List Letter))). replicate n [] ∷ rs) (rows_none m n)
 
+-- the world of a configuration, transactions, nodes, links, views and book
 abbrev pub world_made : Config → List TxDecl → List Node → List (List (List Letter)) → List (List ℕ) → Book → World
 world_made c txs nodes links views book = record { config = c; txs = txs; nodes = nodes; links = links; views = views; book = book }
 

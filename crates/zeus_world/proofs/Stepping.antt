@@ -53,6 +53,7 @@ use Rattle.zeus_world.proofs.Settling.{IsMade, can_post, few_letters, quiet_take
 
 -- ---- a node of the world
 
+-- the node of this number is there, is the world's, has its number, and keeps its ranges
 pub record IsNodeAt (w : World) (n : ℕ) (k : Node) : Type 0 where
   pub there : n < w.config.nodes
   pub place : n < length w.nodes
@@ -60,6 +61,7 @@ pub record IsNodeAt (w : World) (n : ℕ) (k : Node) : Type 0 where
   pub number : k.me ≡ n
   pub keeps : KeepsRanges (limits_of w.config) k
 
+-- if a number is of the configuration of a ranged world, then its node is there
 pub node_at : (w : World) (n : ℕ) (k : Node) → IsRanged w → n < w.config.nodes → k ≡ get_or w.nodes n k → IsNodeAt w n k
 node_at w n k r h e =
     let place : n < length w.nodes = rw r.count h in
@@ -72,23 +74,27 @@ node_at w n k r h e =
       keeps = subst (KeepsRanges (limits_of w.config)) same (r.ranges n h);
     }
 
+-- a number of the configuration of a ranged world is within its nodes
 pub place_there : (w : World) (n : ℕ) → IsRanged w → n < w.config.nodes → n < length w.nodes
 place_there w n r h = rw r.count h
 
 -- ---- a node has acted
 
+-- a node answers, becomes, sends the 64 letters at most, and passes what the rules say
 pub record HasActed {A : Type 0} (d : Did A) (answer : A) (after : Node) (said : List Letter) (passed : List Passed) : Type 0 where
   pub says : answer ≡ d.answer
   pub becomes : after ≡ d.node
   pub sends : said ≡ take 64 d.sent
   pub passes : passed ≡ d.passed
 
+-- if the letters of a node's act fit, the links have room for 64, and book and lists have theirs, then it can be settled
 pub can_settle : (w : World) (n : ℕ) (all said : List Letter) (b : BookState) (L : List (List LinkState)) (r : Report) → said ≡ take 64 all → IsRanged w → n < w.config.nodes → letters L ≡ w.links
     → AreBy n all → AllFit (limits_of w.config) all → HasRoom 64 (nth [] L n) → b.book.steps + 1 < 2 ^ 64 → HasLists b.book r.points r.acked → 64 ≤ r.sent.room → CanSettle b L said r
 can_settle w n all said b L r is ranged h e by fit room steps lists most =
     let few = few_letters said all is in
     record { counts = steps; post = can_post w n all said L is ranged h e by fit room; lists = lists; packets = omega arith }
 
+-- if a node has acted and its act was settled, then the report tells it, and the world is the one after it
 pub settled_as : {A : Type 0} (w : World) (n : ℕ) (wrap : A → Answer) (d : Did A) (answer : A) (after : Node) (said : List Letter) (passed : List Passed) (c : BookChange) (b b' : BookState) (L L' : List (List LinkState)) (r s : Report)
     → HasActed d answer after said passed → n < length w.nodes → letters L ≡ w.links → IsMade c b r.points r.acked → r.sent.packets ≡ [] → r.answer ≡ wrap answer → IsSettled n said passed b b' L L' r s
     → IsTaken s (world_with w (set w.nodes n after) (letters L') b'.book) (acted w n d.node (wrap d.answer) (take 64 d.sent) (change_then c (λ e. book_passes e n (in_stream_order d.passed))))
@@ -101,23 +107,27 @@ no_passes : (w : World) (n : ℕ) (ps : List Passed) → ps ≡ [] → book_only
 unfolding book_passes in_stream_order
 no_passes w n ps h = rw h refl
 
+-- a tick is what the node's tick does, and the book notes its passes
 pub tick_happens : (w : World) (n : ℕ) (k : Node) → IsNodeAt w n k
     → happens w (Tick n) ≡ acted w n (tick k).node (TickAnswer (tick k).answer) (take 64 (tick k).sent) (change_then (book_only w.book) (λ e. book_passes e n (in_stream_order (tick k).passed)))
 unfolding happens ticked_at
 tick_happens w n k at =
     ap (λ (m : Node). ticked_at w n (tick m)) at.same ∙ ap (λ (c : BookChange). acted w n (tick k).node (TickAnswer (tick k).answer) (take 64 (tick k).sent) c) (no_passes w n (tick k).passed (tick-passed k))
 
+-- a try of a slot is what the node's try does, with what the book says of it
 pub try_happens : (w : World) (n s : ℕ) (k : Node) → IsNodeAt w n k
     → happens w (Try n s) ≡ acted w n (try_slot k s).node (TryAnswer (try_slot k s).answer) (take 64 (try_slot k s).sent)
     (change_then (book_tried w.book record { node = n; slot = s } w.config.degree (try_slot k s).answer) (λ e. book_passes e n (in_stream_order (try_slot k s).passed)))
 unfolding happens tried_at
 try_happens w n s k at = ap (λ (m : Node). tried_at w n s (try_slot m s)) at.same
 
+-- if there is a packet at the place, then a delivery is what the node does with its letter, and the book notes its passes
 pub deliver_happens : (w : World) (from to i : ℕ) (l : Letter) (k : Node) → IsNodeAt w to k → nth_letter (link w.links from to) i ≡ Some l
     → happens w (Deliver from to i) ≡ acted w to (receive k l).node (ReceiveAnswer (receive k l).answer) (take 64 (receive k l).sent) (change_then (book_only w.book) (λ e. book_passes e to (in_stream_order (receive k l).passed)))
 unfolding happens deliver_or_not received_at
 deliver_happens w from to i l k at is = ap (deliver_or_not w from to) is ∙ ap (λ (m : Node). received_at w to (receive m l)) at.same
 
+-- if there is no packet at the place, then a delivery is refused with the count of packets
 pub deliver_none : (w : World) (from to i : ℕ) → nth_letter (link w.links from to) i ≡ None → happens w (Deliver from to i) ≡ refuse_step w (NoPacket (length (link w.links from to)))
 unfolding happens deliver_or_not
 deliver_none w from to i is = ap (deliver_or_not w from to) is
@@ -128,6 +138,7 @@ either_false test a b h = rw h refl
 either_true : {A : Type 0} (test : Bool) (a b : A) → test ≡ true → (if test then a else b) ≡ a
 either_true test a b h = rw h refl
 
+-- if the epoch has a view, then an install is what the node does with it, and the book notes its passes
 pub install_happens : (w : World) (n e : ℕ) (v : ViewOf) (k : Node) → IsNodeAt w n k → e ≤ length w.views → v ≡ record { epoch = e; members = nth [] w.views (e - 1) }
     → happens w (Install n e) ≡ acted w n (install k v).node (InstallAnswer (install k v).answer) (take 64 (install k v).sent) (change_then (book_only w.book) (λ d. book_passes d n (in_stream_order (install k v).passed)))
 unfolding happens step_install installed_at
@@ -136,66 +147,80 @@ install_happens w n e v k at h is =
     either_false (nat_lt (length w.views) e) (refuse_step w (NoView (length w.views))) _ test
     ∙ ap (λ (u : ViewOf). installed_at w n (install (node w n) u)) (sym is) ∙ ap (λ (m : Node). installed_at w n (install m v)) at.same
 
+-- if the epoch has no view, then an install is refused with the count of views
 pub install_none : (w : World) (n e : ℕ) → length w.views < e → happens w (Install n e) ≡ refuse_step w (NoView (length w.views))
 unfolding happens step_install
 install_none w n e h =
     let test : nat_lt (length w.views) e ≡ true = grind (arith, nat_tests) in
     either_true (nat_lt (length w.views) e) (refuse_step w (NoView (length w.views))) _ test
 
+-- a stop is what the node's stop does, and the book stays
 pub stop_happens : (w : World) (n : ℕ) (k : Node) → IsNodeAt w n k → happens w (Stop n) ≡ acted w n (stop k).node (StopAnswer (stop k).answer) [] (book_only w.book)
 unfolding happens stopped_at
 stop_happens w n k at = ap (λ (m : Node). stopped_at w n (stop m)) at.same
 
+-- if nothing stands against a begin, then it is what the node's begin does, with what the book says of it
 pub begin_happens : (w : World) (k : ℕ) (n : Node) → IsNodeAt w (tx_decl w k).node n → None ≡ begin_refused w k
     → happens w (Begin k) ≡ acted w (tx_decl w k).node (begin n (tx_decl w k).slot k (tx_decl w k).tx).node (BeginAnswer (begin n (tx_decl w k).slot k (tx_decl w k).tx).answer) [] (book_begun w.book k (begin n (tx_decl w k).slot k (tx_decl w k).tx).answer)
 unfolding happens step_begin begin_or_not
 begin_happens w k n at is =
     ap (begin_or_not w k) (sym is) ∙ ap (λ (m : Node). begun_at w k (tx_decl w k).node (begin m (tx_decl w k).slot k (tx_decl w k).tx)) at.same
 
+-- if something stands against a begin, then it is refused with that
 pub begin_none : (w : World) (k : ℕ) (a : Answer) → Some a ≡ begin_refused w k → happens w (Begin k) ≡ refuse_step w a
 unfolding happens step_begin begin_or_not
 begin_none w k a is = ap (begin_or_not w k) (sym is)
 
 -- ---- what fits
 
+-- a begin fits if its transaction is declared
 pub fits_begin : (c : Config) (txs k : ℕ) → k < txs → FitsStep c txs (Begin k)
 unfolding FitsStep
 fits_begin c txs k h = h
 
+-- a stop fits if its node is of the configuration
 pub fits_stop : (c : Config) (txs n : ℕ) → n < c.nodes → FitsStep c txs (Stop n)
 unfolding FitsStep
 fits_stop c txs n h = h
 
+-- if a tick fits, then its node is of the configuration
 pub tick_fits : (c : Config) (txs n : ℕ) → FitsStep c txs (Tick n) → n < c.nodes
 unfolding FitsStep
 tick_fits c txs n h = h
 
+-- the node and the slot are of the configuration
 pub record HasPlaces (c : Config) (n s : ℕ) : Type 0 where
   pub node : n < c.nodes
   pub slot : s < c.slots
 
+-- if a try fits, then its node and its slot are of the configuration
 pub try_fits : (c : Config) (txs n s : ℕ) → FitsStep c txs (Try n s) → HasPlaces c n s
 unfolding FitsStep
 try_fits c txs n s h = record { node = h.0; slot = h.1 }
 
+-- sender and receiver are of the configuration
 pub record HasNodes (c : Config) (from to : ℕ) : Type 0 where
   pub sender : from < c.nodes
   pub receiver : to < c.nodes
 
+-- if a delivery fits, then its sender and its receiver are of the configuration
 pub deliver_fits : (c : Config) (txs from to i : ℕ) → FitsStep c txs (Deliver from to i) → HasNodes c from to
 unfolding FitsStep
 deliver_fits c txs from to i h = record { sender = h.0; receiver = h.1 }
 
+-- the node is of the configuration, and the epoch is at least 1
 pub record HasEpoch (c : Config) (n e : ℕ) : Type 0 where
   pub node : n < c.nodes
   pub first : 1 ≤ e
 
+-- if an install fits, then its node is of the configuration and its epoch is at least 1
 pub install_fits : (c : Config) (txs n e : ℕ) → FitsStep c txs (Install n e) → HasEpoch c n e
 unfolding FitsStep
 install_fits c txs n e h = record { node = h.0; first = h.1 }
 
 -- ---- what is taken
 
+-- if a node stopped and nothing else is told, then the report and the world are those of the stop
 pub stop_taken : (w : World) (n : ℕ) (k after : Node) (t : Stopping) (links : List (List (List Letter))) (b : Book) (r : Report) → IsNodeAt w n k → t ≡ (stop k).answer → after ≡ (stop k).node
     → links ≡ w.links → b ≡ counted w.book → IsAlone (StopAnswer t) r → IsTaken r (world_with w (set w.nodes n after) links b) (happens w (Stop n))
 stop_taken w n k after t links b r at says becomes e f alone =
@@ -212,6 +237,7 @@ begun_quiet b k Begun = record { points = refl; acks = refl }
 begun_quiet b k (Busy id) = record { points = refl; acks = refl }
 begun_quiet b k BeginStopped = record { points = refl; acks = refl }
 
+-- if a node began a transaction and nothing else is told, then the report and the world are those of the begin
 pub begin_taken : (w : World) (k : ℕ) (n after : Node) (t : BeginOutcome) (links : List (List (List Letter))) (b : Book) (r : Report) → IsNodeAt w (tx_decl w k).node n → None ≡ begin_refused w k
     → t ≡ (begin n (tx_decl w k).slot k (tx_decl w k).tx).answer → after ≡ (begin n (tx_decl w k).slot k (tx_decl w k).tx).node
     → links ≡ w.links → b ≡ counted (book_begun w.book k t).book → IsAlone (BeginAnswer t) r → IsTaken r (world_with w (set w.nodes (tx_decl w k).node after) links b) (happens w (Begin k))
@@ -220,6 +246,7 @@ begin_taken w k n after t links b r at is says becomes e f alone =
     rw (begin_happens w k n at is, ← says, ← becomes)
     (quiet_taken w (tx_decl w k).node after (BeginAnswer t) (book_begun w.book k t) links b r at.place e f quiet.points quiet.acks alone)
 
+-- if a node ticked and its act was settled, then the report and the world are those of the tick
 pub tick_taken : (w : World) (n : ℕ) (k after : Node) (t : Ticking) (said : List Letter) (passed : List Passed) (b b' : BookState) (L L' : List (List LinkState)) (r s : Report) → IsNodeAt w n k
     → HasActed (tick k) t after said passed → letters L ≡ w.links → b.book ≡ w.book → IsAlone (TickAnswer t) r → IsSettled n said passed b b' L L' r s
     → IsTaken s (world_with w (set w.nodes n after) (letters L') b'.book) (happens w (Tick n))
@@ -227,6 +254,7 @@ tick_taken w n k after t said passed b b' L L' r s at did e f alone settled =
     rw (tick_happens w n k at)
     (settled_as w n TickAnswer (tick k) t after said passed (book_only w.book) b b' L L' r s did at.place e (record { book = f; points = alone.points; acks = alone.acked }) alone.sent alone.says settled)
 
+-- if a node received a packet's letter and its act was settled, then the report and the world are those of the delivery
 pub deliver_taken : (w : World) (from to i : ℕ) (l : Letter) (k after : Node) (t : Receiving) (said : List Letter) (passed : List Passed) (b b' : BookState) (L L' : List (List LinkState)) (r s : Report) → IsNodeAt w to k
     → nth_letter (link w.links from to) i ≡ Some l
     → HasActed (receive k l) t after said passed → letters L ≡ w.links → b.book ≡ w.book → IsAlone (ReceiveAnswer t) r → IsSettled to said passed b b' L L' r s
@@ -235,6 +263,7 @@ deliver_taken w from to i l k after t said passed b b' L L' r s at is did e f al
     rw (deliver_happens w from to i l k at is)
     (settled_as w to ReceiveAnswer (receive k l) t after said passed (book_only w.book) b b' L L' r s did at.place e (record { book = f; points = alone.points; acks = alone.acked }) alone.sent alone.says settled)
 
+-- if a node installed a view and its act was settled, then the report and the world are those of the install
 pub install_taken : (w : World) (n e : ℕ) (v : ViewOf) (k after : Node) (t : Installing) (said : List Letter) (passed : List Passed) (b b' : BookState) (L L' : List (List LinkState)) (r s : Report) → IsNodeAt w n k
     → e ≤ length w.views → v ≡ record { epoch = e; members = nth [] w.views (e - 1) }
     → HasActed (install k v) t after said passed → letters L ≡ w.links → b.book ≡ w.book → IsAlone (InstallAnswer t) r → IsSettled n said passed b b' L L' r s
@@ -243,6 +272,7 @@ install_taken w n e v k after t said passed b b' L L' r s at less is did f g alo
     rw (install_happens w n e v k at less is)
     (settled_as w n InstallAnswer (install k v) t after said passed (book_only w.book) b b' L L' r s did at.place f (record { book = g; points = alone.points; acks = alone.acked }) alone.sent alone.says settled)
 
+-- if a slot was tried and its act was settled, then the report and the world are those of the try
 pub try_taken : (w : World) (n slot : ℕ) (k after : Node) (t : Tried) (said : List Letter) (passed : List Passed) (b b' : BookState) (L L' : List (List LinkState)) (r s : Report) → IsNodeAt w n k
     → HasActed (try_slot k slot) t after said passed → letters L ≡ w.links → IsMade (book_tried w.book record { node = n; slot = slot } w.config.degree t) b r.points r.acked → r.sent.packets ≡ [] → r.answer ≡ TryAnswer t
     → IsSettled n said passed b b' L L' r s
@@ -253,10 +283,12 @@ try_taken w n slot k after t said passed b b' L L' r s at did e m none says sett
 
 -- ---- what the nodes' calls and the book ask
 
+-- members that fit the limits of the world fit those of a node that keeps them
 pub members_fit : (limits : Limits) (n : Node) (ms : List ℕ) → KeepsRanges limits n → nodes_fit limits ms ≡ true → nodes_fit (node_limits n) ms ≡ true
 unfolding nodes_fit
 members_fit limits n ms k h = rw k.sizes.nodes h
 
+-- if a node of a known world tried a slot, then the book can note the answer
 pub can_try : (w : World) (n s : ℕ) (k : Node) (t : Tried) (b : BookState) → IsKnown w → IsNodeAt w n k → b.book ≡ w.book → b.nodes ≡ w.config.nodes → b.slots ≡ w.config.slots → s < w.config.slots → t ≡ (try_slot k s).answer
     → CanNote b (record { node = n; slot = s }) t
 can_try w n s k t b known at book nodes slots h e =
@@ -277,6 +309,7 @@ pub epoch_past : (n e : ℕ) → (e ≡ 0) ⊎ (n < e) → 1 ≤ e → n < e
 epoch_past n e (inl nought) h = absurd (omega arith)
 epoch_past n e (inr past) h = past
 
+-- if an epoch is neither 0 nor past the last, then it is one of those that there are
 pub epoch_there : (n e : ℕ) → ((e ≡ 0) ⊎ (n < e) → true ≡ false) → e ≤ n
 epoch_there n e h = elim (cases_lt n e) [ inl past ↦ let no : true ≡ false = h (inr past) in absurd (cc) | inr there ↦ there ]
 
@@ -287,15 +320,18 @@ begun_steps b k Begun = refl
 begun_steps b k (Busy id) = refl
 begun_steps b k BeginStopped = refl
 
+-- a begin leaves room for the count of steps
 pub begun_counted : (b : Book) (k : ℕ) (a : BeginOutcome) (d : Book) → d ≡ (book_begun b k a).book → b.steps + 1 < 2 ^ 64 → d.steps + 1 < 2 ^ 64
 begun_counted b k a d e h =
     let same : d.steps ≡ b.steps = ap (λ (x : Book). x.steps) e ∙ begun_steps b k a in
     rw same h
 
+-- if a begin fits, then its transaction is declared
 pub begin_there : (c : Config) (txs k : ℕ) → FitsStep c txs (Begin k) → k < txs
 unfolding FitsStep
 begin_there c txs k h = h
 
+-- if a stop fits, then its node is of the configuration
 pub stop_there : (c : Config) (txs n : ℕ) → FitsStep c txs (Stop n) → n < c.nodes
 unfolding FitsStep
 stop_there c txs n h = h

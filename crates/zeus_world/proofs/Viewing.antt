@@ -37,9 +37,11 @@ plain_happens : (w : World) (set : List ℕ) → IsPlain w (happens w (View set)
 unfolding happens
 plain_happens w set = plain_view w set (view_refused w set)
 
+-- the world with other views and another book
 abbrev pub world_seen : World → List (List ℕ) → Book → World
 world_seen w views book = record w { views = views; book = book }
 
+-- if a view was made or refused and nothing else is told, then the report and the world are those of the step
 pub view_taken : (w : World) (set : List ℕ) (m : Made) (views : List (List ℕ)) (b : Book) (r : Report) → ViewAnswer m ≡ (happens w (View set)).answer → views ≡ (stepped w (View set)).views → b ≡ counted w.book
     → IsAlone (ViewAnswer m) r → IsTaken r (world_seen w views b) (happens w (View set))
 view_taken w set m views b r says seen book alone =
@@ -56,6 +58,7 @@ last_fits limits [] h = nodes_fit-none limits
 last_fits limits (v ∷ []) h = h 0
 last_fits limits (v ∷ (u ∷ us)) h = last_fits limits (u ∷ us) (λ i. h (suc i))
 
+-- if a set has the stopped nodes of the configuration, then the world has these views and these stopped nodes
 pub is_world_with : (w : World) (stopped : List ℕ) → IsRanged w → ((n : ℕ) → n < w.config.nodes → has n stopped ≡ (node w n).stopped) → IsWorldWith w w.views stopped
 is_world_with w stopped r h = record {
   views = refl;
@@ -79,6 +82,7 @@ added_other : (set : List ℕ) (at n : ℕ) (b : Bool) → n ≢ at → has n (i
 added_other set at n true h = has-with_other n at set h
 added_other set at n false h = refl
 
+-- if a set has the stopped nodes below a number, then with that number, if stopped, it has those below the next
 pub below_more : (w : World) (set more : List ℕ) (at : ℕ) → ((n : ℕ) → n < at → has n set ≡ (node w n).stopped) → ((n : ℕ) → at ≤ n → has n set ≡ false) → more ≡ (if (node w at).stopped then with_node at set else set)
     → (n : ℕ) → n < at + 1 → has n more ≡ (node w n).stopped
 below_more w set more at below above e n h = elim (number_or_not n at) [
@@ -86,15 +90,18 @@ below_more w set more at below above e n h = elim (number_or_not n at) [
   | inr other ↦ rw e (added_other set at n (node w at).stopped other ∙ below n (omega arith))
 ]
 
+-- if a set has no number from one on, then with that number, if stopped, it has none from the next on
 pub above_more : (w : World) (set more : List ℕ) (at : ℕ) → ((n : ℕ) → at ≤ n → has n set ≡ false) → more ≡ (if (node w at).stopped then with_node at set else set) → (n : ℕ) → at + 1 ≤ n → has n more ≡ false
 above_more w set more at above e n h = rw e (added_other set at n (node w at).stopped (λ q. omega arith) ∙ above n (omega arith))
 
 -- ---- a transaction that waits in vain
 
+-- if a transaction waits for none, then it does not wait in vain
 pub vain_none : (w : World) (links : ℕ) (o : Option ℕ) → o ≡ None → waits_in_vain w links o ≡ false
 unfolding waits_in_vain
 vain_none w links o e = rw e refl
 
+-- after no more links of the chain nothing waits in vain
 pub vain_end : (w : World) (links : ℕ) (o : Option ℕ) → links ≡ 0 → waits_in_vain w links o ≡ false
 unfolding waits_in_vain
 vain_end w links None e = refl
@@ -105,12 +112,15 @@ unfolding waits_in_vain
 vain_on w zero j h = absurd (omega arith)
 vain_on w (suc links) j h = let z : suc links - 1 ≡ links = omega arith in rw z refl
 
+-- if the transaction that is waited for is acknowledged, then nothing waits in vain
 pub vain_acked : (w : World) (links j : ℕ) (o : Option ℕ) → 0 < links → o ≡ Some j → is_acked w j ≡ true → waits_in_vain w links o ≡ false
 vain_acked w links j o h e a = rw e (vain_on w links j h ∙ (rw a refl))
 
+-- if the transaction that is waited for has ended without an acknowledgement, then it is waited for in vain
 pub vain_ended : (w : World) (links j : ℕ) (o : Option ℕ) → 0 < links → o ≡ Some j → is_acked w j ≡ false → is_ended w j ≡ true → waits_in_vain w links o ≡ true
 vain_ended w links j o h e a b = rw e (vain_on w links j h ∙ (rw (a, b) refl))
 
+-- if the transaction that is waited for has not ended, then it is waited for in vain exactly if it waits in vain itself
 pub vain_later : (w : World) (links j : ℕ) (o : Option ℕ) → 0 < links → o ≡ Some j → is_acked w j ≡ false → is_ended w j ≡ false → waits_in_vain w (links - 1) (tx_decl w j).after ≡ waits_in_vain w links o
 vain_later w links j o h e a b = sym (rw e (vain_on w links j h ∙ (rw (a, b) refl)))
 
@@ -122,10 +132,12 @@ after_there w k r h = sooner (tx_decl w k).after k (length w.txs) h (tx_fits w k
     sooner None k n h s = tt
     sooner (Some j) k n h s = omega arith
 
+-- if an optional number is there and below a bound if it is there, then it is below it
 pub some_there : (o : Option ℕ) (j n : ℕ) → o ≡ Some j → IfSome o (λ i. i < n) → j < n
 some_there None j n e h = cc
 some_there (Some i) j n e h = let same : i ≡ j = cc in rw (← same) h
 
+-- no number is in the empty set
 pub none_stopped : (n : ℕ) → has n [] ≡ false
 unfolding has
 none_stopped n = refl

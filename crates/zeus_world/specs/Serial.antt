@@ -7,6 +7,7 @@ use Rattle.zeus_model.specs.Book.{Point, reply_or}
 use Rattle.zeus_model.specs.Tables.{nth}
 use Rattle.zeus_model.specs.World.{World, tx_decl}
 
+-- the point that stands for none
 abbrev pub no_point : Point
 no_point = record { id = 0; reply = reply_or None }
 

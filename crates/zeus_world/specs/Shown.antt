@@ -6,6 +6,7 @@ use Rattle.lossy_fabric.specs.Links.{letters}
 use Rattle.reached_worlds.specs.Reached.{IsReached}
 use Rattle.zeus_world.specs.declared.world.World.TheInside.{Inside}
 
+-- the world that a run's fields show
 abbrev pub shown : Inside → World
 shown w =
     record {

@@ -191,6 +191,7 @@ fn read_oval(limits: Limits, input: &mut Input<'_>) -> Result<Body, Fault>
     Ok(Body::OVal(obj, stamp, place))
 }
 
+/// Reads a letter's body: the byte of its kind, then the fields of that kind.
 #[tactic(auto, unfolding(crate::specs::Reading::body_at, crate::specs::Reading::body_behind, crate::specs::Reading::and_then))]
 pub fn read_body(alloc: Global, limits: Limits, input: &mut Input<'_>) -> Result<Body, Fault>
     requires { AreLimits limits }

@@ -9,6 +9,7 @@ use crate::fault::Fault;
 use crate::reading::input::Input;
 use zeus_packet::{Limits, NodeId, NodeSet, ObjId, Place, Proposal, SlotId, Stamp, Stream, Want};
 
+/// Reads a node, which must be one of the limits.
 #[tactic(auto, unfolding(crate::specs::Reading::node_at, crate::specs::Reading::and_then))]
 pub fn read_node(limits: Limits, input: &mut Input<'_>) -> Result<NodeId, Fault>
     requires { AreLimits limits }
@@ -22,6 +23,7 @@ pub fn read_node(limits: Limits, input: &mut Input<'_>) -> Result<NodeId, Fault>
     Ok(NodeId(node))
 }
 
+/// Reads a slot, which must be one of the limits.
 #[tactic(auto, unfolding(crate::specs::Reading::slot_at, crate::specs::Reading::and_then))]
 pub fn read_slot(limits: Limits, input: &mut Input<'_>) -> Result<SlotId, Fault>
     requires { AreLimits limits }
@@ -35,6 +37,7 @@ pub fn read_slot(limits: Limits, input: &mut Input<'_>) -> Result<SlotId, Fault>
     Ok(SlotId(slot))
 }
 
+/// Reads an object, which must be one of the limits.
 #[tactic(auto, unfolding(crate::specs::Reading::object_at, crate::specs::Reading::and_then))]
 pub fn read_object(limits: Limits, input: &mut Input<'_>) -> Result<ObjId, Fault>
     requires { AreLimits limits }
@@ -48,6 +51,7 @@ pub fn read_object(limits: Limits, input: &mut Input<'_>) -> Result<ObjId, Fault
     Ok(ObjId(obj))
 }
 
+/// Reads a stream: its node, then its slot.
 #[tactic(auto, unfolding(crate::specs::Reading::stream_at, crate::specs::Reading::and_then))]
 pub fn read_stream(limits: Limits, input: &mut Input<'_>) -> Result<Stream, Fault>
     requires { AreLimits limits }
@@ -58,6 +62,7 @@ pub fn read_stream(limits: Limits, input: &mut Input<'_>) -> Result<Stream, Faul
     Ok(Stream { node, slot })
 }
 
+/// Reads a stamp: its version, then its driver.
 #[tactic(auto, unfolding(crate::specs::Reading::stamp_at, crate::specs::Reading::and_then))]
 pub fn read_stamp(limits: Limits, input: &mut Input<'_>) -> Result<Stamp, Fault>
     requires { AreLimits limits }
@@ -75,6 +80,7 @@ fn are_within(limits: Limits, bits: u8) -> bool
     u32::from(bits) < 1 << limits.nodes
 }
 
+/// Reads a set of nodes, all of which must be nodes of the limits.
 #[tactic(auto, unfolding(crate::specs::Reading::set_at, crate::specs::Reading::any_set_at, crate::specs::Reading::and_then))]
 pub fn read_set(limits: Limits, input: &mut Input<'_>) -> Result<NodeSet, Fault>
     requires { AreLimits limits }
@@ -141,6 +147,7 @@ fn leaver_of(want: Want, requester: NodeId) -> Option<NodeId>
     }
 }
 
+/// Reads a proposal of this wish: stamp, requester, base stamp and base placement.
 #[tactic(auto, unfolding(crate::specs::Reading::proposal_at, crate::specs::Reading::and_then))]
 pub fn read_proposal(limits: Limits, want: Want, input: &mut Input<'_>) -> Result<Proposal, Fault>
     requires { AreLimits limits }
@@ -159,6 +166,7 @@ pub fn read_proposal(limits: Limits, want: Want, input: &mut Input<'_>) -> Resul
     })
 }
 
+/// Reads a wish if there is one; without one it is a wish to own.
 #[tactic(auto, unfolding(crate::specs::Reading::want_at, crate::specs::Reading::want_of, crate::specs::Reading::and_then))]
 pub fn read_want(has_wish: bool, input: &mut Input<'_>) -> Result<Want, Fault>
     ensures { IsRead result input.new (want_at has_wish input.old) }

@@ -21,6 +21,7 @@ impl<'a> Model for Input<'a> {
 }
 
 impl<'a> Input<'a> {
+    /// All of these bytes are left to read.
     pub fn new(bytes: &'a [u8]) -> Input<'a>
         ensures { result ≡ bytes.now }
     {
@@ -34,6 +35,7 @@ impl<'a> Input<'a> {
         self.bytes.len()
     }
 
+    /// Takes the next byte.
     #[tactic(auto, unfolding(crate::specs::Reading::u8_at))]
     pub fn u8(&mut self) -> Result<u8, Fault>
         ensures { IsRead result self.new (u8_at self.old) }
@@ -47,6 +49,7 @@ impl<'a> Input<'a> {
         }
     }
 
+    /// Takes two bytes as a number, most significant first.
     #[tactic(auto, unfolding(crate::specs::Reading::u16_at, crate::specs::Reading::bytes_at, crate::specs::Reading::and_then))]
     pub fn u16(&mut self) -> Result<u16, Fault>
         ensures { IsRead result self.new (u16_at self.old) }
@@ -60,6 +63,7 @@ impl<'a> Input<'a> {
         }
     }
 
+    /// Takes four bytes as a number, most significant first.
     #[tactic(auto, unfolding(crate::specs::Reading::u32_at, crate::specs::Reading::bytes_at, crate::specs::Reading::and_then))]
     pub fn u32(&mut self) -> Result<u32, Fault>
         ensures { IsRead result self.new (u32_at self.old) }
@@ -73,6 +77,7 @@ impl<'a> Input<'a> {
         }
     }
 
+    /// Takes eight bytes as a number, most significant first.
     #[tactic(auto, unfolding(crate::specs::Reading::u64_at, crate::specs::Reading::bytes_at, crate::specs::Reading::and_then))]
     pub fn u64(&mut self) -> Result<u64, Fault>
         ensures { IsRead result self.new (u64_at self.old) }

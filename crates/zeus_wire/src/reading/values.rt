@@ -75,6 +75,7 @@ fn read_write(limits: Limits, before: &[Write], input: &mut Input<'_>) -> Result
     Ok(Write { obj, ver, value })
 }
 
+/// Reads `count` writes, no two of which may be of one object.
 pub fn read_writes(
     alloc: Global,
     limits: Limits,
@@ -102,6 +103,7 @@ fn read_some_content(limits: Limits, input: &mut Input<'_>) -> Result<Option<Con
     Ok(Some(Content { ver, value }))
 }
 
+/// Reads a byte that says whether a content follows, and the content if one does.
 #[tactic(auto, unfolding(crate::specs::Reading::content_at, crate::specs::Reading::content_if, crate::specs::Reading::and_then))]
 pub fn read_content(limits: Limits, input: &mut Input<'_>) -> Result<Option<Content>, Fault>
     ensures { IsRead result input.new (content_at limits input.old) }

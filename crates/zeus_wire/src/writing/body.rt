@@ -179,6 +179,7 @@ fn write_ack(out: &mut Vec<u8>, tag: u8, stream: &Stream, number: u32)
     write_u32(out, number);
 }
 
+/// Appends a letter's body: the byte of its kind, then the fields of that kind.
 #[tactic(auto, using(std::proofs::Common::append_assoc, crate::proofs::Room::longest_is), unfolding(zeus_model::specs::PacketSpelling::body_bytes, crate::specs::Ranges::IsBody, zeus_packet::specs::Fits::body_fits))]
 pub fn write_body(out: &mut Vec<u8>, version: u8, body: &Body)
     requires fits { body_fits (largest version) body.now ≡ true }

@@ -5,6 +5,7 @@ ghost use Rattle.zeus_model.specs.PacketSpelling.{place_bytes, proposal_bytes, s
 
 use zeus_packet::{NodeSet, Place, Proposal, Stamp, Stream};
 
+/// Appends the bytes as they are.
 pub fn write_bytes(out: &mut Vec<u8>, bytes: &[u8])
     requires { length bytes.now ≤ room out.old }
     ensures bytes { out.new.items ≡ out.old.items ++ bytes.now }
@@ -13,6 +14,7 @@ pub fn write_bytes(out: &mut Vec<u8>, bytes: &[u8])
     out.extend_from_slice(bytes).unwrap()
 }
 
+/// Appends the byte.
 pub fn write_u8(out: &mut Vec<u8>, byte: u8)
     requires { 1 ≤ room out.old }
     ensures bytes { out.new.items ≡ out.old.items ++ byte ∷ [] }
@@ -21,6 +23,7 @@ pub fn write_u8(out: &mut Vec<u8>, byte: u8)
     out.push_reserved(byte);
 }
 
+/// Appends the two bytes, most significant first.
 #[tactic(auto, unfolding(zeus_model::specs::PacketSpelling::u16_bytes))]
 pub fn write_u16(out: &mut Vec<u8>, number: u16)
     requires { 2 ≤ room out.old }
@@ -30,6 +33,7 @@ pub fn write_u16(out: &mut Vec<u8>, number: u16)
     write_bytes(out, &number.to_be_bytes());
 }
 
+/// Appends the four bytes, most significant first.
 #[tactic(auto, unfolding(zeus_model::specs::PacketSpelling::u32_bytes))]
 pub fn write_u32(out: &mut Vec<u8>, number: u32)
     requires { 4 ≤ room out.old }
@@ -39,6 +43,7 @@ pub fn write_u32(out: &mut Vec<u8>, number: u32)
     write_bytes(out, &number.to_be_bytes());
 }
 
+/// Appends the eight bytes, most significant first.
 #[tactic(auto, unfolding(zeus_model::specs::PacketSpelling::u64_bytes))]
 pub fn write_u64(out: &mut Vec<u8>, number: u64)
     requires { 8 ≤ room out.old }
@@ -48,6 +53,7 @@ pub fn write_u64(out: &mut Vec<u8>, number: u64)
     write_bytes(out, &number.to_be_bytes());
 }
 
+/// Appends a byte with a bit for each of the nodes.
 #[tactic(auto, using(crate::proofs::Sets::set_of_byte), unfolding(zeus_model::specs::PacketSpelling::set_bytes))]
 pub fn write_set(out: &mut Vec<u8>, nodes: NodeSet)
     requires { 1 ≤ room out.old }
@@ -58,6 +64,7 @@ pub fn write_set(out: &mut Vec<u8>, nodes: NodeSet)
     out.push_reserved(nodes.bits);
 }
 
+/// Appends a stream: its node, then its slot.
 #[tactic(auto, using(std::proofs::Common::append_assoc), unfolding(zeus_model::specs::PacketSpelling::stream_bytes))]
 pub fn write_stream(out: &mut Vec<u8>, stream: &Stream)
     requires { 2 ≤ room out.old }
@@ -68,6 +75,7 @@ pub fn write_stream(out: &mut Vec<u8>, stream: &Stream)
     write_u8(out, stream.slot.0);
 }
 
+/// Appends a stamp: its version, then its driver.
 #[tactic(auto, using(std::proofs::Common::append_assoc), unfolding(zeus_model::specs::PacketSpelling::stamp_bytes))]
 pub fn write_stamp(out: &mut Vec<u8>, stamp: &Stamp)
     requires { 9 ≤ room out.old }
@@ -79,6 +87,7 @@ pub fn write_stamp(out: &mut Vec<u8>, stamp: &Stamp)
     write_u8(out, stamp.driver.0);
 }
 
+/// Appends a placement: its owner, then its replicas.
 #[tactic(auto, using(std::proofs::Common::append_assoc), unfolding(zeus_model::specs::PacketSpelling::place_bytes))]
 pub fn write_place(out: &mut Vec<u8>, place: &Place)
     requires { 2 ≤ room out.old }
@@ -90,6 +99,7 @@ pub fn write_place(out: &mut Vec<u8>, place: &Place)
     write_set(out, place.replicas);
 }
 
+/// Appends a proposal without its wish: stamp, requester, base stamp and base placement.
 #[tactic(auto, using(std::proofs::Common::append_assoc), unfolding(zeus_model::specs::PacketSpelling::proposal_bytes))]
 pub fn write_proposal(out: &mut Vec<u8>, p: &Proposal)
     requires { 21 ≤ room out.old }

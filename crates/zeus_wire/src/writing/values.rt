@@ -60,6 +60,7 @@ fn write_write(out: &mut Vec<u8>, version: u8, write: &Write)
     write_value(out, version, &write.value);
 }
 
+/// Appends the writes one after another.
 pub fn write_writes(out: &mut Vec<u8>, version: u8, writes: &[Write])
     requires fits { list_all (write_fits (largest version)) writes.now ≡ true }
     requires room { longest_writes version writes.now ≤ room out.old }
@@ -72,6 +73,7 @@ pub fn write_writes(out: &mut Vec<u8>, version: u8, writes: &[Write])
     }
 }
 
+/// Appends a byte that says whether there is a content, and the content if there is one.
 #[tactic(auto, using(std::proofs::Common::append_assoc), unfolding(zeus_model::specs::PacketSpelling::content_bytes, crate::specs::Ranges::IsContent, zeus_packet::specs::Fits::content_fits))]
 pub fn write_content(out: &mut Vec<u8>, version: u8, content: &Option<Content>)
     requires fits { content_fits (largest version) content.now ≡ true }
