@@ -68,7 +68,7 @@ drops-kept_at old new n d m k s h =
       | inr other ↦ rw (s.acts.acts.others.done m other, s.acts.acts.others.kept m other)
     ]
 
--- if a node keeps an entry after entries are dropped, then it was there before, with the same acknowledgements
+-- if a node keeps an entry after entries are dropped, then it kept the same before, and each acknowledgement is an old or a sent one
 pub drops-kept : (old new : StreamState) (n d m k : ℕ) → Drops old new n d → Has new m k → WasKept old new m k
 drops-kept old new n d m k s h =
     record {
