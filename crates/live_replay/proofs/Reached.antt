@@ -18,6 +18,7 @@ use Rattle.soundness.proofs.Limits.{step-counts}
 use Rattle.soundness.proofs.Runs.{IsReached}
 use Rattle.live_model.specs.Cell.{declared}
 
+-- if a world is reached and a step fits, then the world after it is reached
 pub step-reached : (c : Config) (txs : List TxDecl) (w : World) (s : Step) → w.config ≡ c → w.txs ≡ txs → IsReached w → StepFits c txs s → IsReached (stepped w s)
 step-reached c txs w s config same r fits =
     let here : StepFits w.config w.txs s = rw (config, same) fits in
