@@ -59,15 +59,18 @@ acted_then a next m n x y z f g =
 pub acted-few : (a : Act) (m : Node) (x y : Effect) (k : ℕ) → length a.passed ≤ k → IsActed a m x y → length y.passed ≤ length x.passed + k
 acted-few a m x y k few g = rw (g.adds.passes, length-append) (omega (arith, few))
 
+-- a node that has acted has sent at most 64 letters
 pub acted-room : (a : Act) (m : Node) (x y : Effect) → IsActed a m x y → length y.sent ≤ 64
 acted-room a m x y g = adds_room a.sent a.passed x y g.adds
 
 -- ---- in turn
 
+-- acting on each of a list in turn is acting on the first and then on the others
 pub in_turn-next : {A : Type 0} (f : Node → A → Act) (n : Node) (i : A) (is : List A) → in_turn f n (i ∷ is) ≡ and_then (f n i) (λ m. in_turn f m is)
 unfolding in_turn
 in_turn-next f n i is = refl
 
+-- acting on each of no list does nothing
 pub in_turn-none : {A : Type 0} (f : Node → A → Act) (n : Node) → in_turn f n [] ≡ still n
 unfolding in_turn
 in_turn-none f n = refl
@@ -91,18 +94,21 @@ in_turn-append f n (i ∷ is) js =
 
 -- ---- the numbers that are left
 
+-- the numbers from one below the end on are that number and those from the next on
 pub numbers-next : (i n : ℕ) → i < n → numbers_from i (n - i) ≡ i ∷ numbers_from (i + 1) (n - (i + 1))
 unfolding numbers_from
 numbers-next i n h =
     let one : n - i ≡ suc (n - (i + 1)) = omega arith in
     rw (one, add-one) refl
 
+-- if a number is not below the end, then there are none from it on
 pub numbers-none : (i n : ℕ) → n ≤ i → numbers_from i (n - i) ≡ []
 unfolding numbers_from
 numbers-none i n h =
     let none : n - i ≡ 0 = omega arith in
     rw none refl
 
+-- the numbers from 0 on are all below the end
 pub numbers-all : (n : ℕ) → numbers_from 0 (n - 0) ≡ below n
 numbers-all n =
     let all : n - 0 ≡ n = omega arith in
