@@ -45,6 +45,7 @@ impl Model for Record {
 }
 
 impl Record {
+    /// The record of a transaction of which nothing is known.
     pub(crate) fn new() -> Record
         ensures { result ≡ no_record }
     {
@@ -58,36 +59,42 @@ impl Record {
         }
     }
 
+    /// Whether the transaction has begun.
     pub(crate) fn is_begun(&self) -> bool
         ensures { result ≡ is_some self.now.begun }
     {
         self.begun.is_some()
     }
 
+    /// Whether the transaction has its point in the history.
     pub(crate) fn has_point(&self) -> bool
         ensures { result ≡ is_some self.now.point }
     {
         self.point.is_some()
     }
 
+    /// Whether the transaction is acknowledged.
     pub(crate) fn is_acked(&self) -> bool
         ensures { result ≡ is_some self.now.acked }
     {
         self.acked.is_some()
     }
 
+    /// Whether the transaction was refused.
     pub(crate) fn is_refused(&self) -> bool
         ensures { result ≡ self.now.refused }
     {
         self.refused
     }
 
+    /// Notes the step of the begin.
     pub(crate) fn begin(&mut self, step: u64)
         ensures { self.new ≡ record self.old { begun = Some step } }
     {
         self.begun = Some(step);
     }
 
+    /// Notes the entry, by its stream and number, and the reply.
     pub(crate) fn commit(&mut self, stream: &Stream, number: u32, reply: Reply)
         ensures { self.new ≡ record self.old { entry = Some record { stream = stream.now; number = number }; reply = Some reply } }
     {
@@ -98,30 +105,35 @@ impl Record {
         self.reply = Some(reply);
     }
 
+    /// Notes the reply.
     pub(crate) fn set_reply(&mut self, reply: Reply)
         ensures { self.new ≡ record self.old { reply = Some reply } }
     {
         self.reply = Some(reply);
     }
 
+    /// Notes the step of the point.
     pub(crate) fn set_point(&mut self, step: u64)
         ensures { self.new ≡ record self.old { point = Some step } }
     {
         self.point = Some(step);
     }
 
+    /// Notes the step of the acknowledgement.
     pub(crate) fn ack(&mut self, step: u64)
         ensures { self.new ≡ record self.old { acked = Some step } }
     {
         self.acked = Some(step);
     }
 
+    /// Notes that the transaction was refused.
     pub(crate) fn refuse(&mut self)
         ensures { self.new ≡ record self.old { refused = true } }
     {
         self.refused = true;
     }
 
+    /// The reply, where there is one.
     pub(crate) fn reply(&self) -> Option<&Reply>
         ensures { option_copied result ≡ self.now.reply }
     {
