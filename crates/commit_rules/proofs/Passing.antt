@@ -160,7 +160,7 @@ outside_from-none : (members slots : List ℕ) (i nodes : ℕ) (n : Node) → no
 unfolding streams_outside
 outside_from-none members slots i nodes n h = rw (numbers-none i nodes h) (in_turn-none advance_kept n)
 
--- before the first node that is no member, the stored streams of all such nodes are left, and at most 8 entries have passed
+-- if at most 8 entries have passed, then before the first node that is no member the stored streams of all such nodes are left
 pub outside-init : (n : Node) (out : Effect) → length out.sent ≤ 64 → length out.passed ≤ 8 → IsUnderWay (in_turn advance_kept n (outside n)) (outside_from n.members (below (length n.slots)) 0 (length n.logs) n) n n out out (8 + 8 * 0)
 outside-init n out room few =
     record {

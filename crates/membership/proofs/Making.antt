@@ -85,7 +85,7 @@ module _ (w : World) (last set stopped : List ℕ) (is : last_view w.views ≡ l
 
 -- ---- what a view does
 
--- if a view is refused, then its step answers the refusal and changes nothing else
+-- if a view is refused, then its step answers the refusal and makes no view
 pub view-refused : (w : World) (set : List ℕ) (m : Made) → Some m ≡ view_refused w set → happens w (ViewStep set) ≡ refuse_step w (ViewAnswer m)
 unfolding happens view_or_not
 view-refused w set m e = rw (← e) refl

@@ -47,7 +47,7 @@ cut-shown [] last others lack = refl
 cut-shown (p ∷ front) last others lack =
     ap (cut 10) (shown-front (length front) p (front ++ last ∷ others) (some_behind front last others)) ∙ cut_front 10 p (shown (length front) (front ++ last ∷ others)) lack.0 ∙ ap (λ (ps : List (List ℕ)). p ∷ ps) (cut-shown front last others lack.1)
 
--- the lines up to the last one of a front are cut into the parts of that front and an empty one
+-- if a part follows a front of a cut, then the lines of the front are cut into its parts and an empty one
 pub cut-first_lines : (bytes : List ℕ) (front : List (List ℕ)) (last : List ℕ) (others : List (List ℕ)) → cut 10 bytes ≡ front ++ last ∷ others → cut 10 (first_lines (length front) bytes) ≡ front ++ [] ∷ []
 cut-first_lines bytes front last others is =
     ap (cut 10) (first_lines-shown (length front) bytes ∙ ap (shown (length front)) is) ∙ cut-shown front last others (subst (AllByRecursion (Lacks 10)) is (parts_lack 10 bytes))

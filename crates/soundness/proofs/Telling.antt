@@ -105,7 +105,7 @@ unfolding FitsOnce
 FitsOnce-then k m n old mid (keeps _) h = let none : 0 + n ≡ n = omega arith in rw none h
 FitsOnce-then k m n old mid notes h = omega arith
 
--- what happens no more fits what was told before
+-- that nothing more is told fits whatever was told before
 pub FitsOnce-none : (o : Option ℕ) → FitsOnce o 0
 unfolding FitsOnce
 FitsOnce-none None = omega arith
