@@ -22,6 +22,7 @@ emptied zero gs = gs
 emptied (suc n) [] = []
 emptied (suc n) (g ∷ gs) = None ∷ emptied n gs
 
+-- gathers of which the first none are emptied are the gathers themselves
 pub emptied-zero : (gs : List (Option Gather)) → gs ≡ emptied 0 gs
 unfolding emptied
 emptied-zero gs = refl
@@ -33,9 +34,11 @@ emptied-suc zero (g ∷ gs) h = refl
 emptied-suc (suc n) [] h = refl
 emptied-suc (suc n) (g ∷ gs) h = ap (λ l. None ∷ l) (emptied-suc n gs (omega arith))
 
+-- if the first n gathers are emptied and the next one is removed, then the first n + 1 are emptied
 pub emptied-next : (n : ℕ) (gs old new : List (Option Gather)) → old ≡ emptied n gs → n < length gs → new ≡ set old n None → new ≡ emptied (n + 1) gs
 emptied-next n gs old new is h w = rw (w, is, add-one) (emptied-suc n gs h)
 
+-- emptying gathers leaves how many places there are
 pub length-emptied : (n : ℕ) (gs : List (Option Gather)) → length (emptied n gs) ≡ length gs
 unfolding emptied
 length-emptied zero gs = refl
@@ -49,6 +52,7 @@ emptied-past zero (g ∷ gs) h = absurd (omega arith)
 emptied-past (suc n) [] h = refl
 emptied-past (suc n) (g ∷ gs) h = ap (λ l. None ∷ l) (emptied-past n gs (omega arith))
 
+-- if at least as many gathers are emptied as there are, then all are dropped
 pub emptied-end : (n : ℕ) (gs items : List (Option Gather)) → items ≡ emptied n gs → length gs ≤ n → items ≡ dropped gs
 emptied-end n gs items is h = is ∙ emptied-past n gs h
 
@@ -57,18 +61,22 @@ pub is_decidable-known : (n : Node) (g : Gather) (ms ds : List ℕ) → n.member
 unfolding is_decidable
 is_decidable-known n g ms ds m d = rw (m, d) refl
 
+-- if a gather is not decidable, then there is no decision
 pub decision-not : (n : Node) (g : Gather) → is_decidable n g ≡ false → None ≡ decision_of n (Some g)
 unfolding decision_of
 decision-not n g e = rw e refl
 
+-- if a gather is decidable, then the decision is that of its proposal and content
 pub decision-made : (n : Node) (g : Gather) → is_decidable n g ≡ true → decision_with g.proposal g.content ≡ decision_of n (Some g)
 unfolding decision_of
 decision-made n g e = rw e refl
 
+-- if a node has no gather of an object, then there is no decision of it
 pub decision-none : (n : Node) (gs : List (Option Gather)) (ms ds : List ℕ) (x : ℕ) → IsNodeWith n gs ms ds → None ≡ nth None gs x → None ≡ decision_of n (gather n x)
 unfolding decision_of
 decision-none n gs ms ds x is e = rw (is.gathers, ← e) refl
 
+-- if a node has a gather of an object, then the decision of the object is that of the gather
 pub decision-some : (n : Node) (gs : List (Option Gather)) (ms ds : List ℕ) (x : ℕ) (g : Gather) (r : Option Decision) → IsNodeWith n gs ms ds → Some g ≡ nth None gs x → r ≡ decision_of n (Some g) → r ≡ decision_of n (gather n x)
 unfolding decision_of is_decidable
 decision-some n gs ms ds x g r is e h = rw (is.gathers, ← e) h

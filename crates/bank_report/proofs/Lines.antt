@@ -16,6 +16,7 @@ lines_more m before a n h =
     let next = lines_next m a (n - a) (n - suc a) (omega arith) in
     rw one (append_assoc before (account_line m a) (account_lines m (suc a) (n - suc a)) ∙ ap (λ (ls : List ℕ). before ++ ls) (sym next))
 
+-- if a place is past the last account, then no lines of accounts are left
 pub lines-none : (m : List Versioned) (a n : ℕ) → n ≤ a → account_lines m a (n - a) ≡ []
 unfolding account_lines
 lines-none m a n h = let none : n - a ≡ 0 = omega arith in rw none refl

@@ -18,6 +18,7 @@ pub record IsTallied (txs : List BankTx) (t : Tally) (rest all : List Point) : T
   pub goes : t.paid_out + paid_out txs rest ≡ paid_out txs all
   pub few : t.failed ≤ t.history
 
+-- before the first transaction of a history the tally is of nothing
 pub tallied_none : (txs : List BankTx) (all : List Point) → IsTallied txs record { history = 0; failed = 0; paid_in = 0; paid_out = 0 } all all
 tallied_none txs all = record { history = omega arith; fails = omega arith; comes = omega arith; goes = omega arith; few = omega arith }
 
@@ -42,6 +43,7 @@ next_of txs t p rest all k =
     let one = failures-few p.reply.failed in
     record { history = omega arith; fails = omega arith; comes = omega arith; goes = omega arith; few = omega arith }
 
+-- if a tally is of the transactions before a place, then noting the one there makes it that of those up to it
 pub tallied_next : (txs : List BankTx) (t : Tally) (p : Point) (place : ℕ) (all : List Point) → slice_get all place ≡ Some p → IsTallied txs t (drop place all) all
     → IsTallied txs (noted (bank_tx txs p.id) t p.reply.failed) (drop (place + 1) all) all
 tallied_next txs t p place all is k =
@@ -58,6 +60,7 @@ can_note txs t p rest all size comes_low goes_low k =
     let few = k.few in
     record { history = omega arith; failed = omega arith; paid_in = omega arith; paid_out = omega arith }
 
+-- if a history and what it pays in and out are small enough, then the transaction at a place can be noted in the tally
 pub tallied_can : (txs : List BankTx) (t : Tally) (p : Point) (place : ℕ) (all : List Point) → slice_get all place ≡ Some p → length all < 2 ^ 32
     → paid_in txs all < 2 ^ 64 → paid_out txs all < 2 ^ 64 → IsTallied txs t (drop place all) all → CanNote (bank_tx txs p.id) t p.reply.failed
 tallied_can txs t p place all is size comes goes k = can_note txs t p (drop (suc place) all) all size comes goes (rw (drop_found all place p is) at k)
@@ -65,6 +68,7 @@ tallied_can txs t p place all is size comes goes k = can_note txs t p (drop (suc
 same_tally : (t : Tally) (h f i o : ℕ) → t.history ≡ h → t.failed ≡ f → t.paid_in ≡ i → t.paid_out ≡ o → t ≡ record { history = h; failed = f; paid_in = i; paid_out = o }
 same_tally t h f i o a b d e = rw (← a, ← b, ← d, ← e) refl
 
+-- if no transaction is left, then the tally is that of the whole history
 pub tallied_all : (txs : List BankTx) (t : Tally) (all : List Point) → IsTallied txs t [] all → t ≡ tally_of txs all
 unfolding failed paid_in paid_out
 tallied_all txs t all k =
@@ -76,12 +80,14 @@ tallied_all txs t all k =
 
 -- ---- what a map holds from an object on
 
+-- what the accounts from one on hold is what this one holds and what those behind it hold
 pub held_from : (m : List Versioned) (x : ℕ) → x < length m → held (drop x m) ≡ amount (content m x).value + held (drop (x + 1) m)
 unfolding held nth
 held_from [] x h = absurd (omega arith)
 held_from (v ∷ m) zero h = refl
 held_from (v ∷ m) (suc x) h = let one : suc x + 1 ≡ suc (x + 1) = omega arith in rw one (held_from m x (omega arith))
 
+-- if a place is past the last account, then the accounts from there hold nothing
 pub held-none : (m : List Versioned) (x : ℕ) → length m ≤ x → held (drop x m) ≡ 0
 unfolding held
 held-none [] zero h = refl

@@ -18,6 +18,7 @@ mapped_next f [] i x y rest h is e more = absurd (omega arith)
 mapped_next f (w ∷ ws) zero x y rest h is e more = let first : f w ≡ y = ap f (sym is) ∙ e in cc (first, more)
 mapped_next f (w ∷ ws) (suc i) x y rest h is e more = mapped_next f ws i x y rest (omega arith) is e more
 
+-- if a place is past the end of a list, then mapping what is left of it gives nothing
 pub mapped-none : {A B : Type 0} (f : A → B) (xs : List A) (i : ℕ) → length xs ≤ i → map f (drop i xs) ≡ []
 mapped-none f xs i h = ap (map f) (drop_all i xs h)
 

@@ -26,6 +26,7 @@ on_rack-unpassed : (n : Node) (from : ℕ) (s : Stream) (number : ℕ) → (on_r
 unfolding on_rack on_own_rack on_kept_rack
 on_rack-unpassed n from s number = grind arith
 
+-- an acknowledgement of an entry is answered with nothing sent and nothing passed
 pub on_rack-quiet : (n m : Node) (from : ℕ) (s : Stream) (number : ℕ) (answer : Outcome) → answer ≡ (on_rack n from s number).answer → m ≡ (on_rack n from s number).node → IsQuiet (on_rack n from s number) answer m
 on_rack-quiet n m from s number answer says becomes =
     record { says = says; becomes = becomes; unsent = on_rack-unsent n from s number; unpassed = on_rack-unpassed n from s number }
@@ -38,6 +39,7 @@ on_rval-unpassed : (n : Node) (s : Stream) (d : ℕ) → (on_rval n s d).passed 
 unfolding on_rval
 on_rval-unpassed n s d = grind arith
 
+-- a letter of passed entries is answered with nothing sent and nothing passed
 pub on_rval-quiet : (n m : Node) (s : Stream) (d : ℕ) (answer : Outcome) → answer ≡ (on_rval n s d).answer → m ≡ (on_rval n s d).node → IsQuiet (on_rval n s d) answer m
 on_rval-quiet n m s d answer says becomes =
     record { says = says; becomes = becomes; unsent = on_rval-unsent n s d; unpassed = on_rval-unpassed n s d }
@@ -54,10 +56,12 @@ on_recovered-quiet : (n m : Node) (from : ℕ) (answer : Outcome) → answer ≡
 on_recovered-quiet n m from answer says becomes =
     record { says = says; becomes = becomes; unsent = on_recovered-unsent n from; unpassed = on_recovered-unpassed n from }
 
+-- if the opposite of a test is true, then the test is false
 pub not_true : (b : Bool) → true ≡ not b → b ≡ false
 not_true true e = cc
 not_true false e = refl
 
+-- if the opposite of a test is false, then the test is true
 pub not_false : (b : Bool) → false ≡ not b → b ≡ true
 not_false true e = refl
 not_false false e = cc

@@ -58,15 +58,18 @@ acted_then a next m n x y z f g =
 pub acted-few : (a : Act) (m : Node) (x y : Effect) (k : ℕ) → length a.passed ≤ k → IsActed a m x y → length y.passed ≤ length x.passed + k
 acted-few a m x y k few g = rw (g.adds.passes, length-append) (omega (arith, few))
 
+-- a node that has acted has sent at most 64 letters
 pub acted-room : (a : Act) (m : Node) (x y : Effect) → IsActed a m x y → length y.sent ≤ 64
 acted-room a m x y g = adds_room a.sent a.passed x y g.adds
 
 -- ---- in turn
 
+-- acting on each of a list in turn is acting on the first and then on the others
 pub in_turn-next : {A : Type 0} (f : Node → A → Act) (n : Node) (i : A) (is : List A) → in_turn f n (i ∷ is) ≡ and_then (f n i) (λ m. in_turn f m is)
 unfolding in_turn
 in_turn-next f n i is = refl
 
+-- acting on each of no list does nothing
 pub in_turn-none : {A : Type 0} (f : Node → A → Act) (n : Node) → in_turn f n [] ≡ still n
 unfolding in_turn
 in_turn-none f n = refl

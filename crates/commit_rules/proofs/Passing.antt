@@ -29,6 +29,7 @@ unfolding advance_own_by
 advance_own_by-one n s zero = omega arith
 advance_own_by-one n s (suc k) = omega arith
 
+-- an own stream that advances tells of one pass at most
 pub advance_own-one : (n : Node) (s : ℕ) → length (advance_own n s).passed ≤ 1
 unfolding advance_own
 advance_own-one n s = advance_own_by-one n s (passing n (map as_kept (slot n s).pending))
@@ -38,6 +39,7 @@ unfolding advance_kept_by
 advance_kept_by-one n s zero = omega arith
 advance_kept_by-one n s (suc k) = omega arith
 
+-- the stored stream of another node that advances tells of one pass at most
 pub advance_kept-one : (n : Node) (s : Stream) → length (advance_kept n s).passed ≤ 1
 unfolding advance_kept
 advance_kept-one n s = advance_kept_by-one n s (passing n (log n s).kept)
@@ -56,9 +58,11 @@ slots_of m n e = ap (λ (limits : Limits). limits.slots) e
 nodes_of : (m n : Node) → limits_of m ≡ limits_of n → length m.logs ≡ length n.logs
 nodes_of m n e = ap (λ (limits : Limits). limits.nodes) e
 
+-- if two nodes have tables of the same sizes, then a slot of one is there in the other
 pub slot_there : (m n : Node) (s : ℕ) → limits_of m ≡ limits_of n → s < length n.slots → s < length m.slots
 slot_there m n s e h = rw (slots_of m n e) h
 
+-- if two nodes have tables of the same sizes, then a node in the stored streams of one is there in the other's
 pub node_there : (m n : Node) (i : ℕ) → limits_of m ≡ limits_of n → i < length n.logs → i < length m.logs
 node_there m n i e h = rw (nodes_of m n e) h
 
@@ -71,6 +75,7 @@ own_from i slots n = in_turn advance_own n (numbers_from i (slots - i))
 own_from-next : (i slots : ℕ) (n : Node) → i < slots → own_from i slots n ≡ and_then (advance_own n i) (λ m. own_from (i + 1) slots m)
 own_from-next i slots n h = rw (numbers-next i slots h) (in_turn-next advance_own n i (numbers_from (i + 1) (slots - (i + 1))))
 
+-- before the first own stream, all own streams are left, and nothing has passed
 pub own-init : (n : Node) (out : Effect) → length out.sent ≤ 64 → out.passed ≡ [] → IsUnderWay (in_turn advance_own n (below (length n.slots))) (own_from 0 (length n.slots) n) n n out out 0
 own-init n out room none =
     record {
@@ -79,6 +84,7 @@ own-init n out room none =
       limits = refl;
     }
 
+-- after one more own stream advances, those from the next slot on are left, and one more may have passed
 pub own-step : (all : Act) (start n m : Node) (i slots most : ℕ) (x y z : Effect) → i < slots → IsActed (advance_own n i) m y z → limits_of m ≡ limits_of n → IsUnderWay all (own_from i slots n) start n x y most → IsUnderWay all (own_from (i + 1) slots m) start m x z (most + 1)
 own-step all start n m i slots most x y z h acted limits u =
     record {
@@ -87,6 +93,7 @@ own-step all start n m i slots most x y z h acted limits u =
       limits = limits ∙ u.limits;
     }
 
+-- if no own stream is left, then the node has advanced them all
 pub own-end : (all : Act) (n : Node) (i slots : ℕ) (x y : Effect) → slots ≤ i → Leads all (own_from i slots n) x y → IsActed all n x y
 own-end all n i slots x y h l =
     leads-end all (own_from i slots n) n x y (rw (numbers-none i slots h) (in_turn-none advance_own n)) l
@@ -106,6 +113,7 @@ streams_from-none : (other i slots : ℕ) (n : Node) → slots ≤ i → streams
 unfolding streams_of
 streams_from-none other i slots n h = rw (numbers-none i slots h) (in_turn-none advance_kept n)
 
+-- before the first stored stream of another node, all of that node's are left
 pub streams-init : (n : Node) (other : ℕ) (out : Effect) → length out.sent ≤ 64 → IsUnderWay (in_turn advance_kept n (streams_of other (below (length n.slots)))) (streams_from other 0 (length n.slots) n) n n out out (length out.passed + 0)
 streams-init n other out room =
     record {
@@ -114,6 +122,7 @@ streams-init n other out room =
       limits = refl;
     }
 
+-- after one more stored stream of another node advances, those from the next slot on are left, and one more may have passed
 pub streams-step : (all : Act) (start n m : Node) (other i slots base : ℕ) (x y z : Effect) → i < slots → IsActed (advance_kept n record { node = other; slot = i }) m y z → limits_of m ≡ limits_of n → IsUnderWay all (streams_from other i slots n) start n x y (base + i) → IsUnderWay all (streams_from other (i + 1) slots m) start m x z (base + (i + 1))
 streams-step all start n m other i slots base x y z h acted limits u =
     let s : Stream = record { node = other; slot = i } in
@@ -123,6 +132,7 @@ streams-step all start n m other i slots base x y z h acted limits u =
       limits = limits ∙ u.limits;
     }
 
+-- if no stored stream of another node is left, then all of that node's have advanced
 pub streams-end : (all : Act) (n : Node) (other i slots : ℕ) (x y : Effect) → slots ≤ i → Leads all (streams_from other i slots n) x y → IsActed all n x y
 streams-end all n other i slots x y h l = leads-end all (streams_from other i slots n) n x y (streams_from-none other i slots n h) l
 
@@ -151,6 +161,7 @@ outside_from-none : (members slots : List ℕ) (i nodes : ℕ) (n : Node) → no
 unfolding streams_outside
 outside_from-none members slots i nodes n h = rw (numbers-none i nodes h) (in_turn-none advance_kept n)
 
+-- if at most 8 entries have passed, then before the first node that is no member the stored streams of all such nodes are left
 pub outside-init : (n : Node) (out : Effect) → length out.sent ≤ 64 → length out.passed ≤ 8 → IsUnderWay (in_turn advance_kept n (outside n)) (outside_from n.members (below (length n.slots)) 0 (length n.logs) n) n n out out (8 + 8 * 0)
 outside-init n out room few =
     record {
@@ -179,6 +190,7 @@ outside-step all start n m members i nodes x y z h stranger acted few limits u =
       limits = limits ∙ u.limits;
     }
 
+-- if no node that is no member is left, then the stored streams of all such nodes have advanced
 pub outside-end : (all : Act) (n : Node) (members slots : List ℕ) (i nodes : ℕ) (x y : Effect) → nodes ≤ i → Leads all (outside_from members slots i nodes n) x y → IsActed all n x y
 outside-end all n members slots i nodes x y h l = leads-end all (outside_from members slots i nodes n) n x y (outside_from-none members slots i nodes n h) l
 
@@ -218,6 +230,7 @@ report-first n m before after e news becomes adds =
 
 -- ---- all three
 
+-- if own streams advance, then those of nodes that are no members, and then the node reports, then the finish is done
 pub finished : (n m k o : Node) (x y z w : Effect) → IsActed (in_turn advance_own n (below (length n.slots))) m x y → IsActed (in_turn advance_kept m (outside m)) k y z → IsActed (report_recovered k) o z w → IsActed (finish n) o x w
 unfolding finish
 finished n m k o x y z w f g h =

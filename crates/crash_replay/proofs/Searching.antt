@@ -88,6 +88,7 @@ module _ (logs : List (List StreamLog)) (after : Option Stream) where
 
 -- ---- at a node
 
+-- if a node's streams and members are known, then searching these finds the next stored stream that it has
 pub next_stored-known : (n : Node) (logs : List (List StreamLog)) (members : List ℕ) (nodes slots : ℕ) (after : Option Stream) → length logs ≡ nodes → IsNodeWith n logs members slots → next_in logs after (streams_outside members (below slots) (below nodes)) ≡ next_stored n after
 next_stored-known n logs members nodes slots after there is = rw (is.logs, is.members, is.slots, there) refl
 
@@ -103,9 +104,11 @@ none_stored-next n (s ∷ ss) =
     ap (λ b. (length (Rattle.zeus_model.specs.State.log n s).kept == 0) && b) (none_stored-next n ss)
     ∙ none_stored-one (length (Rattle.zeus_model.specs.State.log n s).kept == 0) s (next_in n.logs None ss)
 
+-- a node finds no stored stream of a node outside just if it has none there
 pub none_stored-outside : (n : Node) → is_none (next_stored n None) ≡ none_stored n (outside n)
 none_stored-outside n = sym (none_stored-next n (outside n))
 
+-- if there is something just where a test is false, then there is nothing just where it is true
 pub is_none-from : {A : Type 0} (r : Option A) (b : Bool) → is_some r ≡ not b → b ≡ is_none r
 is_none-from None true e = refl
 is_none-from None false e = cc

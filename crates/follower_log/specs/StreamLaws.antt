@@ -39,6 +39,7 @@ length_row-put logs s row m e =
       | inr other ↦ ap length (nth-put_other [] logs s.node m row other)
     ]
 
+-- if a stream is one of those stored, then it is so after another or itself is written
 pub IsStreamOf-with_log_at : (logs : List (List StreamLog)) (s t : Stream) (l : StreamLog) → IsStreamOf logs s → IsStreamOf logs t → IsStreamOf (with_log_at logs s l) t
 IsStreamOf-with_log_at logs s t l h g =
     let row = put no_log (nth [] logs s.node) s.slot l in

@@ -32,6 +32,7 @@ impl<W: Window<Kept>> Model for LogOver<W> {
 }
 
 impl<W: Window<Kept>> LogOver<W> {
+    /// How many entries of the stream are known to have passed.
     pub(crate) fn done(&self) -> u32
         ensures passed { result ≡ self.now.done }
         ensures numbered { result + length self.now.kept < 2 ^ 32 }
@@ -39,6 +40,7 @@ impl<W: Window<Kept>> LogOver<W> {
         self.done
     }
 
+    /// How many entries are stored; at most 16.
     pub(crate) fn len(&self) -> u32
         ensures count { result ≡ length self.now.kept }
         ensures most { result ≤ 16 }
@@ -46,6 +48,7 @@ impl<W: Window<Kept>> LogOver<W> {
         self.kept.len()
     }
 
+    /// The stored entry at this place, counted from the front, where there is one.
     pub(crate) fn kept(&self, place: u32) -> Option<&Kept>
         ensures { option_copied result ≡ slice_get self.now.kept place }
     {

@@ -15,6 +15,7 @@ how_many-cons : (test : TxRecord → Bool) (r : TxRecord) (rs : List TxRecord) �
 unfolding how_many
 how_many-cons test r rs = either (test r) (how_many test rs)
 
+-- when a record is changed, the count of those that pass a test changes by this record alone
 pub how_many-put : (test : TxRecord → Bool) (rs : List TxRecord) (i : ℕ) (r : TxRecord) → i < length rs
     → how_many test (put no_record rs i r) + one (test (nth no_record rs i)) ≡ how_many test rs + one (test r)
 unfolding nth put

@@ -75,6 +75,7 @@ pub record IsFound (s : Stream) (number j : ℕ) (rs : List TxRecord) (id : ℕ)
 some_same : (i j : ℕ) → Some i ≡ Some j → i ≡ j
 some_same i j e = cc
 
+-- if an entry's transaction is found, then its record has the entry
 pub found_is : (s : Stream) (number j : ℕ) (rs : List TxRecord) (id : ℕ) → tx_from s number j rs ≡ Some id → IsFound s number j rs id
 unfolding nth
 found_is s number j [] id e = absurd (some_none id (sym e ∙ from_none s number j))

@@ -71,6 +71,7 @@ kept_marked f rs i k r points nodes slots es mark kept h e s =
 points_put : (rs : List TxRecord) (i : ℕ) (r : TxRecord) (ids : List ℕ) → ArePointed rs ids → r.reply ≡ (nth no_record rs i).reply → points_of (put no_record rs i r) ids ≡ points_of rs ids
 points_put rs i r ids h e = points_stay rs (put no_record rs i r) ids h (λ j p. same_at (λ (x : TxRecord). x.reply) rs i r e j)
 
+-- if a record is changed but for its entry, reply and point, then the book is seen with just that change
 pub seen_marked : (f : TxRecord → TxRecord) (steps : ℕ) (ids : List ℕ) (rs : List TxRecord) (nodes slots i : ℕ) (k r : TxRecord) → ((x : TxRecord) → IsMark x (f x)) → ArePointed rs ids
     → i < length rs → k ≡ get_or rs i k → r ≡ f k
     → state_at steps ids (set rs i r) nodes slots ≡ with_book (state_at steps ids rs nodes slots) (book_at steps (points_of rs ids) (put no_record rs i (f (nth no_record rs i))))
@@ -79,12 +80,15 @@ seen_marked f steps ids rs nodes slots i k r mark pointed h e s =
     ∙ ap (λ (ps : List Point). with_book (state_at steps ids rs nodes slots) (book_at steps ps (put no_record rs i (f (nth no_record rs i)))))
     (points_put rs i (f (nth no_record rs i)) ids pointed (mark (nth no_record rs i)).reply)
 
+-- the begin of a transaction leaves its record's entry, reply and point
 pub mark_begun : (step : ℕ) (x : TxRecord) → IsMark x (record x { begun = Some step })
 mark_begun step x = record { entry = refl; reply = refl; point = refl }
 
+-- the acknowledgement of a transaction leaves its record's entry, reply and point
 pub mark_acked : (step : ℕ) (x : TxRecord) → IsMark x (record x { acked = Some step })
 mark_acked step x = record { entry = refl; reply = refl; point = refl }
 
+-- the refusal of a transaction leaves its record's entry, reply and point
 pub mark_refused : (x : TxRecord) → IsMark x (record x { refused = true })
 mark_refused x = record { entry = refl; reply = refl; point = refl }
 
@@ -103,6 +107,7 @@ points_others rs i r ids h none = points_stay rs (put no_record rs i r) ids h (�
 pointed_same : (rs : List TxRecord) (i : ℕ) (r : TxRecord) (ids : List ℕ) → ArePointed rs ids → (nth no_record rs i).point ≡ None → ArePointed (put no_record rs i r) ids
 pointed_same rs i r ids h none = pointed_stay rs (put no_record rs i r) ids h (λ j p. subst IsPointed (sym (pointed_others rs i r none j p)) p)
 
+-- if a record without a point is changed, then the book is seen with just that change
 pub seen_unpointed : (f : TxRecord → TxRecord) (steps : ℕ) (ids : List ℕ) (rs : List TxRecord) (nodes slots i : ℕ) (k r : TxRecord) → ArePointed rs ids → (nth no_record rs i).point ≡ None
     → i < length rs → k ≡ get_or rs i k → r ≡ f k
     → state_at steps ids (set rs i r) nodes slots ≡ with_book (state_at steps ids rs nodes slots) (book_at steps (points_of rs ids) (put no_record rs i (f (nth no_record rs i))))
@@ -289,6 +294,7 @@ point_is : (rs : List TxRecord) (i : ℕ) (x : TxRecord) → x.reply ≡ (nth no
 unfolding point_of
 point_is rs i x e = rw (nth-put_same no_record rs i x, e) refl
 
+-- if a record without a point gets one, then the book is seen with the point in the record and at the end of the history
 pub seen_pointed : (steps : ℕ) (rs : List TxRecord) (nodes slots i : ℕ) (k r : TxRecord) (points after : IdsState) → ArePointed rs points.ids → (nth no_record rs i).point ≡ None → IsAdded i points after
     → i < length rs → k ≡ get_or rs i k → r ≡ record k { point = Some steps }
     → state_at steps after.ids (set rs i r) nodes slots
@@ -314,6 +320,7 @@ no_replies zero id h = cc
 no_replies (suc n) zero h = cc
 no_replies (suc n) (suc id) h = no_replies n id h
 
+-- a new book of n transactions, with empty streams and room for all, is in order
 pub kept_start : (n : ℕ) (rs : List TxRecord) (points : IdsState) (nodes slots : ℕ) (es : List (List IdsState)) → n < 2 ^ 32 → rs ≡ replicate n no_record → points.ids ≡ [] → n ≤ points.room
     → HasSlots nodes slots es → ((s : Stream) → (of_stream es s).ids ≡ []) → HasEntries n nodes slots es → IsKept rs points nodes slots es
 unfolding HasEntries
@@ -333,6 +340,7 @@ kept_start n rs points nodes slots es few is none room streams nothing more =
       more = λ s there. let h = more s there in omega arith;
     }
 
+-- a new book is seen with no step, no point, and n records of nothing
 pub seen_start : (n : ℕ) (rs : List TxRecord) (ids : List ℕ) (nodes slots : ℕ) → rs ≡ replicate n no_record → ids ≡ []
     → state_at 0 ids rs nodes slots ≡ record { book = record { steps = 0; points = []; records = replicate n no_record }; nodes = nodes; slots = slots }
 unfolding points_of

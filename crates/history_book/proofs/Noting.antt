@@ -19,14 +19,17 @@ use Rattle.history_book.proofs.Passing.{same_change}
 abbrev change : Book → List ℕ → List ℕ → BookChange
 change b points acked = record { book = b; points = points; acked = acked }
 
+-- if a commit can be noted, then its transaction is current, its stream is there, and its number is the next one
 pub of_committed : (b : BookState) (s : Stream) (id number : ℕ) (reply : Reply) (t : Tried) → t ≡ Committed id number reply → CanNote b s t → IsCurrent b id × IsStream b.nodes b.slots s × IsNext b.book s number
 unfolding CanNote
 of_committed b s id number reply t e h = rw e at h
 
+-- if a read's reply can be noted, then its transaction is current
 pub of_read : (b : BookState) (s : Stream) (id : ℕ) (reply : Reply) (t : Tried) → t ≡ Read id reply → CanNote b s t → IsCurrent b id
 unfolding CanNote
 of_read b s id reply t e h = rw e at h
 
+-- if a lack of a copy can be noted, then its transaction is there
 pub of_no_copy : (b : BookState) (s : Stream) (id x : ℕ) (t : Tried) → t ≡ NoCopy id x → CanNote b s t → id < length b.book.records
 unfolding CanNote
 of_no_copy b s id x t e h = rw e at h
@@ -55,6 +58,7 @@ unfolding book_tried
 noted_refused b after ps qs s degree id x t e n f =
     rw (e, n) (same_change _ _ _ _ _ _ f (sym (append-nil ps)) (sym (append-nil qs)))
 
+-- if there is a degree, then a read that asks for copies leaves the book
 pub noted_asked :
     (b : Book) (ps qs : List ℕ) (s : Stream) (degree : Option ℕ) (least id x : ℕ) (t : Tried) → t ≡ NoCopy id x → degree ≡ Some least
     → change b ps qs ≡ change_then (change b ps qs) (λ c. book_tried c s degree t)
@@ -88,11 +92,13 @@ lists_put b id r points acked h p a l =
     let same_acks = as_many has_no_ack b.records id r h (ap is_none a) in
     record { pointed = rw same l.pointed; acks = rw same_acks l.acks }
 
+-- if the lists have room, then they have it after a commit is noted
 pub lists_committed : (b after : Book) (s : Stream) (id number : ℕ) (reply : Reply) (points acked : IdsState) → id < length b.records → after ≡ book_commit b s id number reply
     → HasLists b points acked → HasLists after points acked
 lists_committed b after s id number reply points acked h e l =
     rw e (lists_put b id (record (record_of b id) { entry = Some record { stream = s; number = number }; reply = Some reply }) points acked h refl refl l)
 
+-- if the lists have room, then they have it after a refusal is noted
 pub lists_refused : (b after : Book) (id : ℕ) (points acked : IdsState) → id < length b.records → after ≡ book_refuse b id → HasLists b points acked → HasLists after points acked
 lists_refused b after id points acked h e l = rw e (lists_put b id (record (record_of b id) { refused = true }) points acked h refl refl l)
 

@@ -25,27 +25,32 @@ replied_there steps ids rs s number (Some id) replies e =
       reply = rw same (replies f.place (entry_there s number (nth no_record rs f.place).entry f.is));
     }
 
+-- if a transaction has its point, then a pass of its entry leaves it
 pub pointed_before : (b : Book) (id : ℕ) (o : Option ℕ) → is_some o ≡ true → IsChange false false id b (point_once b id o)
 unfolding point_once listed
 pointed_before b id None h = cc
 pointed_before b id (Some step) h = record { book = refl; points = refl; acks = refl }
 
+-- if a transaction has no point, then the first pass of its entry gives it one
 pub pointed_first : (b after : Book) (id : ℕ) (o : Option ℕ) → is_some o ≡ false → after ≡ book_point b id → IsChange true false id after (point_once b id o)
 unfolding point_once listed
 pointed_first b after id None h e = record { book = e; points = refl; acks = refl }
 pointed_first b after id (Some step) h e = cc
 
+-- if a transaction is acknowledged, then a pass of its entry leaves that
 pub acked_before : (b : Book) (id : ℕ) (own : Bool) (o : Option ℕ) → is_some o ≡ true → IsChange false false id b (ack_once b id own o)
 unfolding ack_once listed
 acked_before b id own None h = cc
 acked_before b id own (Some step) h = record { book = refl; points = refl; acks = refl }
 
+-- if a transaction is not acknowledged, then a pass of its entry at its own node acknowledges it
 pub acked_first : (b after : Book) (id : ℕ) (own : Bool) (o : Option ℕ) → is_some o ≡ false → own ≡ true → after ≡ book_ack b id → IsChange false own id after (ack_once b id own o)
 unfolding ack_once listed
 acked_first b after id true None h t e = record { book = e; points = refl; acks = refl }
 acked_first b after id false None h t e = cc
 acked_first b after id own (Some step) h t e = cc
 
+-- if a transaction is not acknowledged, then a pass of its entry at another node leaves that
 pub not_acked : (b : Book) (id : ℕ) (own : Bool) (o : Option ℕ) → is_some o ≡ false → own ≡ false → IsChange false own id b (ack_once b id own o)
 unfolding ack_once listed
 not_acked b id true None h t = cc
@@ -54,6 +59,7 @@ not_acked b id own (Some step) h t = cc
 
 -- ---- how many are left
 
+-- what is false counts nothing
 pub one_false : (n : ℕ) → n + one false ≡ n
 unfolding one
 one_false n = omega arith
@@ -71,13 +77,16 @@ pub points_left : (b : Book) (id : ℕ) → id < length b.records → is_some (r
 unfolding one
 points_left b id h none = one_less has_no_point b.records id (record (record_of b id) { point = Some b.steps }) h (none_from (record_of b id).point none) refl
 
+-- a point leaves the count of unacknowledged transactions
 pub acks_same : (b : Book) (id : ℕ) → id < length b.records → how_many has_no_ack (book_point b id).records ≡ how_many has_no_ack b.records
 acks_same b id h = as_many has_no_ack b.records id (record (record_of b id) { point = Some b.steps }) h refl
 
+-- an acknowledgement leaves one unacknowledged transaction fewer
 pub acks_left : (b : Book) (id : ℕ) → id < length b.records → is_some (record_of b id).acked ≡ false → how_many has_no_ack (book_ack b id).records + one true ≡ how_many has_no_ack b.records
 unfolding one
 acks_left b id h none = one_less has_no_ack b.records id (record (record_of b id) { acked = Some b.steps }) h (none_from (record_of b id).acked none) refl
 
+-- an acknowledgement leaves the count of transactions without a point
 pub points_same : (b : Book) (id : ℕ) → id < length b.records → how_many has_no_point (book_ack b id).records ≡ how_many has_no_point b.records
 points_same b id h = as_many has_no_point b.records id (record (record_of b id) { acked = Some b.steps }) h refl
 
@@ -98,6 +107,7 @@ joined_left p id xs ys e f = rw (← e, ← f, listed_no id) (sym (listed-none p
 joined_right : (p : Bool) (id : ℕ) (xs ys : List ℕ) → listed false id ≡ xs → listed p id ≡ ys → listed p id ≡ xs ++ ys
 joined_right p id xs ys e f = rw (← e, ← f, listed_no id) refl
 
+-- if the point and then the acknowledgement of an entry's pass are written, then the pass is written
 pub passed_both :
     (b mid after : Book) (id : ℕ) (own p q : Bool) → IsChange p false id mid (point_once b id (record_of b id).point)
     → IsChange false q id after (ack_once mid id own (record_of mid id).acked) → IsChange p q id after (pass_tx b own (Some id))
@@ -120,6 +130,7 @@ unfolding point_once
 point_once-size b id None h = length-put no_record b.records id _ h
 point_once-size b id (Some step) h = refl
 
+-- a transaction of the book is there after its point is written
 pub point_size : (b mid : Book) (id : ℕ) (p : Bool) → id < length b.records → IsChange p false id mid (point_once b id (record_of b id).point) → id < length mid.records
 point_size b mid id p h e =
     let same : length mid.records ≡ length b.records = ap (λ (m : Book). length m.records) e.book ∙ point_once-size b id (record_of b id).point h in
@@ -128,6 +139,7 @@ point_size b mid id p h e =
 abbrev change : Book → List ℕ → List ℕ → BookChange
 change b points acked = record { book = b; points = points; acked = acked }
 
+-- equal books with equal lists make equal changes
 pub same_change : (b b' : Book) (ps ps' qs qs' : List ℕ) → b ≡ b' → ps ≡ ps' → qs ≡ qs' → change b ps qs ≡ change b' ps' qs'
 same_change b b' ps ps' qs qs' e f g = rw (e, f, g) refl
 
@@ -183,6 +195,7 @@ left_none done own s number after h =
 abbrev pub streams_left : BookChange → ℕ → List Passed → BookChange
 streams_left done me ps = change_then done (λ b. book_passes b me ps)
 
+-- after the passes of one stream, those of the streams behind it are left
 pub streams_step : (done next : BookChange) (me : ℕ) (p : Passed) (ps : List Passed) (own : Bool) → own ≡ (p.stream.node == me) → next ≡ left done own p.stream p.first (p.after - p.first)
     → streams_left next me ps ≡ streams_left done me (p ∷ ps)
 unfolding book_passes
@@ -191,9 +204,11 @@ streams_step done next me p ps own is e =
     let d = book_passes c.book me ps in
     rw (e, is) (same_change _ _ _ _ _ _ refl (append_assoc done.points c.points d.points) (append_assoc done.acked c.acked d.acked))
 
+-- if no stream is left, then all passes are done
 pub streams_none : (done : BookChange) (me : ℕ) → done ≡ streams_left done me []
 unfolding book_passes
 streams_none done me = same_change _ _ _ _ _ _ refl (sym (append-nil done.points)) (sym (append-nil done.acked))
 
+-- what is left of a list from a place on is the element there and what is left from the next place on
 pub rest_at : {A : Type 0} (xs : List A) (i : ℕ) (x : A) → i < length xs → x ≡ get_or xs i x → drop i xs ≡ x ∷ drop (i + 1) xs
 rest_at xs i x h e = rw (add-one, drop-cons xs i x h, ← e) refl

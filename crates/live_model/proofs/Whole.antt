@@ -6,10 +6,12 @@ use Rattle.live_model.specs.Ends.{answers, notes}
 use Rattle.live_model.specs.Service.{ServiceEvent, service_entry, views_made, halts_taken, sights}
 use Rattle.live_model.specs.Cluster.{Plan, CellView, IsCell, ServiceView, IsFront, IsPart, none, kept}
 
+-- a list is a part of itself
 pub part-whole : {A : Type 0} (xs : List A) → IsPart xs xs
 part-whole [] = none
 part-whole (x ∷ xs) = kept x xs xs (part-whole xs)
 
+-- a list is a front of itself
 pub front-whole : {A : Type 0} (xs : List A) → IsFront xs xs
 front-whole xs = record { rest = []; is = append-nil xs }
 

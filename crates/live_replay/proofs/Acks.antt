@@ -113,6 +113,7 @@ tried-acks (Read id reply) b s degree = read-acks b id reply
 tried-acks (NoCopy id x) b s degree = refuse-acks (is_none degree) b id
 tried-acks _ b s degree = acks-book_only b
 
+-- what a cell notes in its book keeps the acknowledgements there, and those that it tells are there afterwards
 pub notes_down-acks : (deed : Deed) (me : ℕ) (degree : Option ℕ) (txs : List TxDecl) (b : Book) (n : Node) → Acknowledges b (notes_down me degree txs b n deed)
 unfolding notes_down
 notes_down-acks (Began j) me degree txs b n = begun-acks _ b j.tx

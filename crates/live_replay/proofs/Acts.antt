@@ -39,6 +39,7 @@ deliver-acts : (w : World) (me sender number clock : ℕ) (l : Letter) → nth_l
 unfolding deliver_or_not received_at does notes_down
 deliver-acts w me sender number clock l is = rw is refl
 
+-- if a step finds in the world what the cell found, then it does what the cell did
 pub happens-acts : (deed : Deed) (w : World) (me : ℕ) → Finds w me deed → happens w (step_of me deed) ≡ acts w me deed
 unfolding happens step_of step_begin tried_at ticked_at stopped_at Finds does notes_down
 happens-acts (Began j) w me f = begin-acts w me j.tx j.seen f.0 f.1
@@ -56,6 +57,7 @@ NamesOwn txs me n (Began j) = (declared txs j.tx).node ≡ me
 NamesOwn txs me n (Tried s) = TriesOwn txs me (try_slot n s).answer
 NamesOwn txs me n _ = Unit {0}
 
+-- if the books of world and cell agree and a deed names the node's own transactions, then they agree after its notes
 pub notes_down-both : (deed : Deed) (degree : Option ℕ) (txs : List TxDecl) (me : ℕ) (n : Node) (b q : Book) → Agrees txs me b q → NamesOwn txs me n deed
     → AgreeAfter txs me (notes_down me degree txs b n deed) (notes_down me degree txs q n deed)
 unfolding notes_down NamesOwn
@@ -90,6 +92,7 @@ none_from : (me : ℕ) → AllFrom me []
 unfolding AllFrom
 none_from me = tt
 
+-- whatever a node does, it keeps its number, and each letter that it sends is from it
 pub does-own : (deed : Deed) (txs : List TxDecl) (n : Node) → IsOwn n.me (does txs n deed)
 unfolding does
 does-own (Began j) txs n = let h = own-begin n (declared txs j.tx).slot j.tx (declared txs j.tx).tx in record { node = h.node; sent = none_from n.me }

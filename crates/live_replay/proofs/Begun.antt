@@ -120,6 +120,7 @@ unfolding step_install installed_at
 install-stays w n e =
     cond_both (nat_lt (length w.views) e) (refuse_step w _) _ (λ (x : Event). Stays w.book x.world.book) (λ _ k h. h) (λ _. passes-stays _ w.book n)
 
+-- what was begun before a step is begun after it
 pub step-stays : (s : Step) (w : World) → Stays w.book (stepped w s).book
 unfolding happens step_begin ticked_at stopped_at
 step-stays (Begin k) w = begin_or_not-stays (begin_refused w k) w k
@@ -176,6 +177,7 @@ weight-falls true y h = rw (h refl) (omega arith)
 weight-falls false true h = omega arith
 weight-falls false false h = omega arith
 
+-- if what was begun stays begun, then the count of those not begun does not rise
 pub unbegun-falls : (ks : List ℕ) (b c : Book) → Stays b c → unbegun c ks ≤ unbegun b ks
 unfolding unbegun
 unbegun-falls [] b c h = omega arith
@@ -183,6 +185,7 @@ unbegun-falls (k ∷ ks) b c h =
     let one = weight-falls (is_some (record_of b k).begun) (is_some (record_of c k).begun) (h k) in
     let rest = unbegun-falls ks b c h in omega arith
 
+-- if one that was not begun is begun, and the others stay begun, then the count of those not begun falls by one at least
 pub unbegun-one : (first count k : ℕ) (b c : Book) → Stays b c → first ≤ k → k < first + count → is_some (record_of b k).begun ≡ false → IsBegun c k
     → suc (unbegun c (numbers_from first count)) ≤ unbegun b (numbers_from first count)
 unfolding unbegun numbers_from
@@ -199,6 +202,7 @@ unbegun-one first (suc count) k b c h le less new begun =
           let rest = unbegun-one (suc first) count k b c h (omega arith) (omega arith) new begun in omega arith
     ]
 
+-- at most all of a list are not begun
 pub unbegun-most : (ks : List ℕ) (b : Book) → unbegun b ks ≤ length ks
 unfolding unbegun
 unbegun-most [] b = omega arith

@@ -120,6 +120,7 @@ begun-made Begun b j k h =
     ]
 begun-made _ b j k h = inl h
 
+-- if a transaction is begun after a deed's notes, then it was begun before, or the deed began it
 pub begun-by : (deed : Deed) (me : ℕ) (degree : Option ℕ) (txs : List TxDecl) (b : Book) (n : Node) (k : ℕ) → IsBegunIn (notes_down me degree txs b n deed).book k
     → IsBegunIn b k ⊎ BeganBy deed k
 unfolding notes_down begun_of

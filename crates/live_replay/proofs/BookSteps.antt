@@ -25,6 +25,7 @@ pub record AgreeAfter (txs : List TxDecl) (me : ℕ) (x y : BookChange) : Type 0
   pub books : Agrees txs me x.book y.book
   pub acked : x.acked ≡ y.acked
 
+-- if two books agree after a change and each next change keeps that, then they agree after both changes
 pub after-then : (txs : List TxDecl) (me : ℕ) (x y : BookChange) (f g : Book → BookChange) → AgreeAfter txs me x y
     → ((b q : Book) → Agrees txs me b q → AgreeAfter txs me (f b) (g q)) → AgreeAfter txs me (change_then x f) (change_then y g)
 after-then txs me x y f g h next =
@@ -206,6 +207,7 @@ pass_numbers-other txs me n s (k ∷ ks) b q a other =
       | inr foreign ↦ rw (ne_eqb s.node n foreign) (pass_tx-foreign (tx_of b s k) txs me b q a)
     ]) other
 
+-- if the books agree, then they agree after the world notes the passes of another node
 pub book_passes-other : (txs : List TxDecl) (me n : ℕ) (ps : List Passed) (b q : Book) → Agrees txs me b q → n ≢ me → Agrees txs me (book_passes b n ps).book q
 unfolding book_passes
 book_passes-other txs me n [] b q a other = a
@@ -214,6 +216,7 @@ book_passes-other txs me n (p ∷ ps) b q a other =
 
 -- ---- begins
 
+-- if the books agree, then they agree after both note the begin of a transaction of this node
 pub book_begun-both : (o : BeginOutcome) (txs : List TxDecl) (me id : ℕ) (b q : Book) → Agrees txs me b q → (declared txs id).node ≡ me → AgreeAfter txs me (book_begun b id o) (book_begun q id o)
 unfolding book_begun
 book_begun-both Begun txs me id b q a own =
@@ -224,6 +227,7 @@ book_begun-both Begun txs me id b q a own =
     }
 book_begun-both _ txs me id b q a own = record { books = a; acked = refl }
 
+-- if the books agree, then they agree after the world notes the begin of a transaction of another node
 pub book_begun-other : (o : BeginOutcome) (txs : List TxDecl) (me id : ℕ) (b q : Book) → Agrees txs me b q → (declared txs id).node ≢ me → Agrees txs me (book_begun b id o).book q
 unfolding book_begun
 book_begun-other Begun txs me id b q a other = world-change txs me b.records q.records id _ a (λ is. absurd (other is)) (a.entries id)
@@ -262,6 +266,7 @@ refuse-both None txs me id b q a own =
     }
 refuse-both (Some d) txs me id b q a own = record { books = a; acked = refl }
 
+-- if the books agree, then they agree after both note the answer of a try at this node
 pub book_tried-both : (t : Tried) (txs : List TxDecl) (me slot : ℕ) (degree : Option ℕ) (b q : Book) → Agrees txs me b q → TriesOwn txs me t
     → AgreeAfter txs me (book_tried b record { node = me; slot = slot } degree t) (book_tried q record { node = me; slot = slot } degree t)
 unfolding book_tried TriesOwn
@@ -289,6 +294,7 @@ refuse-other : (degree : Option ℕ) (txs : List TxDecl) (me id : ℕ) (b q : Bo
 refuse-other None txs me id b q a other = world-change txs me b.records q.records id _ a (λ is. absurd (other is)) (a.entries id)
 refuse-other (Some d) txs me id b q a other = a
 
+-- if the books agree, then they agree after the world notes the answer of a try at another node
 pub book_tried-other : (t : Tried) (txs : List TxDecl) (me n slot : ℕ) (degree : Option ℕ) (b q : Book) → Agrees txs me b q → n ≢ me → TriesOwn txs n t
     → Agrees txs me (book_tried b record { node = n; slot = slot } degree t).book q
 unfolding book_tried TriesOwn

@@ -12,6 +12,7 @@ use Rattle.machine_moves.proofs.Lists.{nth-put_other}
 use Rattle.live_model.specs.Cell.{declared}
 use Rattle.live_replay.specs.Replayed.{SameRun}
 
+-- a record is the same run as itself
 pub same-refl : (r : TxRecord) → SameRun r r
 same-refl r = record { begun = refl; entry = refl; reply = refl; acked = refl; refused = refl }
 
@@ -85,6 +86,7 @@ cell-change txs me bs qs i r a same =
 
 -- ---- the transaction of an entry
 
+-- if two lists of records have the same entries, then an entry's transaction is found in both at the same place
 pub tx_from-same : (s : Stream) (number first : ℕ) (rs qs : List TxRecord) → ((i : ℕ) → is_entry s number (nth no_record rs i).entry ≡ is_entry s number (nth no_record qs i).entry)
     → tx_from s number first rs ≡ tx_from s number first qs
 unfolding tx_from nth is_entry
@@ -93,6 +95,7 @@ tx_from-same s number first [] (q ∷ qs) h = rw (sym (h 0)) (tx_from-same s num
 tx_from-same s number first (r ∷ rs) [] h = rw (h 0) (tx_from-same s number (suc first) rs [] (λ i. h (suc i)))
 tx_from-same s number first (r ∷ rs) (q ∷ qs) h = rw (h 0, tx_from-same s number (suc first) rs qs (λ i. h (suc i))) refl
 
+-- if no record has the entry, then its transaction is not found
 pub tx_from-none : (s : Stream) (number first : ℕ) (rs : List TxRecord) → ((i : ℕ) → is_entry s number (nth no_record rs i).entry ≡ false) → tx_from s number first rs ≡ None
 unfolding tx_from nth
 tx_from-none s number first [] h = refl
@@ -111,6 +114,7 @@ found_in true s number first r rs id is later h = let same : first ≡ id = cc i
 found_in false s number first r rs id is later h =
     let f = later h in let at = f.at in record { place = suc f.place; at = omega arith; is = f.is }
 
+-- if an entry's transaction is found, then its record has the entry
 pub tx_from-found : (s : Stream) (number first : ℕ) (rs : List TxRecord) (id : ℕ) → tx_from s number first rs ≡ Some id → IsFound s number first rs id
 unfolding tx_from
 tx_from-found s number first [] id h = absurd cc

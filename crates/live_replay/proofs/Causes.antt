@@ -19,9 +19,11 @@ use Rattle.live_model.specs.Cluster.{Plan, Cluster, Events, IsCluster, IsThere, 
 
 -- ---- members
 
+-- an element between two lists is in the whole list
 pub In-middle : {A : Type 0} (x : A) (xs ys : List A) → In x (xs ++ x ∷ ys)
 In-middle x xs ys = In-append_right x xs (x ∷ ys) (here x ys refl)
 
+-- if an element is in a front of a list, then it is in the list
 pub front-In : {A : Type 0} (xs ys : List A) (x : A) → IsFront xs ys → In x xs → In x ys
 front-In xs ys x f is = subst (λ (zs : List _). In x zs) f.is (In-append_left x xs f.rest is)
 
@@ -29,12 +31,14 @@ part_kept : {A : Type 0} (y : A) (xs ys : List A) (x : A) → (In x xs → In x 
 part_kept y xs ys x h (here _ _ e) = here y ys e
 part_kept y xs ys x h (there _ _ is) = there y ys (h is)
 
+-- if an element is in a part of a list, then it is in the list
 pub part-In : {A : Type 0} (xs ys : List A) (x : A) → IsPart xs ys → In x xs → In x ys
 part-In [] [] x none is = is
 part-In (y ∷ xs) [] x h is = elim h [ ]
 part-In xs (y ∷ ys) x (left_out _ _ _ h) is = there y ys (part-In xs ys x h is)
 part-In (y ∷ xs) (_ ∷ ys) x (kept _ _ _ h) is = part_kept y xs ys x (part-In xs ys x h) is
 
+-- if a packet travels, then it is among those posted
 pub travelling-In : (ps : List Stamped) (p : Stamped) → In p (travelling ps) → In p ps
 unfolding travelling
 travelling-In [] p is = is
@@ -44,22 +48,26 @@ travelling-In (q ∷ qs) p is =
 
 -- ---- the item that an event took
 
+-- if a cell took a packet in an event, then the packet is among those that it took from this sender
 pub took-In : (sender : ℕ) (p : Stamped) (xs ys : List CellEvent) (e : CellEvent) → e.deed ≡ Took sender p → In p (takes sender (xs ++ e ∷ ys))
 unfolding takes taken_from
 took-In sender p [] ys e is = rw (is, eq-eqb sender sender refl) (here p (takes sender ys) refl)
 took-In sender p (x ∷ xs) ys e is = In-append_right p (taken_from sender x.deed) (takes sender (xs ++ e ∷ ys)) (took-In sender p xs ys e is)
 
+-- if a cell began a job in an event, then the job is among those of its slot
 pub began-In : (txs : List TxDecl) (j : Job) (xs ys : List CellEvent) (e : CellEvent) → e.deed ≡ Began j → In j (jobs txs (declared txs j.tx).slot (xs ++ e ∷ ys))
 unfolding jobs job_of
 began-In txs j [] ys e is = rw (is, eq-eqb (declared txs j.tx).slot (declared txs j.tx).slot refl) (here j (jobs txs (declared txs j.tx).slot ys) refl)
 began-In txs j (x ∷ xs) ys e is =
     In-append_right j (job_of txs (declared txs j.tx).slot x.deed) (jobs txs (declared txs j.tx).slot (xs ++ e ∷ ys)) (began-In txs j xs ys e is)
 
+-- if a cell saw a view in an event, then the sight is among those that it saw
 pub saw-In : (v : Sight) (xs ys : List CellEvent) (e : CellEvent) → e.deed ≡ Saw v → In v (sights_seen (xs ++ e ∷ ys))
 unfolding sights_seen seen_in
 saw-In v [] ys e is = rw is (here v (sights_seen ys) refl)
 saw-In v (x ∷ xs) ys e is = In-append_right v (seen_in x.deed) (sights_seen (xs ++ e ∷ ys)) (saw-In v xs ys e is)
 
+-- if the service took a halt in an event, then the halt is among those that it took of this node
 pub halt-In : (xs ys : List ServiceEvent) (e : ServiceEvent) → In e.halt (halts_taken e.node (xs ++ e ∷ ys))
 unfolding halts_taken
 halt-In [] ys e = rw (eq-eqb e.node e.node refl) (here e.halt (halts_taken e.node ys) refl)
@@ -69,32 +77,38 @@ halt-In (x ∷ xs) ys e =
 
 -- ---- what holds at an event
 
+-- the clock of a cell's event is above the stamp of what it took in
 pub clock-above : (before : ℕ) (xs ys : List CellEvent) (e : CellEvent) → AreClocks before (xs ++ e ∷ ys) → stamp e.deed < e.clock
 unfolding AreClocks
 clock-above before [] ys e h = let is = h.0 in omega arith
 clock-above before (x ∷ xs) ys e h = clock-above x.clock xs ys e h.1
 
+-- the clock of an event of the service is above that of the halt that it took
 pub service_clock-above : (before : ℕ) (xs ys : List ServiceEvent) (e : ServiceEvent) → AreServiceClocks before (xs ++ e ∷ ys) → e.halt < e.clock
 unfolding AreServiceClocks
 service_clock-above before [] ys e h = let is = h.0 in omega arith
 service_clock-above before (x ∷ xs) ys e h = service_clock-above x.clock xs ys e h.1
 
+-- if the deeds of all events of a cell fit, then so does that of each event
 pub fits-at : (c : Config) (txs : List TxDecl) (xs ys : List CellEvent) (e : CellEvent) → DeedsFit c txs (xs ++ e ∷ ys) → DeedFits c txs e.deed
 unfolding DeedsFit
 fits-at c txs [] ys e h = h.0
 fits-at c txs (x ∷ xs) ys e h = fits-at c txs xs ys e h.1
 
+-- if each begin of a cell is of a fresh job, then so is that of each event, after the events before it
 pub fresh-at : (me : ℕ) (c : Config) (txs : List TxDecl) (core : Core) (xs ys : List CellEvent) (e : CellEvent) → BeginFresh me c txs core (xs ++ e ∷ ys)
     → BeginsFresh me txs (core_from me c txs core xs) e.deed
 unfolding BeginFresh core_from
 fresh-at me c txs core [] ys e h = h.0
 fresh-at me c txs core (x ∷ xs) ys e h = fresh-at me c txs (after me c txs core x) xs ys e h.1
 
+-- the members of each view are those of the view before it without the node that halted
 pub views-at : (views : List (List ℕ)) (xs ys : List ServiceEvent) (e : ServiceEvent) → AreViews views (xs ++ e ∷ ys) → e.members ≡ without e.node (last_view (views_from views xs))
 unfolding AreViews views_from
 views-at views [] ys e h = h.0
 views-at views (x ∷ xs) ys e h = views-at (viewed views x.members) xs ys e h.1
 
+-- if the halts of all events of the service fit, then so does that of each event
 pub halts-fit-at : (c : Config) (xs ys : List ServiceEvent) (e : ServiceEvent) → HaltsFit c (xs ++ e ∷ ys) → e.node < c.nodes
 unfolding HaltsFit
 halts-fit-at c [] ys e h = h.0
@@ -107,6 +121,7 @@ declared-fits c first (t ∷ ts) zero fit less = let same : first + 0 ≡ first 
 declared-fits c first (t ∷ ts) (suc k) fit less =
     let same : suc first + k ≡ first + suc k = omega arith in rw (← same) (declared-fits c (suc first) ts k fit.1 (omega arith))
 
+-- if transactions fit, then so does each of them at its number
 pub tx-fits : (c : Config) (txs : List TxDecl) (k : ℕ) → FitTxs c 0 txs → k < length txs → FitsTx c k (declared txs k)
 tx-fits c txs k fit less = let same : 0 + k ≡ k = omega arith in subst (λ (i : ℕ). FitsTx c i (declared txs k)) same (declared-fits c 0 txs k fit less)
 
@@ -156,6 +171,7 @@ pub record WasNoted (p : Plan) (es : Events) (j : Job) (i : ℕ) : Type 0 where
   pub acked : note.end ≡ Acked
   pub seen : note.clock ≤ j.seen
 
+-- if a client knows that a transaction is acknowledged, then its node's cell noted that before
 pub known-noted : (p : Plan) (k : Cluster) (es : Events) (id : ClientId) (j : Job) (i : ℕ) → IsCluster p k es → IsThere p.config id → (declared p.txs i).node < p.config.nodes
     → KnowsAcked p.txs (k.clients id) j i → WasNoted p es j i
 known-noted p k es id j i h at there_i known =
@@ -180,6 +196,7 @@ both_some : (o : Option ℕ) (P Q R : ℕ → Type 0) → IfSome o P → IfSome 
 both_some None P Q R p q f = tt
 both_some (Some i) P Q R p q f = f i p q
 
+-- if a transaction was begun that waits for another, then the acknowledgement of the other was noted
 pub after-noted : (p : Plan) (k : Cluster) (es : Events) (me : ℕ) (j : Job) (xs ys : List CellEvent) (e : CellEvent) → IsCluster p k es → FitTxs p.config 0 p.txs → me < p.config.nodes
     → es.cells me ≡ xs ++ e ∷ ys → e.deed ≡ Began j → (declared p.txs j.tx).node ≡ me → j.tx < length p.txs → IfSome (declared p.txs j.tx).after (λ i. WasNoted p es j i)
 after-noted p k es me j xs ys e h fit there_me is began own less =

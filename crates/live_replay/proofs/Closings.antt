@@ -32,12 +32,15 @@ home-there p k es id h =
 abbrev pub last_world : Plan → Cluster → World
 last_world p k = run (start p.config p.txs) (merged p.config k)
 
+-- a live run ends with the plan's transactions
 pub txs-same : (p : Plan) (k : Cluster) (es : Events) → IsLive p k es → (last_world p k).txs ≡ p.txs
 txs-same p k es h = let m = whole-mirrors p k es h in m.declared
 
+-- a transaction is acknowledged at the end of a live run just if it is at home
 pub acked-same : (p : Plan) (k : Cluster) (es : Events) (id : ℕ) → IsLive p k es → is_acked (last_world p k) id ≡ acked_at_home p k id
 acked-same p k es id h = let s = replay-book p k es (declared p.txs id).node id h (home-there p k es id h) refl in s.acked
 
+-- a transaction has ended at the end of a live run just if it has at home
 pub ended-same : (p : Plan) (k : Cluster) (es : Events) (id : ℕ) → IsLive p k es → is_ended (last_world p k) id ≡ ended_at_home p k id
 ended-same p k es id h =
     let w = last_world p k in
@@ -59,6 +62,7 @@ in_vain-same (suc links) (Some j) p k es h =
     let rest = ap (λ (o : Option ℕ). waits_in_vain (last_world p k) links o) (after-same p k es j h) ∙ in_vain-same links (declared p.txs j).after p k es h in
     rw (acked-same p k es j h, ended-same p k es j h, rest) refl
 
+-- a transaction is closed at the end of a live run just if it is at home
 pub closed-same : (p : Plan) (k : Cluster) (es : Events) (id : ℕ) → IsLive p k es → is_closed (last_world p k) id ≡ closed_at_home p k id
 unfolding is_closed closed_at_home
 closed-same p k es id h =
@@ -70,6 +74,7 @@ unfolding each_closed each_closed_at_home
 each-same [] p k es h = refl
 each-same (id ∷ ids) p k es h = rw (closed-same p k es id h, each-same ids p k es h) refl
 
+-- all transactions are closed at the end of a live run just if each is at home
 pub all_closed-same : (p : Plan) (k : Cluster) (es : Events) → IsLive p k es → all_closed (last_world p k) ≡ all_closed_at_home p k
 all_closed-same p k es h =
     ap (λ (ts : List TxDecl). each_closed (last_world p k) (below (length ts))) (txs-same p k es h) ∙ each-same (below (length p.txs)) p k es h

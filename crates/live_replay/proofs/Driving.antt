@@ -43,6 +43,7 @@ pub record IsWithin (p : Plan) : Type 0 where
   pub limits : KeepsLimits p.config
   pub txs : FitTxs p.config 0 p.txs
 
+-- if a drive goes on within the plan, then its world is known
 pub going-known : (p : Plan) (before : List Step) (g : Going) → IsWithin p → IsGoing p before g → IsKnownWorld p g.world (has_stop (before ++ g.steps))
 going-known p before g within h =
     subst (λ (w : World). IsKnownWorld p w (has_stop (before ++ g.steps))) (sym h.world) (live-known p (before ++ g.steps) within.limits within.txs h.live)
@@ -84,6 +85,7 @@ step-node (Stop m) p n within fits is = subst (λ (x : ℕ). x < p.config.nodes)
 step-node (View set) p n within fits is = absurd cc
 step-node (Install m e) p n within fits is = subst (λ (x : ℕ). x < p.config.nodes) (eqb-true m n is) fits.0
 
+-- if both together are true, then each is
 pub both_parts : (a b : Bool) → (a && b) ≡ true → (a ≡ true) × (b ≡ true)
 both_parts true true h = (refl, refl)
 both_parts true false h = absurd cc
@@ -152,6 +154,7 @@ offer-going p before g s within h may =
     (λ closed. record { world = h.world; live = h.live; count = h.count; ended = λ over. closed })
     (λ _. open-offer p before g s within h ongoing may))
 
+-- if a step may be offered where a test is true, then the drive goes on after the offer
 pub offer_where-going : (test : Bool) (p : Plan) (before : List Step) (g : Going) (s : Step) → IsWithin p → IsGoing p before g → (test ≡ true → MayOffer p g.world (has_stop (before ++ g.steps)) s)
     → IsGoing p before (offer_where test p.kill g s)
 offer_where-going true p before g s within h may = offer-going p before g s within h (may refl)
@@ -192,6 +195,7 @@ deliver-may p w stopped sender receiver i s r less =
     let l = nth_letter-there (link w.links sender receiver) i less in
     record { fits = (s, r); no_stop = refl; found = deliver-found (nth_letter (link w.links sender receiver) i) w sender receiver l.0 l.1; behind = λ needs. absurd cc }
 
+-- if the opposite of a test is true, then the test is false
 pub not_false : (b : Bool) → not b ≡ true → b ≡ false
 not_false true h = absurd cc
 not_false false h = refl
@@ -214,6 +218,7 @@ unfolding begin_or_not IsMissed
 begin-found None w k is missed = missed
 begin-found (Some a) w k is missed = absurd cc
 
+-- if a transaction can begin, then its begin is not refused
 pub can_begin-free : (w : World) (k : ℕ) → can_begin w k ≡ true → begin_refused w k ≡ None
 unfolding can_begin begin_refused
 can_begin-free w k h =

@@ -23,6 +23,7 @@ use Rattle.live_replay.proofs.Acks.{IsAcked, notes_down-acks}
 use Rattle.live_replay.proofs.Posting.{NoneBefore}
 use Rattle.live_replay.proofs.Tries.{does-stopped, stop-stops}
 
+-- events put together lead a cell's core where the later ones lead it from the core after the earlier ones
 pub core_from-append : (me : ℕ) (c : Config) (txs : List TxDecl) (core : Core) (xs ys : List CellEvent) → core_from me c txs core (xs ++ ys) ≡ core_from me c txs (core_from me c txs core xs) ys
 unfolding core_from
 core_from-append me c txs core [] ys = refl
@@ -93,6 +94,7 @@ stops_of-told : (halt : Bool) (me : ℕ) (txs : List TxDecl) (core : Core) (cloc
 stops_of-told true me txs core clock ks all n is = stopped_at-told me txs core clock ks all n is
 stops_of-told false me txs core clock ks all n is = In-nothing n is
 
+-- if a note is among those that a client waits for, then it is among all
 pub awaited-In : (txs : List TxDecl) (client : ClientId) (ns : List Note) (n : Note) → In n (awaited txs client ns) → In n ns
 unfolding awaited
 awaited-In txs client [] n is = is
@@ -145,6 +147,7 @@ noted-early me c txs client bound core (e ∷ es) ys n none less acked is =
 
 -- ---- stops
 
+-- no deed but `Halted` is a halt
 pub is_halted : (d : Deed) → is_halt d ≡ true → d ≡ Halted
 unfolding is_halt
 is_halted Halted h = refl
@@ -155,6 +158,7 @@ halt_of-clock true clock h (here _ _ e) = (e, refl)
 halt_of-clock true clock h (there _ _ is) = In-nothing h is
 halt_of-clock false clock h is = In-nothing h is
 
+-- if no event is before a bound, then no halt is
 pub halts-late : (bound : ℕ) (es : List CellEvent) (h : ℕ) → NoneBefore bound es → In h (halts es) → bound ≤ h
 unfolding halts halt_of NoneBefore
 halts-late bound [] h none is = In-nothing h is
@@ -228,6 +232,7 @@ sight_at-view m views e v is =
     let place : v.epoch - 1 ≡ length views = omega arith in
     (ap (λ (x : Sight). x.clock) h.0, rw some (record { first = omega arith; made = omega arith; is = rw (place, members) (nth-last [] views e.members) }))
 
+-- if no event of the service is before a bound, then no sight of a view is
 pub sights-late : (m bound : ℕ) (views : List (List ℕ)) (es : List ServiceEvent) (v : Sight) → NoneServedBefore bound es → In v (sights_from m views es) → bound ≤ v.clock
 unfolding sights_from NoneServedBefore
 sights-late m bound views [] v none is = In-nothing v is

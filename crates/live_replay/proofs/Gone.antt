@@ -79,6 +79,7 @@ unfolding after notes_down is_open_at
 halted-lost me c txs core e k is unended =
     inr (rw is (stop-stops txs core.node), rw is (open-unacked ((declared txs k).node == me) _ _ (record_of core.book k).acked refl unended))
 
+-- if no event is in a list, then the list is empty
 pub no_events : (es : List CellEvent) → IsEmpty es → es ≡ []
 unfolding IsEmpty
 no_events [] h = refl
@@ -140,6 +141,7 @@ begun-taken me c txs core (e ∷ es) k h =
 none_begun : (me : ℕ) (c : Config) (txs : List TxDecl) (k : ℕ) → IsBegunIn (start_core me c txs).book k → ⊥
 none_begun me c txs k h = let none : is_some no_record.begun ≡ true = rw (nth-none no_record (length txs) k) at h in absurd cc
 
+-- what is at home of a transaction is in the core of its node's cell
 pub home-core : (p : Plan) (k : Cluster) (es : Events) (id : ℕ) → IsLive p k es → home p k id ≡ core (declared p.txs id).node p.config p.txs (es.cells (declared p.txs id).node)
 home-core p k es id h =
     let cluster = h.cluster in
@@ -304,6 +306,7 @@ none_of : {A : Type 0} (o : Option A) → is_some o ≡ false → o ≡ None
 none_of None h = refl
 none_of (Some a) h = absurd cc
 
+-- if a client of a live run passes over a transaction, then its record is untouched at the end of the run
 pub replay-gone : (p : Plan) (k : Cluster) (es : Events) (id : ClientId) (t : ℕ) → IsLive p k es → IsThere p.config id → IsGone p.txs (k.clients id) t
     → IsUntouched (record_of (run (start p.config p.txs) (merged p.config k)).book t)
 replay-gone p k es id t h at g =
@@ -314,6 +317,7 @@ replay-gone p k es id t h at g =
       acked = none_of _ (run_state.acked ∙ false_unless (acked_at_home p k t) (λ acked. unbegun (acked-begun p k es t h acked)));
     }
 
+-- if a client of a live run passes over a transaction, then it is closed at the end of the run
 pub replay-gone_closed : (p : Plan) (k : Cluster) (es : Events) (id : ClientId) (t : ℕ) → IsLive p k es → IsThere p.config id → IsGone p.txs (k.clients id) t
     → is_closed (run (start p.config p.txs) (merged p.config k)) t ≡ true
 unfolding closed_at_home

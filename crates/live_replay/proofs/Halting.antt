@@ -164,6 +164,7 @@ steps-halted n [] is = In-nothing (Stop n) is
 steps-halted n (cell_turn m e ∷ ts) is = turn_halted m n e ts (steps-halted n ts) is
 steps-halted n (service_turn e ∷ ts) is = steps-halted n ts (served_later n e.members (map turn_step ts) is)
 
+-- if a node is live before a run and stopped after it, then the run has a stop of the node
 pub run-halted : (c : Config) (txs : List TxDecl) (steps : List Step) (w : World) (n : ℕ) → w.config ≡ c → w.txs ≡ txs → IsReached w → All (StepFits c txs) steps → (node w n).stopped ≡ false
     → (node (run w steps) n).stopped ≡ true → In (Stop n) steps
 run-halted c txs steps w n config same r fits runs h =

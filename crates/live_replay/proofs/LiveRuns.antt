@@ -38,6 +38,7 @@ use Rattle.live_replay.proofs.Serving.{start-mirrors, start-node, last_view-more
 
 -- ---- one more step
 
+-- a run with one more step is the run and then that step
 pub run-more : (w : World) (xs : List Step) (s : Step) → run w (xs ++ s ∷ []) ≡ stepped (run w xs) s
 unfolding run
 run-more w [] s = refl
@@ -86,6 +87,7 @@ live-more p xs s h fits found due behind =
       stops = stops-more p.kill p.txs 0 false xs s h.stops (subst (λ (n : ℕ). is_stop s ≡ is_due p.kill p.txs n s) same due) (λ needs. or_false (has_stop xs) ∙ behind needs);
     }
 
+-- one more step of a run counts as itself and leaves the count of the others
 pub count_of-more : (kill : Option Kill) (txs : List TxDecl) (xs : List Step) (s : Step) → count_of kill txs (xs ++ s ∷ []) ≡ count_of kill txs xs + counts_as kill txs s
 unfolding count_of
 count_of-more kill txs [] s = omega arith
@@ -120,6 +122,7 @@ stopped-put w n k m h =
       | inr other ↦ ap (λ (x : Node). x.stopped) (nth-put_other no_node w.nodes n k m other)
     ]
 
+-- a begin leaves views and stops as they are
 pub quiet-begin : (o : Option Answer) (w : World) (k : ℕ) → IsUsual w → Quiet w (begin_or_not w k o).world
 unfolding begin_or_not system
 quiet-begin (Some a) w k u = quiet-refused w a
@@ -129,6 +132,7 @@ quiet-begin None w k u =
     let keeps = r.keeps in
     record { config = refl; declared = refl; views = refl; stopped = λ n. stopped-put w t.node n _ keeps.stopped }
 
+-- a try leaves views and stops as they are
 pub quiet-try : (w : World) (n s : ℕ) → IsUsual w → s < w.config.slots → Quiet w (tried_at w n s (try_slot (node w n) s)).world
 unfolding tried_at system
 quiet-try w n s u less =
@@ -136,6 +140,7 @@ quiet-try w n s u less =
     let keeps = r.keeps in
     record { config = refl; declared = refl; views = refl; stopped = λ k. stopped-put w n k _ keeps.stopped }
 
+-- a delivery leaves views and stops as they are
 pub quiet-deliver : (o : Option Letter) (w : World) (sender receiver i : ℕ) → IsUsual w → nth_letter (link w.links sender receiver) i ≡ o → Quiet w (deliver_or_not w sender receiver o).world
 unfolding deliver_or_not received_at system HasEnds
 quiet-deliver None w sender receiver i u is = quiet-refused w (NoPacket (length (link w.links sender receiver)))
@@ -146,6 +151,7 @@ quiet-deliver (Some l) w sender receiver i u is =
     let keeps = r.keeps in
     record { config = refl; declared = refl; views = refl; stopped = λ k. stopped-put w receiver k _ keeps.stopped }
 
+-- a tick leaves views and stops as they are
 pub quiet-tick : (w : World) (n : ℕ) → IsUsual w → Quiet w (ticked_at w n (tick (node w n))).world
 unfolding ticked_at system
 quiet-tick w n u =
@@ -190,6 +196,7 @@ install-known p w n e stopped h is =
     (λ _ reached. known-stopped p w _ stopped is refl refl reached h.last h.first h)
     (λ _ reached. known-stopped p w _ stopped is refl refl reached h.last h.first h)
 
+-- if a world is known and a step fits, and comes after a stop where it needs one, then the world after it is known
 pub step-known : (s : Step) (p : Plan) (w : World) (stopped : Bool) → IsKnownWorld p w stopped → StepFits p.config p.txs s → (needs_stop s ≡ true → stopped ≡ true)
     → IsKnownWorld p (stepped w s) (is_stop s || stopped)
 unfolding happens step_begin is_stop needs_stop stopped_at StepFits

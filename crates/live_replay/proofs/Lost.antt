@@ -280,6 +280,7 @@ home-told p k es id x h less waits lost far =
     true_or_false true = inl refl
     true_or_false false = inr refl
 
+-- if a transaction waits behind a lost one and its client has the notes of that one's node, then the client passes over it
 pub replay-lost_gone : (p : Plan) (k : Cluster) (es : Events) (id : ClientId) (t x : ℕ) → IsLive p k es → IsThere p.config id → is_of p.txs id t ≡ true → waits_behind p.txs t x ≡ true
     → IsLost (run (start p.config p.txs) (merged p.config k)) x → travels ((k.cells (declared p.txs x).node).core).clock ≡ true
     → (k.clients id).notes (declared p.txs x).node ≡ (k.cells (declared p.txs x).node).notes id → IsGone p.txs (k.clients id) t

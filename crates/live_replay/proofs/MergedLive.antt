@@ -306,6 +306,7 @@ none_served : service_part [] ≡ []
 unfolding part
 none_served = refl
 
+-- the merged journals of a live run are the steps of a live run of the machine
 pub merged-live : (p : Plan) (k : Cluster) (es : Events) → IsLive p k es → IsLiveRun p (merged p.config k)
 unfolding run
 merged-live p k es h =

@@ -13,6 +13,7 @@ use Rattle.live_model.specs.Merge.{Pick, behind_empty, earlier, pick, first_in, 
 
 -- ---- what a function finds in a list
 
+-- the part of two lists put together is that of the first and then that of the second
 pub part-append : {A B : Type 0} (f : A → List B) (xs ys : List A) → part f (xs ++ ys) ≡ part f xs ++ part f ys
 unfolding part
 part-append f [] ys = refl
@@ -21,6 +22,7 @@ part-append {B = B} f (x ∷ xs) ys = ap (λ (zs : List B). f x ++ zs) (part-app
 abbrev pub Silent : {A B : Type 0} → (A → List B) → List A → Type 0
 Silent {A} f xs = (x : A) → In x xs → f x ≡ []
 
+-- if nothing of a list is of a part, then the part is empty
 pub silent-part : {A B : Type 0} (f : A → List B) (xs : List A) → Silent f xs → part f xs ≡ []
 unfolding part
 silent-part f [] h = refl
@@ -157,6 +159,7 @@ pick-picked f clock ((x ∷ xs) ∷ ls) = earlier-picked f clock x xs ls (pick c
 
 -- ---- the merge
 
+-- the count of the elements of lists is the length of all of them together
 pub count_all-length : {A : Type 0} (ls : List (List A)) → count_all ls ≡ length (all_of ls)
 unfolding count_all all_of
 count_all-length [] = refl
@@ -204,6 +207,7 @@ merge_of-merged f clock zero ls counted = nothing-merged f clock ls (no_elements
 merge_of-merged f clock (suc count) ls counted =
     picked-merged f clock count ls (pick clock ls) (pick-picked f clock ls) counted (merge_of-merged f clock count)
 
+-- the merge of lists has all of their elements, those of each list in their order, and its clocks rise where theirs do
 pub merge-merged : {A B : Type 0} (f : A → List B) (clock : A → ℕ) (ls : List (List A)) → IsMerged f clock ls (merge clock ls)
 merge-merged f clock ls = merge_of-merged f clock (count_all ls) ls (sym (count_all-length ls))
 
@@ -251,5 +255,6 @@ unfolding count_all
 count_all-map g [] = refl
 count_all-map g (l ∷ ls) = rw (length-map l g, count_all-map g ls) refl
 
+-- to map lists and then merge them by clock is to merge them by the clock of the mapped and then map
 pub merge-map : {A B : Type 0} (clock : B → ℕ) (g : A → B) (ls : List (List A)) → merge clock (map (map g) ls) ≡ map g (merge (λ y. clock (g y)) ls)
 merge-map clock g ls = rw (count_all-map g ls) (merge_of-map clock g (count_all ls) ls)

@@ -38,6 +38,7 @@ pub record Mirrors (c : Config) (txs : List TxDecl) (past : List Turn) (w : Worl
 
 -- ---- one more event of a node
 
+-- the part of a list with one more element at the end is that of the list and then that of the element
 pub part-one : {A B : Type 0} (f : A → List B) (xs : List A) (x : A) → part f (xs ++ x ∷ []) ≡ part f xs ++ f x
 unfolding part
 part-one {B = B} f xs x = part-append f xs (x ∷ []) ∙ ap (λ (ys : List B). part f xs ++ ys) (append-nil (f x))
@@ -127,6 +128,7 @@ pub acted_acked : (c : Config) (txs : List TxDecl) (past : List Turn) (w : World
     → (acts w me e.deed).acked ≡ (notes_down me c.degree txs (core_of c txs me past).book (core_of c txs me past).node e.deed).acked
 acted_acked c txs past w me e m s = let a = acted_books c txs past w me e m s in a.acked
 
+-- if the world mirrors the events so far, then a cell's deed has the same answer in the world and in the cell
 pub acted_answer : (c : Config) (txs : List TxDecl) (past : List Turn) (w : World) (me : ℕ) (e : CellEvent) → Mirrors c txs past w → me < c.nodes
     → (acts w me e.deed).answer ≡ (does txs (core_of c txs me past).node e.deed).answer
 acted_answer c txs past w me e m there =

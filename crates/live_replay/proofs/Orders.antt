@@ -160,6 +160,7 @@ place_is : (n bound : ℕ) (e : CellEvent) → place_of (cell_turn n e) bound �
 unfolding place_of
 place_is n bound e h = h
 
+-- the merge of the journals of a cluster is an order of all events, with rising clocks
 pub turns-order : (p : Plan) (k : Cluster) (es : Events) → IsCluster p k es → IsOrder p.config es (turns p.config es)
 unfolding turns all_turns
 turns-order p k es h =

@@ -18,6 +18,7 @@ unfoldable pub letters : List Posted → List Letter
 letters [] = []
 letters (p ∷ ps) = p.letter ∷ letters ps
 
+-- the letters of two lists of posts put together are those of the first and then those of the second
 pub letters-append : (xs ys : List Posted) → letters (xs ++ ys) ≡ letters xs ++ letters ys
 unfolding letters
 letters-append [] ys = refl
@@ -51,6 +52,7 @@ none-posted : (receiver clock : ℕ) (ls : List Letter) → ls ≡ ls ++ letters
 unfolding posts_to letters
 none-posted receiver clock ls = sym (append-nil ls)
 
+-- posting a node's letters puts those to a receiver behind the letters of that link
 pub all_posted-own : (links : List (List (List Letter))) (ls : List Letter) (me receiver clock : ℕ) → AllFrom me ls
     → link (all_posted links ls) me receiver ≡ link links me receiver ++ letters (posts_to receiver clock ls)
 unfolding all_posted AllFrom
@@ -58,6 +60,7 @@ all_posted-own links [] me receiver clock h = none-posted receiver clock (link l
 all_posted-own links (l ∷ ls) me receiver clock h =
     all_posted-own (posted links l) ls me receiver clock h.1 ∙ posted-own links l me receiver clock ls h.0
 
+-- posting a node's letters leaves the links of each other sender
 pub all_posted-other : (links : List (List (List Letter))) (ls : List Letter) (me sender receiver : ℕ) → AllFrom me ls → sender ≢ me
     → link (all_posted links ls) sender receiver ≡ link links sender receiver
 unfolding all_posted AllFrom
@@ -94,6 +97,7 @@ numbered-early k bound (x ∷ xs) qs p from less (there _ _ is) =
 
 -- ---- the posts of events
 
+-- the posts of events put together are those of the earlier ones and then those of the later ones
 pub posts_from-append : (me : ℕ) (c : Config) (txs : List TxDecl) (receiver : ℕ) (core : Core) (xs ys : List CellEvent)
     → posts_from me c txs receiver core (xs ++ ys) ≡ posts_from me c txs receiver core xs ++ posts_from me c txs receiver (core_from me c txs core xs) ys
 unfolding posts_from core_from
@@ -120,6 +124,7 @@ unfoldable pub NoneBefore : ℕ → List CellEvent → Type 0
 NoneBefore bound [] = Unit {0}
 NoneBefore bound (e ∷ es) = (bound ≤ e.clock) × NoneBefore bound es
 
+-- if no event is before a bound, then no post is
 pub posts_from-late : (me : ℕ) (c : Config) (txs : List TxDecl) (receiver bound : ℕ) (core : Core) (es : List CellEvent) → NoneBefore bound es → PostsFrom bound (posts_from me c txs receiver core es)
 unfolding posts_from NoneBefore
 posts_from-late me c txs receiver bound core [] none p is = In-nothing p is

@@ -78,6 +78,7 @@ pub record IsAt (c : Config) (es : Events) (past : List Turn) (t : Turn) (future
   pub late : (n : ℕ) → NoneBefore (turn_clock t) (cell_part n (t ∷ future))
   pub served_late : NoneServedBefore (turn_clock t) (service_part (t ∷ future))
 
+-- where a turn stands in an order of all events, each journal is what came before the turn, and what comes from it on
 pub order-at : (c : Config) (es : Events) (past : List Turn) (t : Turn) (future : List Turn) → IsOrder c es (past ++ t ∷ future) → IsAt c es past t future
 order-at c es past t future o =
     let late = rises-late turn_clock past t future o.rises in
@@ -95,6 +96,7 @@ own-part me e future = rw (eq_same me) refl
     eq_same : (n : ℕ) → (n == n) ≡ true
     eq_same n = eq-eqb n n refl
 
+-- an event of the service is the next one of the service's part
 pub served-part : (e : ServiceEvent) (future : List Turn) → service_part (service_turn e ∷ future) ≡ e ∷ service_part future
 unfolding part of_service
 served-part e future = refl
@@ -109,10 +111,12 @@ begun-live n s id tx h = live n.stopped (begin_free n s record { id = id; tx = t
     live true d h = absurd cc
     live false d h = refl
 
+-- if a test is false, then there is nothing where it must be true
 pub where_false : {A : Type 0} (b : Bool) (a : A) → b ≡ false → where_true b a ≡ None
 unfolding where_true
 where_false b a h = rw h refl
 
+-- if three places have nothing, then the search in all three finds nothing
 pub three_none : {A : Type 0} (a b c : Option A) → a ≡ None → b ≡ None → c ≡ None → or_else a (or_else b c) ≡ None
 unfolding or_else
 three_none a b c ha hb hc = rw (ha, hb, hc) refl
@@ -155,16 +159,19 @@ pub record AtCell (p : Plan) (k : Cluster) (es : Events) (past : List Turn) (me 
 abbrev pub Split : Plan → Cluster → Events → List Turn → ℕ → CellEvent → List Turn → World → Type 0
 Split p k es past me e future w = AtCell p k es past me e future w → es.cells me ≡ cell_part me past ++ e ∷ cell_part me future
 
+-- where a cell's event stands in the order, its journal is the part before it, the event, and the part to come
 pub at-split : (p : Plan) (k : Cluster) (es : Events) (past : List Turn) (me : ℕ) (e : CellEvent) (future : List Turn) (w : World) → Split p k es past me e future w
 at-split p k es past me e future w a =
     let at = a.at in at.cells me a.there ∙ ap (λ (zs : List CellEvent). cell_part me past ++ zs) (own-part me e future)
 
+-- where a cell's event stands in the order, its clock is above the stamp of what it took in
 pub at-stamp : (p : Plan) (k : Cluster) (es : Events) (past : List Turn) (me : ℕ) (e : CellEvent) (future : List Turn) (w : World) → AtCell p k es past me e future w → stamp e.deed < e.clock
 at-stamp p k es past me e future w a =
     let h = a.cluster in
     let cell = h.cells me a.there in
     clock-above 0 (cell_part me past) (cell_part me future) e (subst (λ (zs : List CellEvent). AreClocks 0 zs) (at-split p k es past me e future w a) cell.clocks)
 
+-- where a cell's event stands in the order, its deed fits
 pub at-fits : (p : Plan) (k : Cluster) (es : Events) (past : List Turn) (me : ℕ) (e : CellEvent) (future : List Turn) (w : World) → AtCell p k es past me e future w → DeedFits p.config p.txs e.deed
 at-fits p k es past me e future w a =
     let h = a.cluster in
@@ -172,6 +179,7 @@ at-fits p k es past me e future w a =
     fits-at p.config p.txs (cell_part me past) (cell_part me future) e
     (subst (λ (zs : List CellEvent). DeedsFit p.config p.txs zs) (at-split p k es past me e future w a) cell.fit)
 
+-- where a cell's event stands in the order and begins a job, the job is fresh
 pub at-fresh : (p : Plan) (k : Cluster) (es : Events) (past : List Turn) (me : ℕ) (e : CellEvent) (future : List Turn) (w : World) → AtCell p k es past me e future w
     → BeginsFresh me p.txs (core_of p.config p.txs me past) e.deed
 at-fresh p k es past me e future w a =
@@ -180,6 +188,7 @@ at-fresh p k es past me e future w a =
     fresh-at me p.config p.txs (start_core me p.config p.txs) (cell_part me past) (cell_part me future) e
     (subst (λ (zs : List CellEvent). BeginFresh me p.config p.txs (start_core me p.config p.txs) zs) (at-split p k es past me e future w a) cell.begins)
 
+-- if a cell began a fresh job, then its begin is not refused in the world
 pub finds-begin : (p : Plan) (k : Cluster) (es : Events) (past : List Turn) (me : ℕ) (e : CellEvent) (future : List Turn) (w : World) (j : Job) → AtCell p k es past me e future w
     → e.deed ≡ Began j → IsFresh me p.txs (core_of p.config p.txs me past) j → j.tx < length p.txs → j.seen < e.clock → begin_refused w j.tx ≡ None
 unfolding begin_refused entry_of
@@ -199,6 +208,7 @@ finds-begin p k es past me e future w j a began fresh less seen =
     three_none _ _ _ (where_false _ Twice unbegun) (where_false _ (BeginAnswer Stopped) running)
     (waits-none (declared w.txs j.tx).after w (subst (λ (ts : List TxDecl). IfSome (declared ts j.tx).after (λ i. is_some (record_of w.book i).acked ≡ true)) (sym m.declared) acked))
 
+-- if a cell took a packet, then its letter is on the link in the world, at its number
 pub finds-packet : (p : Plan) (k : Cluster) (es : Events) (past : List Turn) (me : ℕ) (e : CellEvent) (future : List Turn) (w : World) (sender : ℕ) (q : Stamped) → AtCell p k es past me e future w
     → e.deed ≡ Took sender q → sender < p.config.nodes → q.clock < e.clock → nth_letter (link w.links sender me) q.number ≡ Some q.letter
 unfolding sends entry_of
@@ -216,6 +226,7 @@ finds-packet p k es past me e future w sender q a took there_sender less =
     let place : q.number - 0 ≡ q.number = omega arith in
     rw (m.links sender me there_sender) (rw place at early.1)
 
+-- if a cell saw a view, then the world has it
 pub finds-view : (p : Plan) (k : Cluster) (es : Events) (past : List Turn) (me : ℕ) (e : CellEvent) (future : List Turn) (w : World) (v : Sight) → AtCell p k es past me e future w
     → e.deed ≡ Saw v → v.clock < e.clock → HasView w.views v
 unfolding entry_of

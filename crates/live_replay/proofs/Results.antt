@@ -33,28 +33,35 @@ use Rattle.live_replay.proofs.Turns.{order-mirrors, turn-answer, turn-acked, at-
 abbrev pub Split : Plan → Events → List Turn → List Turn → Type 0
 Split p es past future = past ++ future ≡ turns p.config es
 
+-- the turns of a live run before and after a place are an order of all events
 pub split-order : (p : Plan) (k : Cluster) (es : Events) (past future : List Turn) → IsLive p k es → Split p es past future → IsOrder p.config es (past ++ future)
 split-order p k es past future h is = subst (λ (ts : List Turn). IsOrder p.config es ts) (sym is) (turns-order p k es h.cluster)
 
+-- the world after the first turns of a live run is what these turns have made of it
 pub split-mirrors : (p : Plan) (k : Cluster) (es : Events) (past future : List Turn) → IsLive p k es → Split p es past future → Mirrors p.config p.txs past (world_after p past)
 split-mirrors p k es past future h is =
     let txs = h.txs in order-mirrors p k es past future h.limits txs.each h.cluster (split-order p k es past future h is)
 
+-- the world after all steps of a live run is what all its turns have made of it
 pub whole-mirrors : (p : Plan) (k : Cluster) (es : Events) → IsLive p k es → Mirrors p.config p.txs (turns p.config es) (run (start p.config p.txs) (merged p.config k))
 whole-mirrors p k es h =
     rw (merged-turns p k es h.cluster) (split-mirrors p k es (turns p.config es) [] h (append-nil (turns p.config es)))
 
 -- ---- the steps
 
+-- the merged journals of a live run are the steps of its turns
 pub replay-steps : (p : Plan) (k : Cluster) (es : Events) → IsLive p k es → merged p.config k ≡ map turn_step (turns p.config es)
 replay-steps p k es h = merged-turns p k es h.cluster
 
+-- the events of each cell of a live run are its part of the turns
 pub replay-cells : (p : Plan) (k : Cluster) (es : Events) (n : ℕ) → IsLive p k es → n < p.config.nodes → cell_part n (turns p.config es) ≡ es.cells n
 replay-cells p k es n h less = let o = turns-order p k es h.cluster in o.cells n less
 
+-- the events of the service of a live run are its part of the turns
 pub replay-service : (p : Plan) (k : Cluster) (es : Events) → IsLive p k es → service_part (turns p.config es) ≡ es.service
 replay-service p k es h = let o = turns-order p k es h.cluster in o.service
 
+-- the clocks of the turns of a live run rise
 pub replay-clocks : (p : Plan) (k : Cluster) (es : Events) → IsLive p k es → Rises turn_clock (turns p.config es)
 replay-clocks p k es h = let o = turns-order p k es h.cluster in o.rises
 
@@ -66,17 +73,20 @@ each-fits p k es past (t ∷ ts) h is =
     (turn-fits t p k es past ts (world_after p past) h.cluster txs.each (split-order p k es past (t ∷ ts) h is) (split-mirrors p k es past (t ∷ ts) h is))
     (each-fits p k es (past ++ t ∷ []) ts h (append_assoc past (t ∷ []) ts ∙ is))
 
+-- the merged steps of a live run fit its configuration and transactions
 pub replay-fits : (p : Plan) (k : Cluster) (es : Events) → IsLive p k es → All (StepFits p.config p.txs) (merged p.config k)
 replay-fits p k es h = rw (merged-turns p k es h.cluster) (each-fits p k es [] (turns p.config es) h refl)
 
 -- ---- the answers
 
+-- each step of the replay answers what the cell or the service answered
 pub replay-answer : (p : Plan) (k : Cluster) (es : Events) (past : List Turn) (t : Turn) (future : List Turn) → IsLive p k es → Split p es past (t ∷ future)
     → (happens (world_after p past) (turn_step t)).answer ≡ given p past t
 replay-answer p k es past t future h is =
     let txs = h.txs in
     turn-answer t p k es past future (world_after p past) h.cluster txs.each (split-order p k es past (t ∷ future) h is) (split-mirrors p k es past (t ∷ future) h is)
 
+-- each step of the replay acknowledges what the cell acknowledged
 pub replay-acked : (p : Plan) (k : Cluster) (es : Events) (past : List Turn) (t : Turn) (future : List Turn) → IsLive p k es → Split p es past (t ∷ future)
     → (happens (world_after p past) (turn_step t)).acked ≡ acknowledged p past t
 replay-acked p k es past t future h is =
@@ -97,12 +107,14 @@ unfolding given IsMissed
 given-hits (cell_turn n e) p past h = deed-hits e.deed p.txs (core_of p.config p.txs n past).node h
 given-hits (service_turn e) p past h = h
 
+-- no step of the replay misses
 pub replay-hits : (p : Plan) (k : Cluster) (es : Events) (past : List Turn) (t : Turn) (future : List Turn) → IsLive p k es → Split p es past (t ∷ future)
     → IsMissed (happens (world_after p past) (turn_step t)).answer → ⊥
 replay-hits p k es past t future h is missed = given-hits t p past (subst IsMissed (replay-answer p k es past t future h is) missed)
 
 -- ---- begins
 
+-- where a cell's event stands in a live run, what holds at a cell's events holds in the world before it
 pub at-begin : (p : Plan) (k : Cluster) (es : Events) (past : List Turn) (n : ℕ) (e : CellEvent) (future : List Turn) → IsLive p k es → Split p es past (cell_turn n e ∷ future)
     → AtCell p k es past n e future (world_after p past)
 at-begin p k es past n e future h is =
@@ -115,6 +127,7 @@ begun-answer p n core d j is fresh =
     let f : BeginsFresh n p.txs core (Began j) = subst (λ (x : Deed). BeginsFresh n p.txs core x) is fresh in
     rw is (ap BeginAnswer f.begun)
 
+-- if a cell of a live run began a job, then the step of the replay begins the transaction
 pub replay-begun : (p : Plan) (k : Cluster) (es : Events) (past : List Turn) (n : ℕ) (e : CellEvent) (future : List Turn) (j : Job) → IsLive p k es
     → Split p es past (cell_turn n e ∷ future) → e.deed ≡ Began j → (happens (world_after p past) (turn_step (cell_turn n e))).answer ≡ BeginAnswer Begun
 unfolding given
@@ -150,6 +163,7 @@ replay-after p k es past n e future j h is began =
 
 -- ---- the last world
 
+-- the replay of a live run ends with the nodes of the cells
 pub replay-node : (p : Plan) (k : Cluster) (es : Events) (n : ℕ) → IsLive p k es → n < p.config.nodes
     → node (run (start p.config p.txs) (merged p.config k)) n ≡ ((k.cells n).core).node
 replay-node p k es n h less =
@@ -163,6 +177,7 @@ unfolding numbered letters
 numbered-letters number [] = refl
 numbered-letters number (x ∷ xs) = ap (λ (ls : List Letter). x.letter ∷ ls) (numbered-letters (suc number) xs)
 
+-- the replay of a live run ends with the letters on each link that its sender's cell sent
 pub replay-link : (p : Plan) (k : Cluster) (es : Events) (sender receiver : ℕ) → IsLive p k es → sender < p.config.nodes
     → link (run (start p.config p.txs) (merged p.config k)).links sender receiver ≡ map (λ (q : Stamped). q.letter) (sends sender p.config p.txs receiver (es.cells sender))
 unfolding sends
@@ -172,6 +187,7 @@ replay-link p k es sender receiver h less =
     ∙ (ap (λ (zs : List CellEvent). letters (posts sender p.config p.txs receiver zs)) (replay-cells p k es sender h less)
     ∙ sym (numbered-letters 0 (posts sender p.config p.txs receiver (es.cells sender))))
 
+-- the replay of a live run ends with the views of the service
 pub replay-views : (p : Plan) (k : Cluster) (es : Events) → IsLive p k es → (run (start p.config p.txs) (merged p.config k)).views ≡ k.service.views
 replay-views p k es h =
     let m = whole-mirrors p k es h in
@@ -179,6 +195,7 @@ replay-views p k es h =
     let service = cluster.service in
     m.views ∙ (ap (λ (zs : List ServiceEvent). views_made p.config zs) (replay-service p k es h) ∙ sym service.views)
 
+-- the replay of a live run ends with the records that the cells have of their own transactions
 pub replay-book : (p : Plan) (k : Cluster) (es : Events) (n id : ℕ) → IsLive p k es → n < p.config.nodes → (declared p.txs id).node ≡ n
     → SameRun (record_of (run (start p.config p.txs) (merged p.config k)).book id) (record_of ((k.cells n).core).book id)
 replay-book p k es n id h less own =
@@ -190,11 +207,13 @@ replay-book p k es n id h less own =
     (ap (λ (zs : List CellEvent). (core n p.config p.txs zs).book) (replay-cells p k es n h less) ∙ ap (λ (c : Core). c.book) (sym cell.core))
     (agree.own id own)
 
+-- the world after any number of turns of a live run is sound
 pub replay-sound : (p : Plan) (k : Cluster) (es : Events) (past future : List Turn) → IsLive p k es → Split p es past future → Sound (world_after p past)
 replay-sound p k es past future h is = let m = split-mirrors p k es past future h is in reached-sound (world_after p past) m.reached
 
 -- ---- clients
 
+-- the jobs that a cell of a live run began for a client are the earliest ones of the client's, in order
 pub replay-jobs : (p : Plan) (k : Cluster) (es : Events) (id : ClientId) → IsLive p k es → IsThere p.config id → IsFront (jobs p.txs id.slot (es.cells id.node)) (k.clients id).jobs
 replay-jobs p k es id h there =
     let cluster = h.cluster in
@@ -202,6 +221,7 @@ replay-jobs p k es id h there =
     let cell = cluster.cells id.node there.node in
     subst (λ (js : List Job). IsFront js (k.clients id).jobs) (cell.jobs id.slot) (meets.jobs id there)
 
+-- the answers that a client of a live run has are the earliest ones of the cell's, in order
 pub replay-answers : (p : Plan) (k : Cluster) (es : Events) (id : ClientId) → IsLive p k es → IsThere p.config id
     → IsFront (k.clients id).answers (answers id.node p.config p.txs id.slot (es.cells id.node))
 replay-answers p k es id h there =

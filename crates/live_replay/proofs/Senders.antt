@@ -64,6 +64,7 @@ unfolding AllFrom
 from-append me [] ys h g = g
 from-append me (x ∷ xs) ys h g = (h.0, from-append me xs ys h.1 g)
 
+-- if letters are from a node, then so are the earliest of them
 pub from-take : (me k : ℕ) (xs : List Letter) → AllFrom me xs → AllFrom me (take k xs)
 unfolding AllFrom
 from-take me zero xs h = tt
@@ -301,6 +302,7 @@ unfolding receive_or_not
 own-receive_or_not (Some outcome) n l = own-just n outcome
 own-receive_or_not None n l = own-then_finish n.me (row n l.from l.body) (own-row l.body n l.from)
 
+-- a node that receives a letter keeps its number, and sends from it alone
 pub own-receive : (n : Node) (l : Letter) → IsOwn n.me (receive n l)
 unfolding receive
 own-receive n l = own-receive_or_not _ n l
@@ -312,6 +314,7 @@ unfolding begin_free
 own-begin_free (Some other) n s c = own-just n _
 own-begin_free None n s c = record { node = refl; sent = from-none n.me }
 
+-- a node that begins a transaction keeps its number, and sends from it alone
 pub own-begin : (n : Node) (s id : ℕ) (tx : List Op) → IsOwn n.me (begin n s id tx)
 unfolding begin
 own-begin n s id tx = if_holds (λ (d : Did BeginOutcome). IsOwn n.me d) _ _ _ (own-just n _) (own-begin_free _ n s _)
@@ -352,6 +355,7 @@ unfolding try_current
 own-try_current None n s = own-just n _
 own-try_current (Some c) n s = if_holds (λ (d : Did Tried). IsOwn n.me d) _ _ _ (own-write_row _ n s c) (own-read_row _ n s c)
 
+-- a node that tries a slot keeps its number, and sends from it alone
 pub own-try_slot : (n : Node) (s : ℕ) → IsOwn n.me (try_slot n s)
 unfolding try_slot
 own-try_slot n s = if_holds (λ (d : Did Tried). IsOwn n.me d) _ _ _ (own-just n _) (own-try_current _ n s)
@@ -419,16 +423,19 @@ from-repeats n =
     from-append n.me _ _ (from-append n.me _ _ (from-append n.me _ _ (from-append n.me _ _ (from-append n.me _ _ (from-append n.me _ _
     (from-repeat_report n) entries) kept) wishes) (from-repeat_proposals n)) dones) leaving
 
+-- a node that ticks keeps its number, and sends from it alone
 pub own-tick : (n : Node) → IsOwn n.me (tick n)
 unfolding tick
 own-tick n =
     if_holds (λ (d : Did Ticked). IsOwn n.me d) _ _ _ (own-just n _) (record { node = refl; sent = from-repeats n })
 
+-- a node that stops keeps its number, and sends from it alone
 pub own-stop : (n : Node) → IsOwn n.me (stop n)
 unfolding stop
 own-stop n =
     if_holds (λ (d : Did StopOutcome). IsOwn n.me d) _ _ _ (own-just n _) (record { node = refl; sent = from-none n.me })
 
+-- a node that installs a view keeps its number, and sends from it alone
 pub own-install : (n : Node) (v : View) → IsOwn n.me (install n v)
 unfolding install
 own-install n v =

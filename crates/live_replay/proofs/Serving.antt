@@ -48,6 +48,7 @@ nth-none_row d m n i k =
       | inr past ↦ rw past (nth-past d [] k (omega arith))
     ]
 
+-- at the start of the world each node is that of its configuration
 pub start-node : (c : Config) (txs : List TxDecl) (n : ℕ) → n < c.nodes → node (start c txs) n ≡ start_node c n
 unfolding start
 start-node c txs n less = let at : 0 + n ≡ n = omega arith in nth-map_numbers no_node (start_node c) 0 c.nodes n less ∙ ap (start_node c) at
@@ -136,6 +137,7 @@ unfolding view_or_not where_true viewed made
 view_or_not-serves true w set is = rw is refl
 view_or_not-serves false w set is = rw is refl
 
+-- if a stopped node is left out of the last view, then the step of the view does what the service did
 pub happens-serves : (w : World) (n : ℕ) (set : List ℕ) → set ≡ without n (last_view w.views) → (node w n).stopped ≡ true → happens w (View set) ≡ serves w set
 unfolding happens
 happens-serves w n set is stopped =
@@ -160,6 +162,7 @@ views_from-one : (views : List (List ℕ)) (e : ServiceEvent) → views_from vie
 unfolding views_from
 views_from-one views e = refl
 
+-- the last view of views with one more at the end is that one
 pub last_view-more : (views : List (List ℕ)) (set : List ℕ) → last_view (views ++ set ∷ []) ≡ set
 unfolding last_view
 last_view-more [] set = refl
@@ -177,6 +180,7 @@ pub record ServiceStep (c : Config) (past : List Turn) (w : World) (e : ServiceE
   pub members : e.members ≡ without e.node (last_view w.views)
   pub stopped : (node w e.node).stopped ≡ true
 
+-- if the world mirrors the events so far, then it does after an event of the service
 pub service-mirrors : (c : Config) (txs : List TxDecl) (past : List Turn) (w : World) (e : ServiceEvent) → Mirrors c txs past w → ServiceStep c past w e
     → Mirrors c txs (past ++ service_turn e ∷ []) (stepped w (View e.members))
 unfolding viewed StepFits

@@ -109,6 +109,7 @@ receive-stopped : (n : Node) (l : Letter) → n.stopped ≡ true → (receive n 
 unfolding receive receive_or_not rejection or_else where_true
 receive-stopped n l is = rw is refl
 
+-- if a node has stopped, then it is still stopped after whatever it does
 pub does-stopped : (txs : List TxDecl) (n : Node) (deed : Deed) → n.stopped ≡ true → (does txs n deed).node.stopped ≡ true
 unfolding does begin try_slot tick stop install
 does-stopped txs n (Began j) is = rw is refl
@@ -118,6 +119,7 @@ does-stopped txs n Ticked is = rw is refl
 does-stopped txs n Halted is = rw is refl
 does-stopped txs n (Saw v) is = rw is refl
 
+-- a node that halts is stopped afterwards
 pub stop-stops : (txs : List TxDecl) (n : Node) → (does txs n Halted).node.stopped ≡ true
 unfolding does stop
 stop-stops txs n = stops n.stopped n refl

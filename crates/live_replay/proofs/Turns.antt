@@ -69,6 +69,7 @@ deed-finds Halted p k es past me e future w a is fits fresh less = tt
 deed-finds (Saw v) p k es past me e future w a is fits fresh less =
     let h = finds-view p k es past me e future w v a is less in (view-there w v h, h.is)
 
+-- where a cell's event stands in the order, the world has what it needs
 pub cell-step : (p : Plan) (k : Cluster) (es : Events) (past : List Turn) (me : ℕ) (e : CellEvent) (future : List Turn) (w : World) → AtCell p k es past me e future w → CellStep p.config p.txs past w me e
 cell-step p k es past me e future w a =
     let fits = at-fits p k es past me e future w a in
@@ -82,6 +83,7 @@ cell-step p k es past me e future w a =
 
 -- ---- an event of the service
 
+-- if the world mirrors the events before one of the service, then it has what that event needs
 pub service-step : (p : Plan) (k : Cluster) (es : Events) (past : List Turn) (e : ServiceEvent) (future : List Turn) (w : World) → IsCluster p k es → IsAt p.config es past (service_turn e) future
     → Mirrors p.config p.txs past w → ServiceStep p.config past w e
 unfolding entry_of
@@ -104,6 +106,7 @@ service-step p k es past e future w h at m =
 
 -- ---- the whole order
 
+-- if the world mirrors the events before one of a cell, then what holds at a cell's events holds in it
 pub at-cell : (p : Plan) (k : Cluster) (es : Events) (past : List Turn) (me : ℕ) (e : CellEvent) (future : List Turn) (w : World) → IsCluster p k es → FitTxs p.config 0 p.txs
     → IsOrder p.config es (past ++ cell_turn me e ∷ future) → Mirrors p.config p.txs past w → AtCell p k es past me e future w
 at-cell p k es past me e future w h fit o m =
@@ -133,6 +136,7 @@ pub order-mirrors : (p : Plan) (k : Cluster) (es : Events) (past future : List T
 order-mirrors p k es past future keeps fit h o =
     run-mirrors past p k es [] future (start p.config p.txs) h fit o (start-mirrors p.config p.txs keeps fit)
 
+-- if the world mirrors the events before a turn, then the step of the turn fits
 pub turn-fits : (t : Turn) (p : Plan) (k : Cluster) (es : Events) (past future : List Turn) (w : World) → IsCluster p k es → FitTxs p.config 0 p.txs
     → IsOrder p.config es (past ++ t ∷ future) → Mirrors p.config p.txs past w → StepFits p.config p.txs (turn_step t)
 unfolding entry_of StepFits
@@ -142,6 +146,7 @@ turn-fits (service_turn e) p k es past future w h fit o m =
     let s = service-step p k es past e future w h (order-at p.config es past (service_turn e) future o) m in
     rw (s.members) (RisesFrom-without 0 e.node (last_view w.views) m.last.0, IsBelow-without p.config.nodes e.node (last_view w.views) m.last.1)
 
+-- if the world mirrors the events before a turn, then the step of the turn answers what the cell or the service answered
 pub turn-answer : (t : Turn) (p : Plan) (k : Cluster) (es : Events) (past future : List Turn) (w : World) → IsCluster p k es → FitTxs p.config 0 p.txs
     → IsOrder p.config es (past ++ t ∷ future) → Mirrors p.config p.txs past w → (happens w (turn_step t)).answer ≡ given p past t
 unfolding entry_of given
@@ -153,6 +158,7 @@ turn-answer (service_turn e) p k es past future w h fit o m =
     let s = service-step p k es past e future w h (order-at p.config es past (service_turn e) future o) m in
     ap (λ (x : Event). x.answer) (happens-serves w e.node e.members s.members s.stopped) ∙ ap (λ (vs : List (List ℕ)). ViewAnswer (made vs e.members)) m.views
 
+-- if the world mirrors the events before a turn, then the step of the turn acknowledges what the cell acknowledged
 pub turn-acked : (t : Turn) (p : Plan) (k : Cluster) (es : Events) (past future : List Turn) (w : World) → IsCluster p k es → FitTxs p.config 0 p.txs
     → IsOrder p.config es (past ++ t ∷ future) → Mirrors p.config p.txs past w → (happens w (turn_step t)).acked ≡ acknowledged p past t
 unfolding entry_of acknowledged

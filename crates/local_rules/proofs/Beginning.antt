@@ -38,14 +38,17 @@ pub tx_fits : (n : Node) (id : ℕ) (tx : List Op) → IsTx tx → All (λ x. x 
 unfolding FitsCurrent
 tx_fits n id tx made named = record { made = made; named = named; values = ops_shown n tx }
 
+-- if a node has stopped, then a begin is answered so and changes nothing
 pub begin-stopped : (n : Node) (s id : ℕ) (tx : List Op) → n.stopped ≡ true → begin n s id tx ≡ just n Stopped
 unfolding begin
 begin-stopped n s id tx e = rw e refl
 
+-- if a slot has a current transaction, then a begin is answered with that one and changes nothing
 pub begin-busy : (n : Node) (s id : ℕ) (tx : List Op) (other : Current) → n.stopped ≡ false → Some other ≡ (slot n s).current → begin n s id tx ≡ just n (Busy other.id)
 unfolding begin begin_free
 begin-busy n s id tx other e is = rw (e, ← is) refl
 
+-- if a live node's slot has no current transaction, then the one that begins is its current one
 pub begin-begun : (n : Node) (s id : ℕ) (tx : List Op) → n.stopped ≡ false → None ≡ (slot n s).current → begin n s id tx ≡ just (with_current n s (Some (record { id = id; tx = tx }))) Begun
 unfolding begin begin_free
 begin-begun n s id tx e is = rw (e, ← is) refl

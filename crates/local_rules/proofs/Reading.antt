@@ -26,10 +26,12 @@ none_fits n = tt
 
 -- ---- an object of which the node has no copy
 
+-- if there is no degree, then a read of an object without a copy is refused and its transaction ends
 pub missing-refused : (n m : Node) (s : ℕ) (c : Current) (x : ℕ) (degree : Option ℕ) (out : Effect) → degree ≡ None → m ≡ with_current n s None → length out.sent ≤ 64 → IsDone (read_missing n s c x degree) (rules.NoCopy c.id x) m out out
 unfolding read_missing
 missing-refused n m s c x degree out none becomes room = rw none record { says = refl; becomes = becomes; adds = adds_nothing out room }
 
+-- if there is a degree, then a read of an object without a copy asks for copies and its transaction stays
 pub missing-asked : (n : Node) (s : ℕ) (c : Current) (x d : ℕ) (degree : Option ℕ) (a b : Effect) → degree ≡ Some d → (slot n s).current ≡ Some c → Adds (requests_for_copies n (slot n s).current) [] a b → IsDone (read_missing n s c x degree) (rules.NoCopy c.id x) n a b
 unfolding read_missing requests_for_copies
 missing-asked n s c x d degree a b some current adds = rw some record { says = refl; becomes = refl; adds = rw current at adds }

@@ -33,10 +33,12 @@ tried-slots n m s Nothing h tried = rw tried.stays h
 tried-slots n m s (Read id t) h tried = rw tried.stays h
 tried-slots n m s (Write id t) h tried = rw (tried.becomes, after_try-slots n s _ (write_cause n s tried.tx) h) h
 
+-- if the try of a slot gives what a read gives, then its current transaction is a read that was tried
 pub is_read : (n m : Node) (s id : ℕ) (t : SlotTry) (r : ReadTry) → t ≡ Read id r → IsTried n s t m → IsReadTried n s id r m
 unfolding IsTried
 is_read n m s id t r e tried = rw e at tried
 
+-- if the try of a slot gives what a write gives, then its current transaction is a write that was tried
 pub is_written : (n m : Node) (s id : ℕ) (t : SlotTry) (w : WriteTry) → t ≡ Write id w → IsTried n s t m → IsWriteTried n s id w m
 unfolding IsTried
 is_written n m s id t w e tried = rw e at tried
@@ -69,19 +71,23 @@ write_is : (n : Node) (s : ℕ) (c : Current) (o : Option Current) → o ≡ Som
 unfolding try_current
 write_is n s c o e writes = rw e (if_true (is_write c.tx) _ _ writes)
 
+-- if a node has stopped, then a try is answered so and does nothing
 pub try-stopped : (n : Node) (s : ℕ) (out : Effect) → n.stopped ≡ true → length out.sent ≤ 64 → IsDone (try_slot n s) rules.Stopped n out out
 try-stopped n s out e room = rw (stopped_is n s e) record { says = refl; becomes = refl; adds = adds_nothing out room }
 
+-- if a live node's slot has no current transaction, then a try is answered `Nothing` and does nothing
 pub try-nothing : (n m : Node) (s : ℕ) (t : SlotTry) (out : Effect) → n.stopped ≡ false → t ≡ Nothing → IsTried n s t m → length out.sent ≤ 64 → IsDone (try_slot n s) rules.Nothing m out out
 unfolding IsTried
 try-nothing n m s t out e is tried room =
     let none = rw is at tried in
     rw (running_is n s e ∙ nothing_is n s (slot n s).current none.current) record { says = refl; becomes = none.stays; adds = adds_nothing out room }
 
+-- if the current transaction of a slot only reads, then the try does what the row of reads says
 pub try-read : (n m k : Node) (s id : ℕ) (t : ReadTry) (answer : Tried) (a b : Effect) → n.stopped ≡ false → (h : IsReadTried n s id t m) → IsDone (read_row n s (record { id = id; tx = h.tx }) (hindrance n h.tx)) answer k a b → IsDone (try_slot n s) answer k a b
 try-read n m k s id t answer a b e h done =
     rw (running_is n s e ∙ read_is n s (record { id = id; tx = h.tx }) (slot n s).current h.current h.reads) done
 
+-- if the current transaction of a slot writes, then the try does what the row of writes says
 pub try-write : (n m k : Node) (s id : ℕ) (t : WriteTry) (answer : Tried) (a b : Effect) → n.stopped ≡ false → (h : IsWriteTried n s id t m) → IsDone (write_row n s (record { id = id; tx = h.tx }) (write_cause n s h.tx)) answer k a b → IsDone (try_slot n s) answer k a b
 try-write n m k s id t answer a b e h done =
     rw (running_is n s e ∙ write_is n s (record { id = id; tx = h.tx }) (slot n s).current h.current h.writes) done

@@ -22,6 +22,7 @@ unfolding last_view
 last_nth v [] = refl
 last_nth v (u ∷ us) = last_nth u us ∙ get_or_default (u ∷ us) (length us) u v (omega arith)
 
+-- if a view is read at the last place of some views, then it is the last view
 pub last_view_read : (vs : List (List ℕ)) (v : List ℕ) → 0 < length vs → v ≡ get_or vs (length vs - 1) v → v ≡ last_view vs
 last_view_read [] v h e = absurd (omega arith)
 last_view_read (u ∷ us) v h e =
@@ -84,37 +85,46 @@ module _ (w : World) (last set stopped : List ℕ) (is : last_view w.views ≡ l
 
 -- ---- what a view does
 
+-- if a view is refused, then its step answers the refusal and makes no view
 pub view-refused : (w : World) (set : List ℕ) (m : Made) → Some m ≡ view_refused w set → happens w (ViewStep set) ≡ refuse_step w (ViewAnswer m)
 unfolding happens view_or_not
 view-refused w set m e = rw (← e) refl
 
+-- if a view is not refused, then its step makes it
 pub view-made : (w : World) (set : List ℕ) → None ≡ view_refused w set → happens w (ViewStep set) ≡ view_or_not w set None
 unfolding happens
 view-made w set e = rw (← e) refl
 
+-- the step that makes a view answers its number
 pub made_answer : (w : World) (set : List ℕ) → (view_or_not w set None).answer ≡ ViewAnswer (Installed (length w.views + 1))
 unfolding view_or_not
 made_answer w set = refl
 
+-- the step that makes a view puts it behind the views
 pub made_views : (w : World) (set : List ℕ) → (view_or_not w set None).world.views ≡ w.views ++ set ∷ []
 unfolding view_or_not
 made_views w set = refl
 
 -- ---- what a world with these views knows
 
+-- if the world has the views made, then its last view is the last one of these
 pub last-known : (w : World) (made : List (List ℕ)) (stopped last : List ℕ) → IsWorldWith w made stopped → last ≡ last_view made → last_view w.views ≡ last
 last-known w made stopped last is e = rw (is.views, e) refl
 
+-- if the world has the views and stops made, then a node of the last view has stopped just if its stop was made
 pub stops-known : (w : World) (made : List (List ℕ)) (stopped last : List ℕ) → IsWorldWith w made stopped → last ≡ last_view made → (n : ℕ) → has n last ≡ true → (node w n).stopped ≡ has n stopped
 stops-known w made stopped last is e = λ n h. is.stops n (rw e at h)
 
+-- if the world has the views made and a view is refused, then the step leaves these views
 pub refused_views-known : (w : World) (made : List (List ℕ)) (stopped set : List ℕ) (m : Made) → IsWorldWith w made stopped → Some m ≡ view_refused w set → made ≡ (happens w (ViewStep set)).world.views
 refused_views-known w made stopped set m is e = rw (view-refused w set m e) (sym is.views)
 
+-- if the world has the views made and a view is not refused, then its step answers the count with it
 pub made_answer-known : (w : World) (made : List (List ℕ)) (stopped set : List ℕ) (count : ℕ) → IsWorldWith w made stopped → None ≡ view_refused w set → count ≡ length (made ++ set ∷ []) → ViewAnswer (Installed count) ≡ (happens w (ViewStep set)).answer
 made_answer-known w made stopped set count is none e =
     let more : count ≡ length w.views + 1 = rw (e, is.views) (length_push made set) in
     rw (view-made w set none, made_answer w set, more) refl
 
+-- if the world has the views made and a view is not refused, then its step puts it behind them
 pub made_views-known : (w : World) (made : List (List ℕ)) (stopped set : List ℕ) → IsWorldWith w made stopped → None ≡ view_refused w set → made ++ set ∷ [] ≡ (happens w (ViewStep set)).world.views
 made_views-known w made stopped set is none = rw (view-made w set none, made_views w set, is.views) refl

@@ -14,6 +14,7 @@ use Rattle.node_state.specs.Shown.{IsKept, shown}
 pub own_at : (k m : Node) → k ≡ m → KeepsRanges (limits_of m) m → KeepsRanges (limits_of k) k
 own_at k m e h = rw e h
 
+-- if objects are held as a node says, then they are so by an equal node
 pub held_at : (k m : Node) (holds : List (Option Hold)) → k ≡ m → AreHeld m holds → AreHeld k holds
 held_at k m holds e h = rw e h
 

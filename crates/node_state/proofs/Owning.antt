@@ -42,10 +42,12 @@ module _ (n : Node) (d : Directory) (x : ℕ) (nodes : d.nodes ≡ n.directory) 
   pub holding-by : (p : Proposal) → d.entries ≡ (holding n x p).entries → knowing n d ≡ holding n x p
   holding-by p entries = rw (nodes, degree, entries) refl
 
+-- settling an object leaves the slots
 pub settle-slots : (n : Node) (x : ℕ) (stamp : Stamp) (place : Place) → (settle n x stamp place).slots ≡ n.slots
 unfolding settle
 settle-slots n x stamp place = cond_both (is_below (entry n x).stamp stamp) _ n (λ (m : Node). m.slots ≡ n.slots) (λ _. refl) (λ _. refl)
 
+-- bringing in an object leaves the slots
 pub bring-slots : (n : Node) (x : ℕ) (p : Proposal) (c : Content) → (bring n x p c).slots ≡ n.slots
 unfolding bring
 bring-slots n x p c = cond_both (p.requester == n.me) _ n (λ (m : Node). m.slots ≡ n.slots) (λ _. refl) (λ _. refl)
@@ -55,6 +57,7 @@ pub bring-here : (n : Node) (cs : List (Option Copy)) (x : ℕ) (p : Proposal) (
 unfolding bring
 bring-here n cs x p c here copies = rw (here, copies) refl
 
+-- if a node is not the requester, then a decision brings nothing in there
 pub bring-elsewhere : (n : Node) (x : ℕ) (p : Proposal) (c : Content) → (p.requester == n.me) ≡ false → n ≡ bring n x p c
 unfolding bring
 bring-elsewhere n x p c other = rw other refl
@@ -65,6 +68,7 @@ unfolding brought
 brought-kept want c (inl own) = rw own refl
 brought-kept want c (inr read) = rw read refl
 
+-- who leaves keeps no copy
 pub brought-leave : (c : Content) → brought Leave c ≡ None
 unfolding brought
 brought-leave c = refl
@@ -77,6 +81,7 @@ unfolding value_fits
 value_fits-own n (Num k) = refl
 value_fits-own n (Text t) = refl
 
+-- every content fits the ranges of a node
 pub content_fits-own : (n : Node) (c : Option Content) → content_fits (limits_of n) c ≡ true
 unfolding content_fits
 content_fits-own n None = refl
@@ -92,5 +97,6 @@ KeepsRanges-noting_by n x from p content None less fit k =
     (FitsGathered-for (limits_of n) p (gather n x) fit (k.gathers x)))
     k
 
+-- if a node keeps the ranges and an acknowledged proposal fits, then it keeps them after it notes the acknowledgement
 pub KeepsRanges-noting : (n : Node) (x from : ℕ) (p : Proposal) (content : Option Content) → x < length n.entries → proposal_fits (limits_of n) p ≡ true → KeepsRanges (limits_of n) n → KeepsRanges (limits_of n) (with_gather n x (gathered (gather n x) from p content))
 KeepsRanges-noting n x from p content less fit k = KeepsRanges-noting_by n x from p content (greater_gather p.stamp (gather n x)) less fit k

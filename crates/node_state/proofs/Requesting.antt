@@ -48,10 +48,12 @@ from_later me n ns left b e test later =
     let at : not (nat_lt n me) ≡ false = sym (ge_is n me) ∙ sym test ∙ later in
     rw (e, at) refl
 
+-- if no node is left to search, then the search found what it has so far
 pub from_none : (me : ℕ) (left : List ℕ) (o : Option ℕ) → left ≡ [] → o ≡ or_else (least_from me left) o
 unfolding least_from first_of or_else
 from_none me left o e = rw e refl
 
+-- a search that has found a node has found it, whatever else there is
 pub from_some : (n : ℕ) (o : Option ℕ) → Some n ≡ or_else (Some n) o
 unfolding or_else
 from_some n o = refl
@@ -63,6 +65,7 @@ pub ask-nobody : (n : Node) (want : Want) (xs : List ℕ) → driver n ≡ None 
 unfolding ask
 ask-nobody n want xs e = rw e refl
 
+-- if a node knows its driver, then the request for one object is one letter to it
 pub ask-one : (n : Node) (want : Want) (x d : ℕ) → driver n ≡ Some d → requests n want (x ∷ []) ≡ letter n d (OReq x want) ∷ []
 unfolding ask
 ask-one n want x d e = rw e refl
@@ -82,26 +85,32 @@ ask-cons n want x xs (Some d) = refl
 drop_here : (xs : List ℕ) (i x : ℕ) → i < length xs → x ≡ get_or xs i x → drop i xs ≡ x ∷ drop (i + 1) xs
 drop_here xs i x h e = rw (add-one, drop-cons xs i x h, ← e) refl
 
+-- if a place is past the last object, then no request to own is left
 pub owned_none : (n : Node) (want : Want) (xs : List ℕ) (i : ℕ) → length xs ≤ i → requests n want (not_owned n (drop i xs)) ≡ []
 unfolding not_owned
 owned_none n want xs i h = rw (drop_all i xs h) (ask-none n want (driver n))
 
+-- if the node owns the object at a place, then the requests to own from there are those for the objects behind it
 pub owned_here : (n : Node) (want : Want) (xs : List ℕ) (i x : ℕ) → i < length xs → x ≡ get_or xs i x → owns n x ≡ true → requests n want (not_owned n (drop (i + 1) xs)) ≡ requests n want (not_owned n (drop i xs))
 unfolding not_owned
 owned_here n want xs i x h e is = rw (drop_here xs i x h e, is) refl
 
+-- if the node does not own the object at a place, then the requests from there are the one for it and those for the objects behind it
 pub unowned_here : (n : Node) (want : Want) (xs : List ℕ) (i x : ℕ) → i < length xs → x ≡ get_or xs i x → owns n x ≡ false → requests n want (x ∷ []) ++ requests n want (not_owned n (drop (i + 1) xs)) ≡ requests n want (not_owned n (drop i xs))
 unfolding not_owned
 unowned_here n want xs i x h e is = rw (drop_here xs i x h e, is) (sym (ask-cons n want x (not_owned n (drop (i + 1) xs)) (driver n)))
 
+-- if a place is past the last object, then no request for a copy is left
 pub copied_none : (n : Node) (want : Want) (xs : List ℕ) (i : ℕ) → length xs ≤ i → requests n want (not_copied n (drop i xs)) ≡ []
 unfolding not_copied
 copied_none n want xs i h = rw (drop_all i xs h) (ask-none n want (driver n))
 
+-- if the node has a copy of the object at a place, then the requests from there are those for the objects behind it
 pub copied_here : (n : Node) (want : Want) (xs : List ℕ) (i x : ℕ) → i < length xs → x ≡ get_or xs i x → is_none (copy n x) ≡ false → requests n want (not_copied n (drop (i + 1) xs)) ≡ requests n want (not_copied n (drop i xs))
 unfolding not_copied
 copied_here n want xs i x h e is = rw (drop_here xs i x h e, is) refl
 
+-- if the node has no copy of the object at a place, then the requests from there are the one for it and those for the others
 pub uncopied_here : (n : Node) (want : Want) (xs : List ℕ) (i x : ℕ) → i < length xs → x ≡ get_or xs i x → is_none (copy n x) ≡ true → requests n want (x ∷ []) ++ requests n want (not_copied n (drop (i + 1) xs)) ≡ requests n want (not_copied n (drop i xs))
 unfolding not_copied
 uncopied_here n want xs i x h e is = rw (drop_here xs i x h e, is) (sym (ask-cons n want x (not_copied n (drop (i + 1) xs)) (driver n)))
@@ -126,23 +135,28 @@ is_none-not None false e = cc
 is_none-not (Some c) true e = cc
 is_none-not (Some c) false e = refl
 
+-- if a test tells whether there is a copy, then its opposite tells that there is none
 pub uncopied_by : (o p : Option Copy) (b v : Bool) → is_some o ≡ not b → o ≡ p → b ≡ v → is_none p ≡ v
 uncopied_by o p b v e same test = rw (← same) (is_none-not o b e) ∙ test
 
 -- ---- what a current transaction needs
 
+-- if a slot has no current transaction, then there are no requests to own for it
 pub to_own-none : (n : Node) (c : Option Current) → c ≡ None → requests_to_own n c ≡ []
 unfolding requests_to_own
 to_own-none n c e = rw e refl
 
+-- if a slot has a current transaction, then the requests to own are for the objects that it names and the node does not own
 pub to_own-some : (n : Node) (c : Option Current) (d : Current) → c ≡ Some d → requests_to_own n c ≡ requests n Own (not_owned n (named d.tx))
 unfolding requests_to_own
 to_own-some n c d e = rw e refl
 
+-- if a slot has no current transaction, then there are no requests for copies
 pub for_copies-none : (n : Node) (c : Option Current) → c ≡ None → requests_for_copies n c ≡ []
 unfolding requests_for_copies
 for_copies-none n c e = rw e refl
 
+-- if a slot has a current transaction, then the requests are for the objects that it names and the node has no copy of
 pub for_copies-some : (n : Node) (c : Option Current) (d : Current) → c ≡ Some d → requests_for_copies n c ≡ requests n Read (not_copied n (named d.tx))
 unfolding requests_for_copies
 for_copies-some n c d e = rw e refl

@@ -146,6 +146,7 @@ current_fits : (limits : Limits) (c : Option Current) (d : Current) → c ≡ So
 unfolding FitsCurrent
 current_fits limits c d e h = rw e at h
 
+-- if a node keeps the ranges, then it keeps them after a try of a slot
 pub tried_ranges : (limits : Limits) (n : Node) (s : ℕ) (t : SlotTry) (m : Node) → s < limits.slots → IsTried n s t m → KeepsRanges limits n → KeepsRanges limits m
 unfolding IsTried
 tried_ranges limits n s Nothing m there tried h = rw tried.stays h

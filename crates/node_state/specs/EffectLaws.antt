@@ -77,6 +77,7 @@ unfolding to_each
 sent_step n body to left right a b e f =
     rw (e, f.letters) (cut-append a.sent (letter n to body ∷ []) (to_each n right body))
 
+-- if no receiver is left, then the letters sent are the first 64 of those to all receivers
 pub sent_end :
     (n : Node) (body : Body) (all : List ℕ) (left : List ℕ) (a b : Effect) → left ≡ []
     → take 64 (b.sent ++ to_each n left body) ≡ take 64 (a.sent ++ to_each n all body) → b.passed ≡ a.passed → length b.sent ≤ 64

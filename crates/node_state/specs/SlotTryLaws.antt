@@ -38,6 +38,7 @@ unfolding held_elsewhere IsUncommitted
 uncommitted-held s x None = tt
 uncommitted-held s x (Some t) = uncommitted-where _ (rules.Held x t) tt
 
+-- what stands against a commit is never that it was made
 pub uncommitted-cause : (n : Node) (s : ℕ) (tx : List Op) → IsUncommitted (write_cause n s tx)
 unfolding write_cause full_cause owner_cause holder_cause worn_cause IsUncommitted
 uncommitted-cause n s tx =

@@ -44,6 +44,7 @@ keeps : KeepsDeclaration 1 2 declared
 unfolding is_num has
 keeps = record { owner = omega arith; rising = rising_two; replicas = below_two; own_copy = refl; number = λ _. refl }
 
+-- the configuration of two nodes keeps the limits
 pub two_nodes-limits : KeepsLimits two_nodes
 two_nodes-limits =
     let P : ObjectDecl → Type 0 = KeepsDeclaration 1 2 in
@@ -69,10 +70,12 @@ start-limits c me n keeps within nodes slots objects is =
 abbrev pub first_entry : RInv
 first_entry = record { stream = record { node = 0; slot = 0 }; number = 0; done = 0; followers = 1 ∷ []; writes = record { obj = 0; ver = 1; value = Num 9 } ∷ [] }
 
+-- the first entry fits two nodes, a slot each and one object
 pub first_entry-fits : (limits : Limits) → limits ≡ record { version = 2; nodes = 2; slots = 1; objects = 1 } → inv_fits limits first_entry ≡ true
 unfolding inv_fits stream_fits nodes_fit writes_fit write_fits object_fits value_fits are_once
 first_entry-fits limits is = rw is refl
 
+-- the nodes 0 and 1 are nodes of the limits
 pub two_nodes-fit : (limits : Limits) (members : List ℕ) → limits ≡ record { version = 2; nodes = 2; slots = 1; objects = 1 } → members ≡ 0 ∷ 1 ∷ [] → nodes_fit limits members ≡ true
 unfolding nodes_fit
 two_nodes-fit limits members is these = rw (is, these) refl

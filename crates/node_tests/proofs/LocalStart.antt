@@ -47,6 +47,7 @@ own_two : has 0 (0 ∷ 1 ∷ []) ≡ true
 unfolding has
 own_two = refl
 
+-- if the degree, where there is one, is from 1 to 8, then the configuration of two nodes keeps the limits
 pub two_nodes-limits : (degree : Option ℕ) → IfSome degree (λ d. (1 ≤ d) × (d ≤ 8)) → KeepsLimits (two_nodes degree)
 two_nodes-limits degree h =
     let P : ObjectDecl → Type 0 = KeepsDeclaration 1 2 in

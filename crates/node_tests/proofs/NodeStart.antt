@@ -32,6 +32,7 @@ keeps : KeepsDeclaration 1 2 one_object
 unfolding is_num
 keeps = record { owner = omega arith; rising = rising; replicas = below; own_copy = own; number = λ _. refl }
 
+-- the configuration of two nodes keeps the limits
 pub two_nodes-limits : KeepsLimits two_nodes
 two_nodes-limits =
     record {

@@ -13,10 +13,12 @@ length-mapped : {A B : Type 0} (f : A → B) (xs : List A) → length (map f xs)
 length-mapped f [] = refl
 length-mapped f (x ∷ xs) = ap suc (length-mapped f xs)
 
+-- at the start a node has as many slots as configured
 pub start-slots : (c : Config) (me : ℕ) → length (start_node c me).slots ≡ c.slots
 unfolding start_node
 start-slots c me = length-all c.slots no_slot
 
+-- at the start a node has an entry for each declared object
 pub start-entries : (c : Config) (me : ℕ) → length (start_node c me).entries ≡ length c.objects
 unfolding start_node
 start-entries c me = length-mapped start_entry c.objects

@@ -66,6 +66,7 @@ pub start-logs : (c : Config) (me : ℕ) → length (start_node c me).logs ≡ c
 unfolding start_node
 start-logs c me = length-replicate c.nodes (replicate c.slots no_log)
 
+-- at the start a node has an entry for each declared object
 pub start-entries : (c : Config) (me : ℕ) → length (start_node c me).entries ≡ length c.objects
 unfolding start_node
 start-entries c me = length-map c.objects start_entry

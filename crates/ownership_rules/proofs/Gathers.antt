@@ -26,11 +26,13 @@ unfolding ack_by
 older-greater g from content None stamp e = absurd (ack_where (is_noted g from content) stamp e)
 older-greater g from content (Some other) stamp e = cc
 
+-- if an acknowledgement is new, then no greater stamp stood against it
 pub new-none : (g : Gather) (from : ℕ) (content : Option Content) (o : Option Stamp) → New ≡ ack_by g from content o → o ≡ None
 unfolding ack_by
 new-none g from content None e = refl
 new-none g from content (Some other) e = absurd cc
 
+-- if an acknowledgement is a repeated one, then no greater stamp stood against it
 pub again-none : (g : Gather) (from : ℕ) (content : Option Content) (o : Option Stamp) → Again ≡ ack_by g from content o → o ≡ None
 unfolding ack_by
 again-none g from content None e = refl
@@ -64,6 +66,7 @@ pub decide-some : (n : Node) (x : ℕ) (d : Decision) → Some d ≡ decision_of
 unfolding carried_out
 decide-some n x d e = decide-carried_out n x ∙ rw (← e) refl
 
+-- if there is no decision of an object, then deciding it changes nothing
 pub decide-none : (n : Node) (x : ℕ) → None ≡ decision_of n (gather n x) → decide x n ≡ Rattle.zeus_model.specs.Act.still n
 unfolding carried_out
 decide-none n x e = decide-carried_out n x ∙ rw (← e) refl

@@ -28,16 +28,19 @@ or_else-none (Some c) = refl
 
 -- ---- requests
 
+-- if a request is refused with a cause, then that cause stood against it
 pub answered-no : (o : Option Cause) (p : Proposal) (cause : Cause) → No cause ≡ answered o p → o ≡ Some cause
 unfolding answered
 answered-no None p cause e = absurd cc
 answered-no (Some other) p cause e = cc
 
+-- if a request is granted, then nothing stood against it
 pub answered-yes_none : (o : Option Cause) (p q : Proposal) → Yes q ≡ answered o p → o ≡ None
 unfolding answered
 answered-yes_none None p q e = refl
 answered-yes_none (Some cause) p q e = absurd cc
 
+-- if a request is granted, then it is granted with the proposal made for it
 pub answered-yes : (o : Option Cause) (p q : Proposal) → Yes q ≡ answered o p → q ≡ p
 unfolding answered
 answered-yes None p q e = cc
@@ -69,6 +72,7 @@ module _ (n : Node) (x : ℕ) (p : Proposal) where
   unfolding rebased where_true
   rebased-settled above other = rw (above, other) refl
 
+-- settling an object leaves the sizes of the node's tables
 pub limits_of-settle : (n : Node) (x : ℕ) (stamp : Stamp) (place : Place) → x < length n.entries → limits_of (settle n x stamp place) ≡ limits_of n
 unfolding settle
 limits_of-settle n x stamp place less =
@@ -89,6 +93,7 @@ module _ (n m : Node) (from x : ℕ) (p : Proposal) where
   unfolding on_oinv oinv_on_base where_true
   on_oinv-based above based = rw (above, based) refl
 
+-- if a cause stands against a proposal, then it is refused with that cause
 pub hold_or_refuse-cause : (n : Node) (from x : ℕ) (p : Proposal) (cause : Cause) → hold_or_refuse n from x p (Some cause) ≡ refuse_proposal n x p cause
 unfolding hold_or_refuse
 hold_or_refuse-cause n from x p cause = refl
@@ -122,10 +127,12 @@ module _ (n : Node) (x : ℕ) (p : Proposal) where
   unfolding accept_cause source_cause
   accept_cause-new is = rw is refl
 
+-- if a first cause stands, then it is the first of all
 pub first_cause-some : (cause : Cause) (b : Option Cause) → or_else (Some cause) b ≡ Some cause
 unfolding or_else
 first_cause-some cause b = refl
 
+-- if no first cause stands, then the first of all is that of the others
 pub first_cause-none : (b : Option Cause) → or_else None b ≡ b
 unfolding or_else
 first_cause-none b = refl

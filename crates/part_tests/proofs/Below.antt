@@ -6,6 +6,7 @@ use Rattle.std.proofs.Math.ListN.{get_or}
 use Rattle.std.proofs.lemmas.Bool.Decides.{nat_tests}
 use Rattle.std.proofs.lemmas.List.Folds.{list_all_at}
 
+-- if the test finds all numbers below another one, then each of them is
 pub below_all : (k : ℕ) (xs : List ℕ) → list_all (λ x. nat_lt x k) xs ≡ true → All (λ x. x < k) xs
 below_all k xs all = λ i d h.
     elim (nat_lt (get_or xs i d) k) as (λ b. nat_lt (get_or xs i d) k ≡ b → get_or xs i d < k) [

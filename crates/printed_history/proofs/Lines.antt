@@ -17,6 +17,7 @@ lacks d (b ∷ bs) = if b == d then false else lacks d bs
 abbrev pub is_line : List ℕ → Bool
 is_line l = lacks 10 l
 
+-- if two texts lack a byte, then so do both put together
 pub lacks-append : (d : ℕ) (a b : List ℕ) → lacks d a ≡ true → lacks d b ≡ true → lacks d (a ++ b) ≡ true
 unfolding lacks
 lacks-append d [] b h g = g
@@ -50,9 +51,11 @@ cut-whole d (b ∷ l) h = at (b == d) (cut d l) h (λ k. cut-whole d l k)
 pub record Shows (b : ℕ) (text : List ℕ) (found : List (List ℕ)) : Type 0 where
   pub before : (rest : List ℕ) → lines_with b (text ++ rest) ≡ found ++ lines_with b rest
 
+-- an empty text has no line that begins with the byte
 pub shows-none : (b : ℕ) → Shows b [] []
 shows-none b = record { before = λ rest. refl }
 
+-- the lines of two texts put together that begin with the byte are those of the first and then those of the second
 pub shows-append : (b : ℕ) (t u : List ℕ) (f g : List (List ℕ)) → Shows b t f → Shows b u g → Shows b (t ++ u) (f ++ g)
 shows-append b t u f g st su = record {
   before = λ rest.
@@ -126,6 +129,7 @@ pub decimal-digits : (n : ℕ) → All IsDigit (decimal n)
 unfolding digits
 decimal-digits n = all_digits 64 n [] (All-nil IsDigit)
 
+-- if a byte is no digit, then digits lack it
 pub lacks-digits : (d : ℕ) (l : List ℕ) → All IsDigit l → (d < 48) ⊎ (57 < d) → lacks d l ≡ true
 unfolding lacks
 lacks-digits d [] h other = refl
@@ -138,6 +142,7 @@ lacks-digits d (b ∷ l) h other =
 pub lacks-decimal : (d n : ℕ) → (d < 48) ⊎ (57 < d) → lacks d (decimal n) ≡ true
 lacks-decimal d n other = lacks-digits d (decimal n) (decimal-digits n) other
 
+-- the digits of a number stand within a line
 pub decimal-is_line : (n : ℕ) → is_line (decimal n) ≡ true
 decimal-is_line n = lacks-decimal 10 n (inl (omega arith))
 
@@ -146,11 +151,13 @@ unfoldable pub IsQuiet : ℕ → List ℕ → Type 0
 IsQuiet b [] = ⊥
 IsQuiet b (c ∷ cs) = (c == b) ≡ false
 
+-- if a text begins with another byte, then so does the text with more behind it
 pub quiet-append : (b : ℕ) (p q : List ℕ) → IsQuiet b p → IsQuiet b (p ++ q)
 unfolding IsQuiet
 quiet-append b [] q h = absurd h
 quiet-append b (c ∷ p) q h = h
 
+-- if a text begins with another byte, then it does not begin with the byte
 pub quiet-begins : (b : ℕ) (l : List ℕ) → IsQuiet b l → begins_with b l ≡ false
 unfolding IsQuiet begins_with
 quiet-begins b [] h = absurd h
@@ -176,11 +183,14 @@ quiet-decimal b n other = quiet-digits b (decimal n) (some_digit 63 n []) (decim
 
 -- ---- texts with no line that begins with the byte
 
+-- if a line begins with another byte, then it and its end show no line that begins with the byte
 pub shows-quiet : (b : ℕ) (l : List ℕ) → IsQuiet b l → is_line l ≡ true → Shows b (l ++ 10 ∷ []) []
 shows-quiet b l quiet h = let e = quiet-begins b l quiet in let s = shows-line b l h in rw e at s
 
+-- if the second of two texts shows no line, then both together show the lines of the first
 pub shows-left : (b : ℕ) (t u : List ℕ) (f : List (List ℕ)) → Shows b t f → Shows b u [] → Shows b (t ++ u) f
 shows-left b t u f st su = let s = shows-append b t u f [] st su in rw (append-nil f) at s
 
+-- if the first of two texts shows no line, then both together show the lines of the second
 pub shows-right : (b : ℕ) (t u : List ℕ) (f : List (List ℕ)) → Shows b t [] → Shows b u f → Shows b (t ++ u) f
 shows-right b t u f st su = shows-append b t u [] f st su

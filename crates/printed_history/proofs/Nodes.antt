@@ -75,18 +75,23 @@ pub record OneLineNode (n : Node) : Type 0 where
 
 -- ---- parts of a node
 
+-- if a node's texts and those of new copies stay within a line, then so do those of the node with these copies
 pub with_copies-one_line : (n : Node) (cs : List (Option Copy)) → OneLineCopies cs → OneLineNode n → OneLineNode (with_copies n cs)
 with_copies-one_line n cs h k = record { copies = h; gathers = k.gathers; slots = k.slots; logs = k.logs }
 
+-- if a node's texts and that of a new copy stay within a line, then so do those of the node with this copy
 pub with_copy-one_line : (n : Node) (x : ℕ) (c : Option Copy) → OneLineCopy c → OneLineNode n → OneLineNode (with_copy n x c)
 with_copy-one_line n x c h k = record { copies = nth-put OneLineCopy None n.copies x c h k.copies; gathers = k.gathers; slots = k.slots; logs = k.logs }
 
+-- if a node's texts and that of a new gather stay within a line, then so do those of the node with this gather
 pub with_gather-one_line : (n : Node) (x : ℕ) (g : Option Gather) → OneLineGather g → OneLineNode n → OneLineNode (with_gather n x g)
 with_gather-one_line n x g h k = record { copies = k.copies; gathers = nth-put OneLineGather None n.gathers x g h k.gathers; slots = k.slots; logs = k.logs }
 
+-- if a node's texts and those of a new slot stay within a line, then so do those of the node with this slot
 pub with_slot-one_line : (n : Node) (s : ℕ) (l : Slot) → OneLineSlot l → OneLineNode n → OneLineNode (with_slot n s l)
 with_slot-one_line n s l h k = record { copies = k.copies; gathers = k.gathers; slots = nth-put OneLineSlot no_slot n.slots s l h k.slots; logs = k.logs }
 
+-- if a node's texts and those of a new stored stream stay within a line, then so do those of the node with this stream
 pub with_log-one_line : (n : Node) (t : Stream) (l : StreamLog) → OneLineLog l → OneLineNode n → OneLineNode (with_log n t l)
 with_log-one_line n t l h k = record {
   copies = k.copies;
@@ -101,21 +106,25 @@ with_log-one_line n t l h k = record {
 abbrev pub KeepsOneLine : (Write → Option Copy → Option Copy) → Type 0
 KeepsOneLine f = (w : Write) (c : Option Copy) → OneLineWrite w → OneLineCopy c → OneLineCopy (f w c)
 
+-- validating a copy keeps its text within a line
 pub validated-one_line : KeepsOneLine validated
 unfolding validated OneLineCopy
 validated-one_line w None h g = g
 validated-one_line w (Some c) h g = cond_both (c.ver == w.ver) (Some _) (Some c) OneLineCopy (λ _. g) (λ _. g)
 
+-- applying a write whose text stays within a line keeps the copy's text so
 pub applied-one_line : KeepsOneLine applied
 unfolding applied OneLineCopy
 applied-one_line w None h g = g
 applied-one_line w (Some c) h g = cond_both (nat_lt c.ver w.ver) (Some _) (Some c) OneLineCopy (λ _. h) (λ _. g)
 
+-- rewriting a copy by a write whose text stays within a line keeps the copy's text so
 pub rewritten_copy-one_line : KeepsOneLine rewritten_copy
 unfolding rewritten_copy OneLineCopy
 rewritten_copy-one_line w None h g = g
 rewritten_copy-one_line w (Some c) h g = h
 
+-- if a change by a write keeps texts within a line, then so do the changes by all writes of a list
 pub each_write-one_line : (f : Write → Option Copy → Option Copy) (cs : List (Option Copy)) (ws : List Write) → KeepsOneLine f → OneLineWrites ws → OneLineCopies cs → OneLineCopies (each_write f cs ws)
 unfolding each_write
 each_write-one_line f cs [] keeps h k = k
@@ -134,6 +143,7 @@ after_passing-one_line n ks h k = with_copies-one_line n (each_write validated n
 
 -- ---- entries pass, or are stored
 
+-- if a node's texts stay within a line, then they do after an entry of its own stream passes
 pub pass_own-one_line : (n : Node) (s k : ℕ) → OneLineNode n → OneLineNode (pass_own n s k)
 pass_own-one_line n s k h =
     let l = h.slots s in
@@ -142,6 +152,7 @@ pass_own-one_line n s k h =
     (record { current = l.current; pending = All-drop OneLinePending k (slot n s).pending l.pending })
     (after_passing-one_line n ks (All-take OneLineKept k (map as_kept (slot n s).pending) (All-map OneLineKept as_kept (slot n s).pending l.pending)) h)
 
+-- if a node's texts stay within a line, then they do after an entry of another node's stream passes
 pub pass_kept-one_line : (n : Node) (t : Stream) (k : ℕ) → OneLineNode n → OneLineNode (pass_kept n t k)
 pass_kept-one_line n t k h =
     let l = h.logs t.node t.slot in
@@ -150,6 +161,7 @@ pass_kept-one_line n t k h =
     (record { kept = All-drop OneLineKept k (log n t).kept l.kept })
     (after_passing-one_line n ks (All-take OneLineKept k (log n t).kept l.kept) h)
 
+-- if a node's texts stay within a line, then they do after it learns how many entries have passed
 pub raise-one_line : (n : Node) (t : Stream) (d : ℕ) → OneLineNode n → OneLineNode (raise n t d)
 unfolding raise
 raise-one_line n t d h =
@@ -162,6 +174,7 @@ raise-one_line n t d h =
     (after_passing-one_line n ks (All-take OneLineKept below (log n t).kept l.kept) h))
     (λ _. h)
 
+-- if a node's texts and the writes of an entry stay within a line, then so do they after the entry is stored
 pub store-one_line : (n : Node) (r : Invalidation) → OneLineWrites r.writes → OneLineNode n → OneLineNode (store n r)
 store-one_line n r h k =
     let l = k.logs r.stream.node r.stream.slot in
@@ -185,9 +198,11 @@ put-one_line P d [] (suc i) v none here h = All-cons P d (put d [] i v) none (pu
 put-one_line P d (x ∷ xs) zero v none here h = All-cons P v xs here (All-tail P x xs h)
 put-one_line P d (x ∷ xs) (suc i) v none here h = All-cons P x (put d xs i v) (All-head P x xs h) (put-one_line P d xs i v none here (All-tail P x xs h))
 
+-- the texts of no pending entry stay within a line
 pub no_pending-one_line : OneLinePending no_pending
 no_pending-one_line = All-nil OneLineWrite
 
+-- the texts of no stored entry stay within a line
 pub no_kept-one_line : OneLineKept no_kept
 no_kept-one_line = All-nil OneLineWrite
 
@@ -198,6 +213,7 @@ unfolding OneLineGather gather_above where_true
 gather_above-one_line stamp None h = tt
 gather_above-one_line stamp (Some g) h = cond_both (is_below stamp g.proposal.stamp) (Some g) None OneLineGather (λ _. h) (λ _. tt)
 
+-- if a node's texts stay within a line, then they do after it settles an object
 pub settle-one_line : (n : Node) (x : ℕ) (stamp : Stamp) (place : Place) → OneLineNode n → OneLineNode (settle n x stamp place)
 unfolding settle
 settle-one_line n x stamp place k =
@@ -213,6 +229,7 @@ brought-one_line Own c h = h
 brought-one_line Read c h = h
 brought-one_line Leave c h = tt
 
+-- if a node's texts and a content stay within a line, then so do they after it brings in the content
 pub bring-one_line : (n : Node) (x : ℕ) (p : Proposal) (c : Content) → IsOneLine c.value → OneLineNode n → OneLineNode (bring n x p c)
 unfolding bring
 bring-one_line n x p c h k =
@@ -239,11 +256,13 @@ unfolding content_of OneLineCopy OneLineContent
 content_of-one_line None h = tt
 content_of-one_line (Some c) h = h
 
+-- if a node's texts stay within a line, then so does the content that it sends
 pub own_content-one_line : (n : Node) (x : ℕ) (place : Place) → OneLineNode n → OneLineContent (own_content n x place)
 unfolding own_content OneLineContent
 own_content-one_line n x place k =
     cond_both (is_source n place) (content_of (copy n x)) None OneLineContent (λ _. content_of-one_line (copy n x) (k.copies x)) (λ _. tt)
 
+-- the texts of gathers that were dropped stay within a line
 pub dropped-one_line : (gs : List (Option Gather)) (x : ℕ) → OneLineGather (nth None (dropped gs) x)
 unfolding dropped nth OneLineGather
 dropped-one_line [] x = tt
@@ -252,11 +271,13 @@ dropped-one_line (g ∷ gs) (suc x) = dropped-one_line gs x
 
 -- ---- commits
 
+-- if a copy's text stays within a line, then so does its value
 pub value_of-one_line : (c : Option Copy) → OneLineCopy c → IsOneLine (value_of c)
 unfolding value_of OneLineCopy
 value_of-one_line None h = one_line-num 0 (omega arith)
 value_of-one_line (Some c) h = h
 
+-- if the values written stay within a line, then so do the new writes of a node
 pub new_writes-one_line : (n : Node) (ws : List (ℕ × Value)) → All OneLinePair ws → OneLineWrites (new_writes n ws)
 unfolding new_writes
 new_writes-one_line n [] h = All-nil OneLineWrite

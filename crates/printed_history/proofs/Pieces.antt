@@ -68,6 +68,7 @@ name_bytes (b ∷ bs) h =
     ] in
     rw (ne_eqb b 10 other) (name_bytes bs (All-tail IsNameByte b bs h))
 
+-- names stay within a line
 pub names-one_line : (names : List (List ℕ)) → All IsName names → All OneLineName names
 names-one_line [] h = All-nil OneLineName
 names-one_line (n ∷ ns) h = All-cons OneLineName n ns (let first = All-head IsName n ns h in name_bytes n first.3) (names-one_line ns (All-tail IsName n ns h))
@@ -89,9 +90,11 @@ dotted : (m n : ℕ) → is_line (decimal m ++ codes "." ++ decimal n) ≡ true
 unfolding lacks
 dotted m n = lacks-append 10 (decimal m ++ codes ".") (decimal n) (lacks-append 10 (decimal m) (codes ".") (decimal-is_line m) refl) (decimal-is_line n)
 
+-- a printed stamp stays within a line
 pub stamp-is_line : (s : Stamp) → is_line (stamp_text s) ≡ true
 stamp-is_line s = dotted s.ver s.driver
 
+-- a printed stream stays within a line
 pub stream-is_line : (s : Stream) → is_line (stream_text s) ≡ true
 stream-is_line s = dotted s.node s.slot
 
@@ -100,16 +103,19 @@ unfolding lacks more_nodes_text
 more_nodes-is_line [] = refl
 more_nodes-is_line (n ∷ ns) = lacks-append 10 (decimal n) (more_nodes_text ns) (decimal-is_line n) (more_nodes-is_line ns)
 
+-- printed nodes stay within a line
 pub nodes-is_line : (ns : List ℕ) → is_line (nodes_text ns) ≡ true
 unfolding lacks nodes_text
 nodes-is_line [] = refl
 nodes-is_line (n ∷ ns) = lacks-append 10 (decimal n) (more_nodes_text ns) (decimal-is_line n) (more_nodes-is_line ns)
 
+-- a printed node, or the sign for none, stays within a line
 pub optional_node-is_line : (o : Option ℕ) → is_line (optional_node o) ≡ true
 unfolding lacks optional_node
 optional_node-is_line None = refl
 optional_node-is_line (Some n) = decimal-is_line n
 
+-- a printed state of a copy stays within a line
 pub state-is_line : (s : State) → is_line (state_text s) ≡ true
 unfolding lacks state_text
 state-is_line Valid = refl
@@ -149,6 +155,7 @@ unfolding outcome_text lacks
 outcome-is_line None = refl
 outcome-is_line (Some place) = decimal-is_line place
 
+-- if the texts of a reply stay within a line, then the printed reply does
 pub reply-is_line : (r : Reply) → OneLineReply r → is_line (reply_text r) ≡ true
 reply-is_line r h = lacks-append 10 (outcome_text r.failed) (values_text r.values) (outcome-is_line r.failed) (values-is_line r.values h)
 
@@ -209,6 +216,7 @@ installed-is_line Installed = refl
 installed-is_line InstallStopped = refl
 installed-is_line (Old e) = decimal-is_line e
 
+-- if names stay within a line, then a printed answer does
 pub answer-is_line : (names : List (List ℕ)) (a : Answer) → All OneLineName names → is_line (answer_text names a) ≡ true
 unfolding lacks answer_text
 answer-is_line names (BeginAnswer a) h = begin-is_line a
@@ -253,6 +261,7 @@ unfolding lacks content_text OneLineContent
 content-is_line None h = refl
 content-is_line (Some c) h = lacks-append 10 (number c.ver) (word (value_text c.value)) (decimal-is_line c.ver) h.text
 
+-- if names and the texts of a letter stay within a line, then the printed letter does
 pub body-is_line : (names : List (List ℕ)) (b : Body) → All OneLineName names → OneLineBody b → is_line (body_text names b) ≡ true
 unfolding lacks body_text OneLineBody
 body-is_line names (RInv r) h g =
@@ -284,6 +293,7 @@ keyword-is_line : (w : List ℕ) (ns : List ℕ) → is_line w ≡ true → is_l
 unfolding words_text
 keyword-is_line w ns h = lacks-append 10 w (spaced (map decimal ns)) h (spaced-is_line ns)
 
+-- a printed step stays within a line
 pub step-is_line : (s : Step) → is_line (words_text (step_words s)) ≡ true
 unfolding step_words lacks
 step-is_line (Begin k) = keyword-is_line (codes "begin") (k ∷ []) refl
@@ -294,6 +304,7 @@ step-is_line (Stop n) = keyword-is_line (codes "stop") (n ∷ []) refl
 step-is_line (View nodes) = keyword-is_line (codes "view") nodes refl
 step-is_line (Install n e) = keyword-is_line (codes "install") (n ∷ e ∷ []) refl
 
+-- a printed state of a transaction stays within a line
 pub tx_state-is_line : (s : TxState) → is_line (tx_state_text s) ≡ true
 unfolding lacks tx_state_text
 tx_state-is_line New = refl
@@ -303,6 +314,7 @@ tx_state-is_line Passed = refl
 tx_state-is_line Acked = refl
 tx_state-is_line TxRefused = refl
 
+-- printed points stay within a line
 pub points-is_line : (ps : List Point) → is_line (points_text ps) ≡ true
 unfolding lacks points_text
 points-is_line [] = refl

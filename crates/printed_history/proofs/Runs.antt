@@ -52,6 +52,7 @@ text_bytes (b ∷ bs) h =
     let other : b ≢ 10 = λ e. absurd (omega (arith, first.0, e)) in
     rw (ne_eqb b 10 other) (text_bytes bs (All-tail (λ (c : ℕ). (33 ≤ c) × (c ≤ 126)) b bs h))
 
+-- if a value fits the script's version, then its text stays within a line
 pub value-one_line : (version : ℕ) (v : Value) → FitsValue version v → IsOneLine v
 unfolding FitsValue value_text lacks
 value-one_line version (Num n) h = one_line-num n h
@@ -75,6 +76,7 @@ fit_txs-one_line c k (t ∷ ts) h (suc id) = fit_txs-one_line c (suc k) ts h.1 i
 abbrev pub FewOps : List TxDecl → Type 0
 FewOps txs = (id : ℕ) → length (nth no_tx txs id).tx ≤ 16
 
+-- if transactions fit, then each has at most 16 operations
 pub fit_txs-few : (c : Config) (k : ℕ) (txs : List TxDecl) → FitTxs c k txs → FewOps txs
 unfolding FitTxs nth
 fit_txs-few c k [] h id = omega arith
@@ -226,6 +228,7 @@ run-one_line c txs (s ∷ ss) w config same r ops k fits =
     let rest = run-one_line c txs ss (stepped w s) (moved.config ∙ config) (kept ∙ same) (step-reached c txs w s config same r first) ops next (All-tail (StepFits c txs) s ss fits) in
     record { ops = rest.ops; txs = rest.txs ∙ kept; ended = rest.ended; sent = All-cons (λ (e : Event). All OneLinePacket e.sent) (happens w s) (events (stepped w s) ss) (step-sends w s next) rest.sent }
 
+-- if a script fits, then all texts of its run stay within a line
 pub script-one_line : (s : Script) → FitsScript s → OneLineRun (start s.config s.txs) s.steps
 script-one_line s fits =
     let c = s.config in

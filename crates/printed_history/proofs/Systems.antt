@@ -45,12 +45,14 @@ sent-one_line old new allowed sends k fresh l i = elim (sends.only l i) [ inl be
 nothing-one_line : (l : Letter) → nothing l → OneLineBody l.body
 nothing-one_line l h = absurd h
 
+-- if nodes and letters stay, then their texts stay within a line
 pub same-one_line : (old new : SystemState) → Same old new → OneLineSystem old → OneLineSystem new
 same-one_line old new same k = record {
   nodes = λ n. subst OneLineNode (sym (same.nodes n)) (k.nodes n);
   letters = sent-one_line old new nothing same.sends k nothing-one_line;
 }
 
+-- if the texts of a changed node and of each letter that it may send stay within a line, then so do all texts
 pub changed-one_line : (old new : SystemState) (n : ℕ) (after : Node) (allowed : Letter → Type 0) → Changes old new n after allowed → OneLineSystem old → OneLineNode after → ((l : Letter) → allowed l → OneLineBody l.body) → OneLineSystem new
 changed-one_line old new n after allowed ch k here fresh = record {
   nodes = λ m. elim (cases_eq m n) [
@@ -89,6 +91,7 @@ body-one_line s l b k i is = subst OneLineBody is (k.letters l i)
 
 -- ---- each move of the machine that leaves current transactions alone
 
+-- if a move brings no other texts, then the texts of nodes and letters stay within a line by it
 pub move-one_line : (old new : SystemState) (move : Move old new) → IsPlain old new move → OneLineSystem old → OneLineSystem new
 unfolding IsPlain OneLineBody OneLineGather OneLineContent
 move-one_line old new (makes_view set v) h k = record {
@@ -180,6 +183,7 @@ committed-one_line n s c followers is k =
     (record { current = tt; pending = All-push OneLinePending (slot n s).pending _ at.pending fresh })
     (with_copies-one_line n (each_write rewritten_copy n.copies writes) (each_write-one_line rewritten_copy n.copies writes rewritten_copy-one_line fresh k.copies) k)
 
+-- if the texts of transactions, nodes and letters stay within a line, then they do after a move of a run
 pub run_move-one_line : (old new : RunState) → RunMove old new → OneLineTxs old.txs → OneLineSystem old.system → OneLineSystem new.system
 unfolding OneLineCurrent
 run_move-one_line old new (plain move is txs book) ops k = move-one_line old.system new.system move is k
@@ -198,6 +202,7 @@ run_move-one_line old new (passes_own_tx n s some passes ch txs book) ops k =
 run_move-one_line old new (passes_kept_tx n t out other some passes ch txs book) ops k =
     changed-one_line old.system new.system n (pass_kept (old.system.node n) t 1) nothing ch k (pass_kept-one_line (old.system.node n) t 1 (k.nodes n)) nothing-one_line
 
+-- if the texts of transactions, nodes and letters stay within a line, then they do after moves of a run
 pub run_moves-one_line : (old new : RunState) → RunMoves old new → OneLineTxs old.txs → OneLineSystem old.system → OneLineSystem new.system
 run_moves-one_line old new (ended _) ops k = k
 run_moves-one_line old new (onward _ mid _ move moves) ops k =

@@ -38,6 +38,7 @@ point-is_line : (b : Book) (k : ℕ) → OneLinePoint b k → is_line (printed_p
 unfolding lacks
 point-is_line b k h = is_line-together (codes "*") (number k ∷ word (reply_text (reply_or (record_of b k).reply)) ∷ []) (refl, (decimal-is_line k, reply-is_line (reply_or (record_of b k).reply) h))
 
+-- the lines of points are those that begin with `*`: one for each point told
 pub points-found : (b : Book) (ks : List ℕ) → All (OneLinePoint b) ks → Shows 42 (point_lines b ks) (map (λ k. printed_point (point_now b k)) ks)
 unfolding point_lines begins_with
 points-found b [] h = shows-none 42
@@ -46,6 +47,7 @@ points-found b (k ∷ ks) h =
     (shows-line 42 (printed_point (point_now b k)) (point-is_line b k (All-head (OneLinePoint b) k ks h)))
     (points-found b ks (All-tail (OneLinePoint b) k ks h))
 
+-- no line of the points begins with a byte other than `*`
 pub points-passed : (byte : ℕ) (b : Book) (ks : List ℕ) → (42 == byte) ≡ false → All (OneLinePoint b) ks → Shows byte (point_lines b ks) []
 unfolding point_lines IsQuiet
 points-passed byte b [] other h = shows-none byte
@@ -58,12 +60,14 @@ ack-is_line : (k : ℕ) → is_line (printed_ack k) ≡ true
 unfolding lacks
 ack-is_line k = decimal-is_line k
 
+-- the lines of acknowledgements are those that begin with `!`: one for each told
 pub acks-found : (ks : List ℕ) → Shows 33 (acked_lines ks) (map printed_ack ks)
 unfolding acked_lines begins_with
 acks-found [] = shows-none 33
 acks-found (k ∷ ks) =
     shows-append 33 (printed_ack k ++ 10 ∷ []) (acked_lines ks) (printed_ack k ∷ []) (map printed_ack ks) (shows-line 33 (printed_ack k) (ack-is_line k)) (acks-found ks)
 
+-- no line of the acknowledgements begins with a byte other than `!`
 pub acks-passed : (byte : ℕ) (ks : List ℕ) → (33 == byte) ≡ false → Shows byte (acked_lines ks) []
 unfolding acked_lines IsQuiet
 acks-passed byte [] other = shows-none byte
@@ -83,6 +87,7 @@ packet-is_line names p named h =
     is_line-together (codes ">") (number p.letter.from ∷ number p.letter.to ∷ number p.number ∷ number p.letter.epoch ∷ word (body_text names p.letter.body) ∷ [])
     (refl, (decimal-is_line p.letter.from, (decimal-is_line p.letter.to, (decimal-is_line p.number, (decimal-is_line p.letter.epoch, body-is_line names p.letter.body named h)))))
 
+-- no line of the packets begins with a byte other than `>`
 pub packets-passed : (byte : ℕ) (names : List (List ℕ)) (ps : List Packet) → (62 == byte) ≡ false → All OneLineName names → All OneLinePacket ps → Shows byte (packet_lines names ps) []
 unfolding packet_lines IsQuiet
 packets-passed byte names [] other named h = shows-none byte
@@ -95,6 +100,7 @@ packets-passed byte names (p ∷ ps) other named h =
 abbrev printed_answer : List (List ℕ) → ℕ → Step → Event → List ℕ
 printed_answer names i s e = decimal i ++ word (step_text s) ++ codes " = " ++ answer_text names e.answer
 
+-- no line of an answer begins with a byte that is no digit
 pub answer-passed : (byte : ℕ) (names : List (List ℕ)) (i : ℕ) (s : Step) (e : Event) → (byte < 48) ⊎ (57 < byte) → All OneLineName names → Shows byte (answer_line names i s e) []
 unfolding lacks
 answer-passed byte names i s e other named =
@@ -108,6 +114,7 @@ pub record OneLineEvent (e : Event) : Type 0 where
   pub points : All (OneLinePoint e.world.book) e.points
   pub sent : All OneLinePacket e.sent
 
+-- the lines of a step that begin with `*` are those of the points that it tells
 pub event-points : (names : List (List ℕ)) (i : ℕ) (s : Step) (e : Event) → All OneLineName names → OneLineEvent e → Shows 42 (event_text names i s e) (map (λ k. printed_point (point_now e.world.book k)) e.points)
 event-points names i s e named h =
     let found = map (λ k. printed_point (point_now e.world.book k)) e.points in
@@ -118,6 +125,7 @@ event-points names i s e named h =
     (shows-left 42 (a ++ p) k found (shows-right 42 a p found (answer-passed 42 names i s e (inl (omega arith)) named) (points-found e.world.book e.points h.points)) (acks-passed 42 e.acked refl))
     (packets-passed 42 names e.sent refl named h.sent)
 
+-- the lines of a step that begin with `!` are those of the acknowledgements that it tells
 pub event-acks : (names : List (List ℕ)) (i : ℕ) (s : Step) (e : Event) → All OneLineName names → OneLineEvent e → Shows 33 (event_text names i s e) (map printed_ack e.acked)
 event-acks names i s e named h =
     let found = map printed_ack e.acked in
@@ -128,6 +136,7 @@ event-acks names i s e named h =
     (shows-right 33 (a ++ p) k found (shows-right 33 a p [] (answer-passed 33 names i s e (inl (omega arith)) named) (points-passed 33 e.world.book e.points refl h.points)) (acks-found e.acked))
     (packets-passed 33 names e.sent refl named h.sent)
 
+-- no line of a step begins with a byte above `>`
 pub event-passed : (byte : ℕ) (names : List (List ℕ)) (i : ℕ) (s : Step) (e : Event) → 62 < byte → All OneLineName names → OneLineEvent e → Shows byte (event_text names i s e) []
 event-passed byte names i s e above named h =
     let a = answer_line names i s e in
@@ -155,10 +164,12 @@ history-is_line : (ps : List Point) → is_line (printed_history ps) ≡ true
 unfolding lacks
 history-is_line ps = points-is_line ps
 
+-- the line that begins with `h` is that of the history
 pub history-found : (b : Book) → Shows 104 (history_line b) (printed_history b.points ∷ [])
 unfolding begins_with
 history-found b = shows-line 104 (printed_history b.points) (history-is_line b.points)
 
+-- the line of the history begins with no byte but `h`
 pub history-passed : (byte : ℕ) (b : Book) → (104 == byte) ≡ false → Shows byte (history_line b) []
 unfolding IsQuiet
 history-passed byte b other = shows-quiet byte (printed_history b.points) other (history-is_line b.points)

@@ -30,6 +30,7 @@ pub record IsOneLine (v : Value) : Type 0 where
   pub fits : FitsValue 2 v
   pub text : is_line (value_text v) ≡ true
 
+-- the text of a number below 2^64 stays within a line
 pub one_line-num : (n : ℕ) → n < 2 ^ 64 → IsOneLine (Num n)
 unfolding value_text FitsValue
 one_line-num n h = record { fits = h; text = decimal-is_line n }
@@ -113,6 +114,7 @@ run_from-one_line found place vs ws (op ∷ ops) f values writes all =
     (record { values = values; writes = All-nil OneLinePair })
     (λ e h. run_from-one_line found (suc place) (given vs e.gives) (stored ws x e.stores) ops f (given-one_line vs e.gives values h.0) (stored-one_line ws x e.stores writes h.1) (All-tail OneLineOp op ops all))
 
+-- if the values found and those of the operations stay within a line, then so does all that running them gives
 pub run-one_line : (found : ℕ → Value) (ops : List Op) → ((x : ℕ) → IsOneLine (found x)) → All OneLineOp ops → OneLineRan (run found ops)
 unfolding run
 run-one_line found ops f all = run_from-one_line found 0 [] [] ops f (All-nil IsOneLine) (All-nil OneLinePair) all
@@ -161,6 +163,7 @@ written_map-one_line m (w ∷ ws) p all =
 abbrev pub OneLineReply : Reply → Type 0
 OneLineReply r = All IsOneLine r.values
 
+-- if a map's values and those of transactions stay within a line, then so do the replies of their serial run
 pub serial_replies-one_line : (m : List Versioned) (txs : List (List Op)) → OneLineMap m → All (All OneLineOp) txs → All OneLineReply (serial_replies m txs)
 unfolding serial_replies
 serial_replies-one_line m [] p all = All-nil OneLineReply
@@ -173,6 +176,7 @@ serial_replies-one_line m (tx ∷ txs) p all =
 abbrev pub FailsBelow : ℕ → Reply → Type 0
 FailsBelow n r = IfSome r.failed (λ k. k < n)
 
+-- if transactions have at most n operations, then a reply of their serial run that failed names one of the first n
 pub serial_replies-places : (n : ℕ) (m : List Versioned) (txs : List (List Op)) → All (λ tx. length tx ≤ n) txs → All (FailsBelow n) (serial_replies m txs)
 unfolding serial_replies
 serial_replies-places n m [] all = All-nil (FailsBelow n)
@@ -187,6 +191,7 @@ declared-one_line [] all x = one_line-num 0 (omega arith)
 declared-one_line (o ∷ os) all zero = All-head (λ (o : ObjectDecl). IsOneLine o.value) o os all
 declared-one_line (o ∷ os) all (suc x) = declared-one_line os (All-tail (λ (o : ObjectDecl). IsOneLine o.value) o os all) x
 
+-- if the values of the declared objects stay within a line, then so do those of the map at the start
 pub start_map-one_line : (c : Config) → All (λ o. IsOneLine o.value) c.objects → OneLineMap (start_map c)
 unfolding start_map
 start_map-one_line c all = declared-one_line c.objects all

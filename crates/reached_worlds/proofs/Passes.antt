@@ -16,9 +16,11 @@ pub record IsSized (b c : Book) : Type 0 where
   pub records : length c.records ≡ length b.records
   pub steps : c.steps ≡ b.steps
 
+-- a book has as many records and steps as itself
 pub sized_same : (b : Book) → IsSized b b
 sized_same b = record { records = refl; steps = refl }
 
+-- if a second book has as many records and steps as a first, and a third as the second, then the third has as many as the first
 pub sized_on : (b c d : Book) → IsSized b c → IsSized c d → IsSized b d
 sized_on b c d h k = record { records = k.records ∙ h.records; steps = k.steps ∙ h.steps }
 

@@ -50,6 +50,7 @@ pub record HasEnds (nodes : ℕ) (l : Letter) : Type 0 where
   pub from : l.from < nodes
   pub to : l.to < nodes
 
+-- if a letter fits, then its sender and its receiver are nodes
 pub fits_ends : (limits : Limits) (l : Letter) → fits l limits ≡ true → HasEnds limits.nodes l
 unfolding fits
 fits_ends limits l h =
@@ -58,10 +59,12 @@ fits_ends limits l h =
     let three = and_parts (nat_lt l.from limits.nodes) (nat_lt l.to limits.nodes) two.0 in
     record { from = ltb-true l.from limits.nodes three.0; to = ltb-true l.to limits.nodes three.1 }
 
+-- if all letters fit, then so does the first
 pub first_fits : (limits : Limits) (l : Letter) (ls : List Letter) → AllFit limits (l ∷ ls) → fits l limits ≡ true
 unfolding AllFit
 first_fits limits l ls h = All-head (λ (k : Letter). fits k limits ≡ true) l ls h
 
+-- if all letters fit, then so do those behind the first
 pub rest_fits : (limits : Limits) (l : Letter) (ls : List Letter) → AllFit limits (l ∷ ls) → AllFit limits ls
 unfolding AllFit
 rest_fits limits l ls h = All-tail (λ (k : Letter). fits k limits ≡ true) l ls h
@@ -102,6 +105,7 @@ links_posted_one limits links l a f =
       letters = λ from to. posted_fit limits links l from to f a.letters;
     }
 
+-- if the letters of all links fit and those sent do, then so do the letters after these are posted
 pub links_posted : (limits : Limits) (links : List (List (List Letter))) (sent : List Letter) → AreLinks limits links → AllFit limits sent → AreLinks limits (all_posted links sent)
 unfolding all_posted
 links_posted limits links [] a f = a
@@ -113,6 +117,7 @@ links_posted limits links (l ∷ ls) a f =
 abbrev limits : World → Limits
 limits w = limits_of w.config
 
+-- if a world is in its ranges, then the letters of all its links fit
 pub are_links : (w : World) → IsRanged w → AreLinks (limits_of w.config) w.links
 are_links w r = record { senders = r.senders; receivers = r.receivers; letters = r.letters }
 
@@ -163,6 +168,7 @@ fit_tx c i [] k h less = absurd (omega arith)
 fit_tx c i (t ∷ ts) zero h less = let z : i + 0 ≡ i = omega arith in rw z h.0
 fit_tx c i (t ∷ ts) (suc k) h less = let z : i + suc k ≡ suc i + k = omega arith in rw z (fit_tx c (suc i) ts k h.1 (omega arith))
 
+-- if a world is in its ranges, then each of its transactions fits at its number
 pub tx_fits : (w : World) (k : ℕ) → IsRanged w → k < length w.txs → FitsTx w.config k (tx_decl w k)
 tx_fits w k r less = let z : 0 + k ≡ k = omega arith in rw z at (fit_tx w.config 0 w.txs k r.declared.each less)
 
@@ -290,6 +296,7 @@ numbers_at d f i zero n h = absurd (omega arith)
 numbers_at d f i (suc k) zero h = let z : i ≡ i + 0 = omega arith in ap f z
 numbers_at d f i (suc k) (suc n) h = let z : suc i + n ≡ i + suc n = omega arith in numbers_at d f (suc i) k n (omega arith) ∙ ap f z
 
+-- at the start each node is that of its configuration
 pub node_at_start : (c : Config) (txs : List TxDecl) (n : ℕ) → n < c.nodes → node (start c txs) n ≡ start_node c n
 unfolding start
 node_at_start c txs n h = let z : 0 + n ≡ n = omega arith in numbers_at no_node (start_node c) 0 c.nodes n h ∙ ap (start_node c) z
@@ -324,6 +331,7 @@ unfolding nth nodes_fit
 first_members c k zero = nodes_fit-below (limits_of c) c.nodes (omega arith)
 first_members c k (suc i) = refl
 
+-- if a configuration and its transactions keep the limits, then the start is in its ranges
 pub ranged_start : (c : Config) (txs : List TxDecl) → KeepsLimits c → FitsTxs c txs → IsRanged (start c txs)
 unfolding start
 ranged_start c txs limits fit =

@@ -71,6 +71,7 @@ unfolding AreBy
 by_append me [] b h k = k
 by_append me (l ∷ a) b h k = (h.0, by_append me a b h.1 k)
 
+-- if letters are by a node, then so are the earliest of them
 pub by_take : (me n : ℕ) (ls : List Letter) → AreBy me ls → AreBy me (take n ls)
 unfolding AreBy
 by_take me zero ls h = tt
@@ -321,6 +322,7 @@ unfolding receive_or_not
 receive_or_not-by me l (Some outcome) n h = is_still me n h
 receive_or_not-by me l None n h = is_did_then me (row n l.from l.body) finish (row-by me l.from l.body n h) (finish-by me)
 
+-- a node that receives a letter keeps its number, and sends in its own name
 pub receive-by : (me : ℕ) (l : Letter) (n : Node) → n.me ≡ me → IsBy me (receive n l).node (receive n l).sent
 unfolding receive
 receive-by me l n h = receive_or_not-by me l (rejection n l) n h
@@ -332,6 +334,7 @@ unfolding begin_free
 begin_free-by me s c (Some other) n h = is_still me n h
 begin_free-by me s c None n h = record { number = h; by = by_none me }
 
+-- a node that begins a transaction keeps its number, and sends in its own name
 pub begin-by : (me s id : ℕ) (tx : List Op) (n : Node) → n.me ≡ me → IsBy me (begin n s id tx).node (begin n s id tx).sent
 unfolding begin
 begin-by me s id tx n h =
@@ -380,12 +383,14 @@ try_current-by me s None n h = is_still me n h
 try_current-by me s (Some c) n h =
     is_either me (is_write c.tx) (write_row n s c (write_cause n s c.tx)) (read_row n s c (hindrance n c.tx)) (write_row-by me s c (write_cause n s c.tx) n h) (read_row-by me s c (hindrance n c.tx) n h)
 
+-- a node that tries a slot keeps its number, and sends in its own name
 pub try_slot-by : (me s : ℕ) (n : Node) → n.me ≡ me → IsBy me (try_slot n s).node (try_slot n s).sent
 unfolding try_slot
 try_slot-by me s n h = is_either me n.stopped (just n Stopped) (try_current n s (slot n s).current) (is_still me n h) (try_current-by me s (slot n s).current n h)
 
 -- ---- views, stops and ticks
 
+-- a node that installs a view keeps its number, and sends in its own name
 pub install-by : (me : ℕ) (v : View) (n : Node) → n.me ≡ me → IsBy me (install n v).node (install n v).sent
 unfolding install
 install-by me v n h =
@@ -394,6 +399,7 @@ install-by me v n h =
     (is_did_then me (just (record n { epoch = v.epoch; members = v.members; reported = []; gathers = dropped n.gathers }) Installed) finish (record { number = h; by = by_none me }) (finish-by me))
     (is_still me n h))
 
+-- a node that stops keeps its number, and sends in its own name
 pub stop-by : (me : ℕ) (n : Node) → n.me ≡ me → IsBy me (stop n).node (stop n).sent
 unfolding stop
 stop-by me n h = is_either me n.stopped (just n StopStopped) (just (record n { stopped = true }) Done) (is_still me n h) (record { number = h; by = by_none me })
@@ -430,6 +436,7 @@ repeats-by me n h =
     (by_each_of me (repeat_done n) (below (length n.slots)) (λ s. by_where me (nat_lt 0 (slot n s).done) (to_each n (others n) (RVal (own_stream n s) (slot n s).done)) [] (by_each me n (others n) (RVal (own_stream n s) (slot n s).done) h) (by_none me))))
     (by_each_of me (repeat_leave n) (below (length n.entries)) (λ x. by_where me (leaves n x (entry n x).place) (requests n Leave (x ∷ [])) [] (ask-by me n Leave (x ∷ []) (driver n) h) (by_none me)))
 
+-- a node that ticks keeps its number, and sends in its own name
 pub tick-by : (me : ℕ) (n : Node) → n.me ≡ me → IsBy me (tick n).node (tick n).sent
 unfolding tick
 tick-by me n h = is_either me n.stopped (just n TickStopped) (sends n TickDone (repeats n)) (is_still me n h) (record { number = h; by = repeats-by me n h })
@@ -440,6 +447,7 @@ no_passes : (test : Bool) (a b : Did Ticked) → a.passed ≡ [] → b.passed �
 no_passes true a b h k = h
 no_passes false a b h k = k
 
+-- a tick passes nothing
 pub tick-passed : (n : Node) → (tick n).passed ≡ []
 unfolding tick
 tick-passed n = no_passes n.stopped (just n TickStopped) (sends n TickDone (repeats n)) refl refl

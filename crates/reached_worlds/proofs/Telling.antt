@@ -159,6 +159,7 @@ current_there w u n s c b same f is =
     let not_acked : (record_of w.book c.id).acked ≡ None = none_of (record_of w.book c.id).acked (λ step e. clash (record_of w.book c.id).point step (f.booked.acked_at c.id step e) h.3) in
     rw same (record { there = begun_there w.book c.id h.1; current = state_current (record_of w.book c.id) h.4 not_acked h.3 h.2 h.1 })
 
+-- if the data invariant holds, then the current transaction of a slot is current in the book
 pub current_of : (w : World) (u : Witness) (n s id : ℕ) (b : BookState) → b.book ≡ w.book → DataInvariant (run_state w) u → IsCurrentOf (slot (node w n) s).current id → IsCurrent b id
 current_of w u n s id b same f is = rw (← is.number) (current_there w u n s is.current b same f is.is)
 

@@ -22,10 +22,12 @@ use Rattle.reliable_commit.specs.declared.advance.Advance.{Advance}
 
 -- ---- how many entries pass
 
+-- as many entries of a node's own stream pass as stand in front that all their member followers have acknowledged
 pub own_passing : (n : Node) (s k : ℕ) (cs : List (Option Copy)) (w : Waiting) (me : ℕ) (members : List ℕ) → IsOwnWith n s cs w me members → k ≡ front (passes_at me members) (map as_kept w.pending) → passing n (map as_kept (slot n s).pending) ≡ k
 own_passing n s k cs w me members h is =
     rw (h.me, h.members, h.pending) (sym is)
 
+-- as many stored entries of another node's stream pass as stand in front that all their member followers have acknowledged
 pub kept_passing : (n : Node) (s : Stream) (k : ℕ) (cs : List (Option Copy)) (ls : List (List StreamLog)) (me : ℕ) (members : List ℕ) → IsMemberWith n cs ls me members → k ≡ front (passes_at me members) (log_at ls s).kept → passing n (log n s).kept ≡ k
 kept_passing n s k cs ls me members h is =
     rw (h.node.me, h.members, h.node.logs) (sym is)
@@ -177,6 +179,7 @@ module _ (n : Node) (s : Stream) (k : ℕ) (count : passing n (log n s).kept ≡
 
 -- ---- what the node has, by what it is seen as
 
+-- if an advance has the counts and the receivers of a node's own entries that pass, then it is the one of the node
 pub is_advance : (n : Node) (s k : ℕ) (a : Advance) (cs : List (Option Copy)) (w : Waiting) (me : ℕ) (members : List ℕ) → IsOwnWith n s cs w me members → k ≤ length w.pending → a.first ≡ w.done → a.after ≡ w.done + k → a.tell ≡ told_of me members (take k (map as_kept w.pending)) → IsAdvance n s k a
 is_advance n s k a cs w me members h few first after tell =
     record {
@@ -186,6 +189,7 @@ is_advance n s k a cs w me members h few first after tell =
       tell = rw (h.me, h.members, h.pending) tell;
     }
 
+-- if an advance has the counts and the receivers of stored entries that pass, then it is the one of the stored stream
 pub is_replay : (n : Node) (s : Stream) (k : ℕ) (a : Advance) (cs : List (Option Copy)) (ls : List (List StreamLog)) (me : ℕ) (members : List ℕ) → IsMemberWith n cs ls me members → k ≤ length (log_at ls s).kept → a.first ≡ (log_at ls s).done → a.after ≡ (log_at ls s).done + k → a.tell ≡ told_of me members (take k (log_at ls s).kept) → IsReplay n s k a
 is_replay n s k a cs ls me members h few first after tell =
     record {
@@ -200,6 +204,7 @@ pub copies_of : (n : Node) (s : Stream) (k d : ℕ) (cs after : List (Option Cop
 copies_of n s k d cs after ls me members h e is =
     rw (h.node.copies, h.node.logs) (is ∙ ap (λ (m : ℕ). raised_copies cs (log_at ls s) (m + k)) e)
 
+-- if stored streams are raised by as many entries as pass, then they are the node's raised so
 pub logs_of : (n : Node) (s : Stream) (k d : ℕ) (cs : List (Option Copy)) (ls after : List (List StreamLog)) (me : ℕ) (members : List ℕ) → IsMemberWith n cs ls me members → d ≡ (log_at ls s).done → after ≡ raised_logs ls s (d + k) → after ≡ raised_logs n.logs s ((log n s).done + k)
 logs_of n s k d cs ls after me members h e is =
     rw h.node.logs (is ∙ ap (λ (m : ℕ). raised_logs ls s (m + k)) e)
@@ -210,5 +215,6 @@ done_raised-by ls s d true e h =
     rw (e, log_at-with_log_at ls s record { done = d; kept = drop (d - (log_at ls s).done) (log_at ls s).kept }) refl
 done_raised-by ls s d false e h = rw e (omega (arith, ltb-false (log_at ls s).done d e))
 
+-- if a stored stream is raised to a count not below its own, then it has that count
 pub done_raised : (ls : List (List StreamLog)) (s : Stream) (d : ℕ) → (log_at ls s).done ≤ d → d ≡ (log_at (raised_logs ls s d) s).done
 done_raised ls s d h = done_raised-by ls s d (nat_lt (log_at ls s).done d) refl h

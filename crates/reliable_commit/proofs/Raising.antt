@@ -29,6 +29,7 @@ lowest-by : (l : StreamLog) (d : ℕ) (e : Kept) (b : Bool) → nat_lt l.done d 
 lowest-by l d e true low h = record { low = ltb-true l.done d low; first = first_of_rest l.kept e h }
 lowest-by l d e false low h = absurd cc
 
+-- if there is a lowest stored entry below a count, then it stands in front, and the count is above the stream's own
 pub lowest : (l : StreamLog) (d : ℕ) (e : Kept) → Some e ≡ lowest_below l d → IsLowest l d e
 lowest l d e h = lowest-by l d e (nat_lt l.done d) refl h
 
@@ -49,6 +50,7 @@ step_copies copies done d e ks h =
       ]
     ]
 
+-- validating the writes of the lowest entry, and then those of the others below a count, is validating those of all
 pub raised_copies-step : (copies : List (Option Copy)) (l : StreamLog) (d : ℕ) (e : Kept) → IsLowest l d e → raised_copies (each_write validated copies e.writes) (raised_by_one l) d ≡ raised_copies copies l d
 raised_copies-step copies l d e h =
     step_copies copies l.done d e (drop 1 l.kept) h.low
@@ -70,6 +72,7 @@ step_logs logs s l m d e ks here h first is =
       ]
     ])
 
+-- taking out the lowest entry of a stored stream, and then the others below a count, is raising the stream to it
 pub raised_logs-step : (logs : List (List StreamLog)) (s : Stream) (d : ℕ) (e : Kept) → IsLowest (log_at logs s) d e → raised_logs (with_log_at logs s (raised_by_one (log_at logs s))) s d ≡ raised_logs logs s d
 raised_logs-step logs s d e h = step_logs logs s (log_at logs s) (raised_by_one (log_at logs s)) d e (drop 1 (log_at logs s).kept) refl h.low h.first refl
 
@@ -83,6 +86,7 @@ drop_nil : (n : ℕ) → drop n (let none : List Kept = [] in none) ≡ []
 drop_nil zero = refl
 drop_nil (suc n) = refl
 
+-- if a stored stream has no entry below a count, then raising it to the count leaves the copies
 pub raised_copies-none : (copies : List (Option Copy)) (l : StreamLog) (d : ℕ) → (l.done < d → l.kept ≡ []) → copies ≡ raised_copies copies l d
 unfolding raised_copies writes_of
 raised_copies-none copies l d none =
@@ -94,6 +98,7 @@ raised_copies-none copies l d none =
       ]
     ]
 
+-- if a stored stream has no entry below a count, then setting its count is raising it
 pub raised_logs-none : (logs : List (List StreamLog)) (s : Stream) (d : ℕ) → ((log_at logs s).done < d → (log_at logs s).kept ≡ []) → raised_rest logs s d ≡ raised_logs logs s d
 unfolding raised_logs
 raised_logs-none logs s d none =
@@ -107,25 +112,30 @@ raised_logs-none logs s d none =
 
 -- ---- as many have passed as the number says
 
+-- if a count is not above a stored stream's own, then raising the stream to it leaves the copies
 pub raised_copies-low : (copies : List (Option Copy)) (l : StreamLog) (d : ℕ) → d ≤ l.done → copies ≡ raised_copies copies l d
 unfolding raised_copies
 raised_copies-low copies l d h = rw (le-ltb l.done d h) refl
 
+-- if a count is not above a stored stream's own, then raising the stream to it leaves the streams
 pub raised_logs-low : (logs : List (List StreamLog)) (s : Stream) (d : ℕ) → d ≤ (log_at logs s).done → logs ≡ raised_logs logs s d
 unfolding raised_logs
 raised_logs-low logs s d h = rw (le-ltb (log_at logs s).done d h) refl
 
 -- ---- which streams are followed
 
+-- if all writes of a stored stream are of objects within a bound, then so are those of its lowest entry
 pub within_lowest : (n : ℕ) (l : StreamLog) (d : ℕ) (e : Kept) → IsLowest l d e → AreWithin n (writes_of l.kept) → AreWithin n e.writes
 unfolding writes_of
 within_lowest n l d e low h = AreWithin-left n e.writes (writes_of (drop 1 l.kept)) (rw low.first at h)
 
+-- if the lowest entry is taken out of a stored stream, then the stream has fewer
 pub smaller : (logs after : List (List StreamLog)) (s : Stream) (d : ℕ) (e : Kept) → IsLowest (log_at logs s) d e → after ≡ with_log_at logs s (raised_by_one (log_at logs s)) → length (log_at after s).kept < length (log_at logs s).kept
 smaller logs after s d e low is =
     let size = ap length low.first in
     rw (is, log_at-with_log_at logs s (raised_by_one (log_at logs s))) (omega (arith, size))
 
+-- if two streams are followed, then the second is so after the lowest entry of the first is taken out
 pub followed_step : (n : ℕ) (logs : List (List StreamLog)) (s t : Stream) → IsFollowed n logs s → IsFollowed n logs t → IsFollowed n (with_log_at logs s (raised_by_one (log_at logs s))) t
 followed_step n logs s t h g =
     IsFollowed-with_log_at n logs s t (raised_by_one (log_at logs s)) h.stream (within_rest n (log_at logs s).kept h.within) g
@@ -136,5 +146,6 @@ followed_rest-by n logs s t d true e h g =
     rw e (IsFollowed-with_log_at n logs s t record { done = d; kept = [] } h.stream (AreWithin-nil n) g)
 followed_rest-by n logs s t d false e h g = rw e g
 
+-- if two streams are followed, then the second is so after the count of the first is set
 pub followed_rest : (n : ℕ) (logs : List (List StreamLog)) (s t : Stream) (d : ℕ) → IsFollowed n logs s → IsFollowed n logs t → IsFollowed n (raised_rest logs s d) t
 followed_rest n logs s t d h g = followed_rest-by n logs s t d (nat_lt (log_at logs s).done d) refl h g

@@ -56,10 +56,12 @@ letter-raise n s d r from =
 
 -- ---- an entry
 
+-- if an entry is of the node's own stream, then it is refused and nothing changes
 pub on_rinv-own : (n : Node) (from : ℕ) (r : RInv) → r.stream.node ≡ n.me → on_rinv n from r ≡ just n (Refused OwnStream)
 unfolding on_rinv
 on_rinv-own n from r h = rw (eq-eqb r.stream.node n.me h) refl
 
+-- if an entry is of another node's stream, then the stream is raised to the letter's count and the entry is stored by its row
 pub on_rinv-other : (n : Node) (from : ℕ) (r : RInv) → (r.stream.node ≡ n.me → ⊥) → on_rinv n from r ≡ stored_rinv (raise n r.stream r.done) from r
 unfolding on_rinv
 on_rinv-other n from r h = rw (ne_eqb r.stream.node n.me h) refl
@@ -88,11 +90,13 @@ stored_sent-by n from r false true c low high full = rw (low, high) refl
 stored_sent-by n from r false false true low high full = rw (low, high, full) refl
 stored_sent-by n from r false false false low high full = rw (low, high, full) refl
 
+-- the copies after an entry is taken are those that its outcome says
 pub stored_copies : (n : Node) (from : ℕ) (r : RInv) (o : Outcome) → o ≡ (stored_rinv n from r).answer → (stored_rinv n from r).node.copies ≡ copies_after o n.copies r
 stored_copies n from r o h =
     stored_copies-by n from r (nat_lt r.number (next_kept (log n r.stream))) (nat_lt (next_kept (log n r.stream)) r.number) (length (log n r.stream).kept == 16) refl refl refl
     ∙ ap (λ (p : Outcome). copies_after p n.copies r) (sym h)
 
+-- the letters after an entry is taken are those that its outcome says
 pub stored_sent : (n : Node) (from : ℕ) (r : RInv) (o : Outcome) → o ≡ (stored_rinv n from r).answer → (stored_rinv n from r).sent ≡ sent_after o n from r
 stored_sent n from r o h =
     stored_sent-by n from r (nat_lt r.number (next_kept (log n r.stream))) (nat_lt (next_kept (log n r.stream)) r.number) (length (log n r.stream).kept == 16) refl refl refl
@@ -107,29 +111,36 @@ sent_after-raise _ n s d from r = refl
 
 -- ---- the word that entries have passed
 
+-- if passed entries are of the node's own stream, then the letter is refused and nothing changes
 pub on_rval-own : (n : Node) (s : Stream) (d : ℕ) → s.node ≡ n.me → on_rval n s d ≡ just n (Refused OwnStream)
 unfolding on_rval
 on_rval-own n s d h = rw (eq-eqb s.node n.me h) refl
 
+-- if a letter's count of passed entries is not above the stored stream's, then it is answered `Again` and nothing changes
 pub on_rval-again : (n : Node) (s : Stream) (d : ℕ) → (s.node ≡ n.me → ⊥) → d ≤ (log n s).done → on_rval n s d ≡ just n Again
 unfolding on_rval
 on_rval-again n s d h k = rw (ne_eqb s.node n.me h, le-ltb (log n s).done d k) refl
 
+-- if a letter's count of passed entries is above the stored stream's, then the stream is raised to it
 pub on_rval-taken : (n : Node) (s : Stream) (d : ℕ) → (s.node ≡ n.me → ⊥) → (log n s).done < d → on_rval n s d ≡ just (raise n s d) Taken
 unfolding on_rval
 on_rval-taken n s d h k = rw (ne_eqb s.node n.me h, lt-ltb (log n s).done d k) refl
 
 -- ---- the node's own number, and how many have passed
 
+-- if the test finds two numbers equal, then they are
 pub own_is : (a b : ℕ) → (a == b) ≡ true → a ≡ b
 own_is a b h = eqb-true a b h
 
+-- if the test finds two numbers not equal, then they are not
 pub other_is : (a b : ℕ) → (a == b) ≡ false → a ≡ b → ⊥
 other_is a b h same = false≢true (sym h ∙ eq-eqb a b same)
 
+-- if a count is above that of the streams read, then it is above that of the node's stored stream
 pub done_low : (n : Node) (cs : List (Option Copy)) (ls : List (List StreamLog)) (me : ℕ) (s : Stream) (d done : ℕ) → IsNodeWith n cs ls me → done ≡ (log_at ls s).done → done < d → (log n s).done < d
 done_low n cs ls me s d done node is h = rw (node.logs, ← is) h
 
+-- if a count is not above that of the streams read, then it is not above that of the node's stored stream
 pub done_high : (n : Node) (cs : List (Option Copy)) (ls : List (List StreamLog)) (me : ℕ) (s : Stream) (d done : ℕ) → IsNodeWith n cs ls me → done ≡ (log_at ls s).done → d ≤ done → d ≤ (log n s).done
 done_high n cs ls me s d done node is h = rw (node.logs, ← is) h
 
@@ -146,6 +157,7 @@ followed_by k n from r t false false false low high full h w g =
     record { done = (log n r.stream).done; kept = (log n r.stream).kept ++ record { followers = r.followers; writes = r.writes; acks = [] } ∷ [] } h.stream
     (within_more k (log n r.stream).kept record { followers = r.followers; writes = r.writes; acks = [] } h.within w) g)
 
+-- if a stream is followed and an entry is taken whose objects and stream are followed, then it is followed afterwards
 pub stored_followed : (k : ℕ) (logs after : List (List StreamLog)) (r : RInv) (t : Stream) → IsFollowed k logs r.stream → AreWithin k r.writes → ((n : Node) (from : ℕ) → n.logs ≡ logs → after ≡ (stored_rinv n from r).node.logs) → IsFollowed k logs t → IsFollowed k after t
 stored_followed k logs after r t h w is g =
     let n : Node = record no_node { logs = logs } in

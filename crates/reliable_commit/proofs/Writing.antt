@@ -15,11 +15,13 @@ use Rattle.object_table.specs.declared.hold.Hold.{Hold}
 
 -- ---- writes one by one
 
+-- making the write at a place, and then those behind it, is making the writes from the place on
 pub each_write-at : (f : Write → Option Copy → Option Copy) (copies : List (Option Copy)) (ws : List Write) (i : ℕ) (w : Write) → i < length ws → w ≡ get_or ws i w → each_write f (after_write f copies w) (drop (i + 1) ws) ≡ each_write f copies (drop i ws)
 each_write-at f copies ws i w h e =
     sym (each_write-cons f copies w (drop (i + 1) ws))
     ∙ ap (each_write f copies) (ap (λ (u : Write). u ∷ drop (i + 1) ws) e ∙ rw add-one (sym (drop-cons ws i w h)))
 
+-- if a place is past the last write, then no write is made from there on
 pub each_write-end : (f : Write → Option Copy → Option Copy) (copies : List (Option Copy)) (ws : List Write) (i : ℕ) → length ws ≤ i → copies ≡ each_write f copies (drop i ws)
 each_write-end f copies ws i h = rw (drop_all i ws h) (sym (each_write-nil f copies))
 
@@ -29,14 +31,17 @@ unheld-cons : (holds : List (Option Hold)) (x : ℕ) (xs : List ℕ) → each_un
 unfolding each_unheld
 unheld-cons holds x xs = refl
 
+-- releasing the name at a place, and then those behind it, is releasing the names from the place on
 pub unheld-at : (holds : List (Option Hold)) (xs : List ℕ) (i x : ℕ) → i < length xs → x ≡ get_or xs i x → each_unheld (put None holds x (unheld (nth None holds x))) (drop (i + 1) xs) ≡ each_unheld holds (drop i xs)
 unheld-at holds xs i x h e =
     sym (unheld-cons holds x (drop (i + 1) xs))
     ∙ ap (each_unheld holds) (ap (λ (u : ℕ). u ∷ drop (i + 1) xs) e ∙ rw add-one (sym (drop-cons xs i x h)))
 
+-- if a place is past the last name, then no name is released from there on
 pub unheld-end : (holds : List (Option Hold)) (xs : List ℕ) (i : ℕ) → length xs ≤ i → holds ≡ each_unheld holds (drop i xs)
 unheld-end holds xs i h = rw (drop_all i xs h) (sym (unheld-nil holds))
 
+-- if a fact holds of all names of a list, then it holds of the one at each place
 pub All-at : (P : ℕ → Type 0) (xs : List ℕ) (i d : ℕ) → All P xs → i < length xs → P (get_or xs i d)
 All-at P [] i d h k = absurd (omega arith)
 All-at P (x ∷ xs) zero d h k = All-head P x xs h

@@ -22,21 +22,25 @@ AreWithin-at n [] i d h k = absurd (omega arith)
 AreWithin-at n (w ∷ ws) zero d h k = h.0
 AreWithin-at n (w ∷ ws) (suc i) d h k = AreWithin-at n ws i d h.1 (omega arith)
 
+-- if two lists of writes are of objects within a bound, then so are both put together
 pub AreWithin-append : (n : ℕ) (vs ws : List Write) → AreWithin n vs → AreWithin n ws → AreWithin n (vs ++ ws)
 unfolding AreWithin
 AreWithin-append n [] ws h k = k
 AreWithin-append n (v ∷ vs) ws h k = (h.0, AreWithin-append n vs ws h.1 k)
 
+-- if two lists of writes put together are of objects within a bound, then so is the first
 pub AreWithin-left : (n : ℕ) (vs ws : List Write) → AreWithin n (vs ++ ws) → AreWithin n vs
 unfolding AreWithin
 AreWithin-left n [] ws h = tt
 AreWithin-left n (v ∷ vs) ws h = (h.0, AreWithin-left n vs ws h.1)
 
+-- if two lists of writes put together are of objects within a bound, then so is the second
 pub AreWithin-right : (n : ℕ) (vs ws : List Write) → AreWithin n (vs ++ ws) → AreWithin n ws
 unfolding AreWithin
 AreWithin-right n [] ws h = h
 AreWithin-right n (v ∷ vs) ws h = AreWithin-right n vs ws h.1
 
+-- no writes at all are of objects within every bound
 pub AreWithin-nil : (n : ℕ) → AreWithin n []
 unfolding AreWithin
 AreWithin-nil n = tt
@@ -69,6 +73,7 @@ put_row P row i j l new old =
       | inr other ↦ rw (nth-put_other no_log row i j l other) old
     ]
 
+-- if a fact holds of a stored stream and of a new one, then it holds after the new one is written, of each stream
 pub log_at-either : (P : StreamLog → Type 0) (logs : List (List StreamLog)) (s t : Stream) (l : StreamLog) → P l → P (log_at logs t) → P (log_at (with_log_at logs s l) t)
 log_at-either P logs s t l new old =
     let row = put no_log (nth [] logs s.node) s.slot l in
@@ -77,6 +82,7 @@ log_at-either P logs s t l new old =
       | inr other ↦ rw (nth-put_other [] logs s.node t.node row other) old
     ]
 
+-- if a stream is followed and a new stored stream writes objects within the bound, then it is so after the new one is written
 pub IsFollowed-with_log_at : (n : ℕ) (logs : List (List StreamLog)) (s t : Stream) (l : StreamLog) → IsStreamOf logs s → AreWithin n (writes_of l.kept) → IsFollowed n logs t → IsFollowed n (with_log_at logs s l) t
 IsFollowed-with_log_at n logs s t l h w f =
     record {

@@ -23,9 +23,11 @@ notes-length old new n k a m s =
       | inr other ↦ ap length (s.acts.acts.others.kept m other)
     ]
 
+-- noting an acknowledgement leaves the number of each node's next entry
 pub notes-top : (old new : StreamState) (n k a m : ℕ) → NotesAck old new n k a → top new m ≡ top old m
 notes-top old new n k a m s = omega (arith, notes-done old new n k a m s, notes-length old new n k a m s)
 
+-- if a node keeps an entry after an acknowledgement is noted, then it kept it before
 pub notes-has_before : (old new : StreamState) (n k a m j : ℕ) → NotesAck old new n k a → Has new m j → Has old m j
 notes-has_before old new n k a m j s h = omega (arith, h.0, h.1, notes-done old new n k a m s, notes-top old new n k a m s)
 
@@ -66,6 +68,7 @@ notes-kept old new n k a m j s h =
           record { kept = h; same = ap entry_of is; acks = λ b noted. inl (rw is at noted) }
     ]
 
+-- noting an acknowledgement takes nothing back
 pub grows_NotesAck : (old new : StreamState) (n k a : ℕ) → NotesAck old new n k a → Grows old new
 grows_NotesAck old new n k a s =
     let home : new.home ≡ old.home = s.acts.acts.setting.home in
@@ -107,5 +110,6 @@ notes-preserves old new passed n k a r s =
       says = acting-says old new passed passed n r s.acts;
     }
 
+-- if the replication invariant holds, then it holds after an acknowledgement is noted
 pub keeps_NotesAck : (old new : StreamState) (passed n k a : ℕ) → ReplicationInvariant old passed → NotesAck old new n k a → ReplicationInvariant new passed
 keeps_NotesAck old new passed n k a r s = carried old new passed passed r (notes-preserves old new passed n k a r s)

@@ -53,18 +53,23 @@ alive-same old new passed now k s g silent rises alive =
     (λ f live h. kept-lives old f k live (same-has_before old new f k s h))
     (flight-silent old new k g silent) alive
 
+-- if an entry lives after a new view, then it lived before it
 pub alive_NewView : (old new : StreamState) (passed now k : ℕ) (set : List ℕ) → NewView old new set → passed ≤ now → IsAlive new now k → IsAlive old passed k
 alive_NewView old new passed now k set s = alive-same old new passed now k (viewed-kept old new set s) (grows_NewView old new set s) s.sends
 
+-- if an entry lives after a node stops, then it lived before
 pub alive_Stops : (old new : StreamState) (passed now k n : ℕ) → Stops old new n → passed ≤ now → IsAlive new now k → IsAlive old passed k
 alive_Stops old new passed now k n s = alive-same old new passed now k (stops-kept old new n s) (grows_Stops old new n s) s.sends
 
+-- if an entry lives after a node installs a view, then it lived before
 pub alive_Installs : (old new : StreamState) (passed now k n e : ℕ) → Installs old new n e → passed ≤ now → IsAlive new now k → IsAlive old passed k
 alive_Installs old new passed now k n e s = alive-same old new passed now k (installs-kept old new n e s) (grows_Installs old new n e s) s.sends
 
+-- if an entry lives after a node reports, then it lived before
 pub alive_ReportsItself : (old new : StreamState) (passed now k n : ℕ) → ReportsItself old new n → passed ≤ now → IsAlive new now k → IsAlive old passed k
 alive_ReportsItself old new passed now k n s = alive-same old new passed now k (reports-kept old new n s) (grows_ReportsItself old new n s) s.sends
 
+-- if an entry lives after a node hears a report, then it lived before
 pub alive_Hears : (old new : StreamState) (passed now k n a : ℕ) → Hears old new n a → passed ≤ now → IsAlive new now k → IsAlive old passed k
 alive_Hears old new passed now k n a s = alive-same old new passed now k (hears-kept old new n a s) (grows_Hears old new n a s) s.sends
 
@@ -82,6 +87,7 @@ tells-flight old new k n s flight =
           kept-lives old n k s.acts.live t.kept
     ]
 
+-- if an entry lives after a node sends letters by itself, then it lived before
 pub alive_Tells : (old new : StreamState) (passed now k n : ℕ) → Tells old new n → passed ≤ now → IsAlive new now k → IsAlive old passed k
 alive_Tells old new passed now k n s rises alive =
     let same : SameKept old new = tells-kept old new n s in
@@ -89,6 +95,7 @@ alive_Tells old new passed now k n s rises alive =
     (λ f live h. kept-lives old f k live (same-has_before old new f k same h))
     (tells-flight old new k n s) alive
 
+-- if an entry lives after a node learns how many have passed, then it lived before
 pub alive_Raises : (old new : StreamState) (passed now k n d : ℕ) → Raises old new passed n d → passed ≤ now → IsAlive new now k → IsAlive old passed k
 alive_Raises old new passed now k n d s rises alive =
     let g : Grows old new = grows_Raises old new passed n d s in
@@ -97,6 +104,7 @@ alive_Raises old new passed now k n d s rises alive =
     (λ f live h. kept-lives old f k live (drops-has_before old new n d f k (raises-drops old new passed n d s) h))
     (flight-silent old new k g s.acts.sends) alive
 
+-- if an entry lives after a node passes its first one, then it lived before
 pub alive_PassesFirst : (old new : StreamState) (passed now k n : ℕ) → PassesFirst old new n → passed ≤ now → IsAlive new now k → IsAlive old passed k
 alive_PassesFirst old new passed now k n s rises alive =
     let g : Grows old new = grows_PassesFirst old new n s in
@@ -105,6 +113,7 @@ alive_PassesFirst old new passed now k n s rises alive =
     (λ f live h. kept-lives old f k live (drops-has_before old new n (suc (old.done n)) f k (passes-drops old new n s) h))
     (flight-silent old new k g s.acts.sends) alive
 
+-- if an entry lives after an acknowledgement is noted, then it lived before
 pub alive_NotesAck : (old new : StreamState) (passed now k n j a : ℕ) → NotesAck old new n j a → passed ≤ now → IsAlive new now k → IsAlive old passed k
 alive_NotesAck old new passed now k n j a s rises alive =
     let g : Grows old new = grows_NotesAck old new n j a s in
@@ -124,6 +133,7 @@ stores-lives old new k n f x s live h =
           inr (inr (n, s.sent.0, old.epoch n, s.sent.1, x, s.acts.acts.live, omega arith, sent))
     ]
 
+-- if an entry lives after a node stores the next one, then it lived before
 pub alive_StoresNext : (old new : StreamState) (passed now k n : ℕ) (x : Entry) → ReplicationInvariant old passed → StoresNext old new n x → passed ≤ now → IsAlive new now k → IsAlive old passed k
 alive_StoresNext old new passed now k n x r s rises alive =
     let g : Grows old new = grows_StoresNext old new n x s in
@@ -134,6 +144,7 @@ alive_StoresNext old new passed now k n x r s rises alive =
     (λ f live h. stores-lives old new k n f x s live h)
     (flight-silent old new k g s.acts.sends) alive
 
+-- if an entry lives after a commit, then it lived before or is the one committed
 pub alive_Commits : (old new : StreamState) (passed now k : ℕ) (x : Entry) → Commits old new x → passed ≤ now → IsAlive new now k → IsAlive old passed k ⊎ (k ≡ end old)
 unfolding IsAlive
 alive_Commits old new passed now k x s rises alive =

@@ -19,9 +19,11 @@ use Rattle.replication_safety.proofs.Same.{IsView-same, view-same, quiet-reports
 acting-reported : (old new : StreamState) (n m : ℕ) → ActsOnKept old new n → new.reported m ≡ old.reported m
 acting-reported old new n m a = agree new.reported old.reported n a.acts.others.reported a.reported m
 
+-- if a node acts on what it keeps, then who has reported after it had reported before
 pub acting-silent : (old new : StreamState) (n m e : ℕ) → ActsOnKept old new n → HasReported new m e → HasReported old m e
 acting-silent old new n m e a = quiet-silent old new m e a.sends (acts-epoch old new n m a.acts) (acting-reported old new n m a)
 
+-- if a node acts on what it keeps, then what the nodes have said stays accounted for
 pub acting-says : (old new : StreamState) (passed now n : ℕ) → ReplicationInvariant old passed → ActsOnKept old new n → PreservesSaid old new now
 acting-says old new passed now n r a =
     silent-says old new now a.acts.setting a.sends (acts-viewed old new n r.viewed a.acts a.sends)
@@ -41,10 +43,12 @@ pub record Appends (old new : StreamState) (n : ℕ) (x : Entry) : Type 0 where
 appends-done : (old new : StreamState) (n m : ℕ) (x : Entry) → Appends old new n x → new.done m ≡ old.done m
 appends-done old new n m x a = agree new.done old.done n a.acts.acts.others.done a.done m
 
+-- if a node appends an entry, then the number of its next entry rises by one
 pub appends-top : (old new : StreamState) (n : ℕ) (x : Entry) → Appends old new n x → top new n ≡ suc (top old n)
 appends-top old new n x a =
     omega (arith, a.done, ap length a.kept, length-append (old.kept n) (unacked x ∷ []))
 
+-- if a node appends an entry, then the number of the next entry stays at each other node
 pub appends-top_other : (old new : StreamState) (n m : ℕ) (x : Entry) → Appends old new n x → m ≢ n → top new m ≡ top old m
 appends-top_other old new n m x a other = rw (a.acts.acts.others.done m other, a.acts.acts.others.kept m other)
 
@@ -55,9 +59,11 @@ appends-rises old new n m x a =
       | inr other ↦ omega (arith, appends-top_other old new n m x a other)
     ]
 
+-- if a node keeps an entry, then it keeps it after one is appended
 pub appends-has : (old new : StreamState) (n m k : ℕ) (x : Entry) → Appends old new n x → Has old m k → Has new m k
 appends-has old new n m k x a h = omega (arith, h.0, h.1, appends-done old new n m x a, appends-rises old new n m x a)
 
+-- if a node keeps an entry after one is appended, then it kept it before, or it is the node and the entry appended
 pub appends-has_before : (old new : StreamState) (n m k : ℕ) (x : Entry) → Appends old new n x → Has new m k → Has old m k ⊎ ((m ≡ n) × (k ≡ top old n))
 appends-has_before old new n m k x a h =
     let done : new.done m ≡ old.done m = appends-done old new n m x a in
@@ -78,6 +84,7 @@ appends-old_here : (old new : StreamState) (n k : ℕ) (x : Entry) → Appends o
 appends-old_here old new n k x a h =
     rw (a.done, a.kept) (nth-append no_kept (old.kept n) (unacked x ∷ []) (k - old.done n) (omega (arith, h.0, h.1)))
 
+-- if a node keeps an entry, then it keeps the same after one is appended
 pub appends-old : (old new : StreamState) (n m k : ℕ) (x : Entry) → Appends old new n x → Has old m k → kept_at new m k ≡ kept_at old m k
 appends-old old new n m k x a h =
     elim (cases_eq m n) [
@@ -85,6 +92,7 @@ appends-old old new n m k x a h =
       | inr other ↦ rw (a.acts.acts.others.done m other, a.acts.acts.others.kept m other)
     ]
 
+-- the entry that was appended is kept without acknowledgements
 pub appends-new : (old new : StreamState) (n : ℕ) (x : Entry) → Appends old new n x → kept_at new n (top old n) ≡ unacked x
 appends-new old new n x a =
     let place : top old n - old.done n ≡ length (old.kept n) = omega arith in
@@ -109,6 +117,7 @@ appends-sizes old new passed n m x r a room =
       | inr other ↦ rw (a.acts.acts.others.kept m other) (r.sizes m)
     ]
 
+-- appending an entry takes nothing back
 pub appends-grows : (old new : StreamState) (n : ℕ) (x : Entry) → Appends old new n x → Grows old new
 appends-grows old new n x a =
     let home : new.home ≡ old.home = a.acts.acts.setting.home in
@@ -127,6 +136,7 @@ appends-grows old new n x a =
       stay = a.acts.sends.stay;
     }
 
+-- if there is room for an appended entry and it is accounted for, then all that the nodes keep is accounted for
 pub appends-keeps : (old new : StreamState) (passed n : ℕ) (x : Entry) → ReplicationInvariant old passed → Appends old new n x → length (old.kept n) < 16 → IsAdded new passed n (top old n)
     → PreservesKept old new passed passed
 appends-keeps old new passed n x r a room added =
@@ -146,6 +156,7 @@ appends-keeps old new passed n x r a room added =
 
 -- ---- the stream's own node adds an entry
 
+-- a commit appends an entry at the stream's own node
 pub commits-appends : (old new : StreamState) (x : Entry) → Commits old new x → Appends old new old.home x
 commits-appends old new x s = record { acts = s.acts; done = s.done; kept = s.kept }
 
@@ -161,6 +172,7 @@ commits-added old new passed x s =
       witnessed = λ e v out above m foreign. absurd (foreign (sym home));
     }
 
+-- a commit takes nothing back
 pub grows_Commits : (old new : StreamState) (x : Entry) → Commits old new x → Grows old new
 grows_Commits old new x s = appends-grows old new old.home x (commits-appends old new x s)
 
@@ -172,11 +184,13 @@ commits-preserves old new passed x r s =
       says = acting-says old new passed passed old.home r s.acts;
     }
 
+-- if the replication invariant holds, then it holds after a commit
 pub keeps_Commits : (old new : StreamState) (passed : ℕ) (x : Entry) → ReplicationInvariant old passed → Commits old new x → ReplicationInvariant new passed
 keeps_Commits old new passed x r s = carried old new passed passed r (commits-preserves old new passed x r s)
 
 -- ---- a node stores the next entry
 
+-- a node that stores the next entry appends it
 pub stores-appends : (old new : StreamState) (n : ℕ) (x : Entry) → StoresNext old new n x → Appends old new n x
 stores-appends old new n x s = record { acts = s.acts; done = s.done; kept = s.kept }
 
@@ -234,6 +248,7 @@ stores-added old new passed n from d x r s sent c =
       witnessed = λ e v out above m _. stores-witnessed old new passed n e from d x r s sent foreign v out above m;
     }
 
+-- storing the next entry takes nothing back
 pub grows_StoresNext : (old new : StreamState) (n : ℕ) (x : Entry) → StoresNext old new n x → Grows old new
 grows_StoresNext old new n x s = appends-grows old new n x (stores-appends old new n x s)
 
@@ -247,5 +262,6 @@ stores-preserves old new passed n x r s =
       says = acting-says old new passed passed n r s.acts;
     }
 
+-- if the replication invariant holds, then it holds after a node stores the next entry
 pub keeps_StoresNext : (old new : StreamState) (passed n : ℕ) (x : Entry) → ReplicationInvariant old passed → StoresNext old new n x → ReplicationInvariant new passed
 keeps_StoresNext old new passed n x r s = carried old new passed passed r (stores-preserves old new passed n x r s)

@@ -33,21 +33,25 @@ Sends-same old new e =
 
 -- ---- functions that agree
 
+-- if two tables agree at one node and at each other one, then they agree at all
 pub agree : {A : Type 0} (f g : ℕ → A) (n : ℕ) → ((m : ℕ) → m ≢ n → f m ≡ g m) → f n ≡ g n → (m : ℕ) → f m ≡ g m
 agree f g n others one m =
     elim (cases_eq m n) [ inl same ↦ rw (same) one | inr other ↦ others m other ]
 
 -- ---- what a node holds
 
+-- if a node keeps an entry or knows that it has passed, then the entry is below the node's next one
 pub Holds-top : (l : StreamState) (n k : ℕ) → Holds l n k → k < top l n
 Holds-top l n k h = grind arith
 
+-- if an entry is below a node's next one, then the node keeps it or knows that it has passed
 pub top-Holds : (l : StreamState) (n k : ℕ) → k < top l n → Holds l n k
 top-Holds l n k h =
     elim (cases_lt k (l.done n)) [ inl below ↦ inr below | inr above ↦ inl (above, h) ]
 
 -- ---- views
 
+-- a later view is a subset of an earlier one
 pub view-shrinks : (l : StreamState) (e d : ℕ) → IsViewed l → 1 ≤ e → e + d ≤ length l.views → is_subset (view l (e + d)) (view l e) ≡ true
 view-shrinks l e zero v low high = let same : e + 0 ≡ e = omega arith in rw same (is_subset-refl (view l e))
 view-shrinks l e (suc d) v low high =

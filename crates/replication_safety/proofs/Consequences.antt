@@ -28,6 +28,7 @@ content-agrees l passed n k r h above =
           (r.copies o.0 n o.1 k o.2 (entry_of (kept_at l n k)) o.3).same (omega (arith, r.most l.home))
     ]
 
+-- if a live node keeps an entry that has not passed, then the entry lives
 pub kept-alive : (l : StreamState) (passed n k : ℕ) → ReplicationInvariant l passed → IsLive l n → Has l n k → passed ≤ k → IsAlive l passed k
 unfolding IsAlive
 kept-alive l passed n k r live h above = (above, kept-committed l passed n k r h, inr (inl (n, live, h)))

@@ -24,6 +24,7 @@ pub record Drops (old new : StreamState) (n d : ℕ) : Type 0 where
 drops-length : (old new : StreamState) (n d : ℕ) → Drops old new n d → length (new.kept n) ≡ length (old.kept n) - (d - old.done n)
 drops-length old new n d s = ap length s.kept ∙ length-drop (d - old.done n) (old.kept n)
 
+-- if a node drops the entries below a count, then no node's count of passed entries falls
 pub drops-done : (old new : StreamState) (n d m : ℕ) → Drops old new n d → old.done m ≤ new.done m
 drops-done old new n d m s =
     elim (cases_eq m n) [
@@ -31,9 +32,11 @@ drops-done old new n d m s =
       | inr other ↦ omega (arith, s.acts.acts.others.done m other)
     ]
 
+-- if a node drops entries, then the number of the next entry stays at each other node
 pub drops-top_other : (old new : StreamState) (n d m : ℕ) → Drops old new n d → m ≢ n → top new m ≡ top old m
 drops-top_other old new n d m s other = rw (s.acts.acts.others.done m other, s.acts.acts.others.kept m other)
 
+-- if a node drops entries, then the number of no node's next entry falls
 pub drops-top : (old new : StreamState) (n d m : ℕ) → Drops old new n d → top old m ≤ top new m
 drops-top old new n d m s =
     elim (cases_eq m n) [
@@ -44,6 +47,7 @@ drops-top old new n d m s =
 drops-has_here : (old new : StreamState) (n d k : ℕ) → Drops old new n d → Has new n k → Has old n k × (d ≤ k)
 drops-has_here old new n d k s h = omega (arith, s.done, s.above, drops-length old new n d s, h.0, h.1)
 
+-- if a node keeps an entry after entries are dropped, then it kept it before
 pub drops-has_before : (old new : StreamState) (n d m k : ℕ) → Drops old new n d → Has new m k → Has old m k
 drops-has_before old new n d m k s h =
     elim (cases_eq m n) [
@@ -56,6 +60,7 @@ drops-kept_here old new n d k s h =
     let place : (k - d) + (d - old.done n) ≡ k - old.done n = omega (arith, s.done, s.above, h.0) in
     rw (s.done, s.kept) (nth-drop no_kept (d - old.done n) (old.kept n) (k - d) ∙ ap (λ (i : ℕ). nth no_kept (old.kept n) i) place)
 
+-- if a node keeps an entry after entries are dropped, then it is the same as before
 pub drops-kept_at : (old new : StreamState) (n d m k : ℕ) → Drops old new n d → Has new m k → kept_at new m k ≡ kept_at old m k
 drops-kept_at old new n d m k s h =
     elim (cases_eq m n) [
@@ -63,6 +68,7 @@ drops-kept_at old new n d m k s h =
       | inr other ↦ rw (s.acts.acts.others.done m other, s.acts.acts.others.kept m other)
     ]
 
+-- if a node keeps an entry after entries are dropped, then it kept the same before, and each acknowledgement is an old or a sent one
 pub drops-kept : (old new : StreamState) (n d m k : ℕ) → Drops old new n d → Has new m k → WasKept old new m k
 drops-kept old new n d m k s h =
     record {
@@ -71,6 +77,7 @@ drops-kept old new n d m k s h =
       acks = λ b is. inl (rw (drops-kept_at old new n d m k s h) at is);
     }
 
+-- if a node drops entries, then no node keeps more than before
 pub drops-sizes : (old new : StreamState) (n d m : ℕ) → Drops old new n d → length (new.kept m) ≤ length (old.kept m)
 drops-sizes old new n d m s =
     elim (cases_eq m n) [
@@ -78,6 +85,7 @@ drops-sizes old new n d m s =
       | inr other ↦ rw (s.acts.acts.others.kept m other) (omega arith)
     ]
 
+-- dropping entries takes nothing back
 pub drops-grows : (old new : StreamState) (n d : ℕ) → Drops old new n d → Grows old new
 drops-grows old new n d s =
     let home : new.home ≡ old.home = s.acts.acts.setting.home in
@@ -97,6 +105,7 @@ drops-grows old new n d s =
 
 -- ---- a node learns what has passed
 
+-- a node that learns how many entries have passed drops those
 pub raises-drops : (old new : StreamState) (passed n d : ℕ) → Raises old new passed n d → Drops old new n d
 raises-drops old new passed n d s = record { acts = s.acts; above = s.above; done = s.done; kept = s.kept }
 
@@ -134,6 +143,7 @@ raises-keeps old new passed n d r s =
       first = λ from to e k f a x m above below. absurd (omega arith);
     }
 
+-- learning how many entries have passed takes nothing back
 pub grows_Raises : (old new : StreamState) (passed n d : ℕ) → Raises old new passed n d → Grows old new
 grows_Raises old new passed n d s = drops-grows old new n d (raises-drops old new passed n d s)
 
@@ -145,5 +155,6 @@ raises-preserves old new passed n d r s =
       says = acting-says old new passed passed n r s.acts;
     }
 
+-- if the replication invariant holds, then it holds after a node learns how many entries have passed
 pub keeps_Raises : (old new : StreamState) (passed n d : ℕ) → ReplicationInvariant old passed → Raises old new passed n d → ReplicationInvariant new passed
 keeps_Raises old new passed n d r s = carried old new passed passed r (raises-preserves old new passed n d r s)

@@ -20,9 +20,11 @@ use Rattle.replication_safety.proofs.Consequences.{no-restore}
 
 -- ---- what stays, for any move that grows
 
+-- if an entry was committed before a move and has not passed after it, then it is the same entry
 pub entry-stays : (old new : StreamState) (now k : ℕ) → Grows old new → ReplicationInvariant new now → now ≤ k → k < end old → entry new k ≡ entry old k
 entry-stays old new now k g r above below = g.entry k (omega (arith, r.most new.home)) below
 
+-- if a node keeps an entry that has not passed after a move, then it keeps it after the move
 pub has-stays : (old new : StreamState) (now n k : ℕ) → Grows old new → ReplicationInvariant new now → now ≤ k → Has old n k → Has new n k
 has-stays old new now n k g r above h = (omega (arith, r.most n), omega (arith, g.top n, h.1))
 
@@ -77,6 +79,7 @@ stores-unpassed old new passed n x r s =
       | inr above ↦ above
     ]
 
+-- the entry that a node stores next is the one that the stream's own node committed at that number
 pub stores-entry : (old new : StreamState) (passed n : ℕ) (x : Entry) → ReplicationInvariant old passed → StoresNext old new n x → x ≡ entry old (top old n)
 stores-entry old new passed n x r s =
     let c : IsCopy old passed n (top old n) s.sent.1 x = r.copies s.sent.0 n (old.epoch n) (top old n) s.sent.1 x s.sent.3 in

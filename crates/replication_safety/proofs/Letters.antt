@@ -22,6 +22,7 @@ pub record IsItsEntry (old : StreamState) (n from to e k d : ℕ) (x : Entry) : 
   pub may : (n ≡ old.home) ⊎ IsOut old (old.epoch n) old.home
   pub follower : has to x.followers ≡ true
 
+-- if a node may send an entry by itself, then it keeps that entry
 pub tellable-entry : (old : StreamState) (n from to e k d : ℕ) (x : Entry) → IsTellable old n (Stores from to e k d x) → IsItsEntry old n from to e k d x
 tellable-entry old n from to e k d x (entry_told _ _ h may f m other) =
     record { sender = refl; epoch = refl; done = refl; entry = refl; kept = h; may = may; follower = f }
@@ -86,6 +87,7 @@ told-copy old passed n to k d x r live h is done f =
 
 -- ---- a node says what it may
 
+-- if a node sends letters by itself, then each node keeps what it kept
 pub tells-kept : (old new : StreamState) (n : ℕ) → Tells old new n → SameKept old new
 tells-kept old new n s =
     record {
@@ -94,6 +96,7 @@ tells-kept old new n s =
       kept = agree new.kept old.kept n s.acts.others.kept s.kept;
     }
 
+-- sending letters takes nothing back
 pub grows_Tells : (old new : StreamState) (n : ℕ) → Tells old new n → Grows old new
 grows_Tells old new n s = acts-grows old new n (tells-kept old new n s) s.acts s.sends.stay
 
@@ -196,5 +199,6 @@ tells-preserves old new passed n r s =
       says = tells-says old new passed n r s;
     }
 
+-- if the replication invariant holds, then it holds after a node sends letters by itself
 pub keeps_Tells : (old new : StreamState) (passed n : ℕ) → ReplicationInvariant old passed → Tells old new n → ReplicationInvariant new passed
 keeps_Tells old new passed n r s = carried old new passed passed r (tells-preserves old new passed n r s)

@@ -16,11 +16,13 @@ use Rattle.replication_safety.proofs.Appends.{acting-says}
 use Rattle.replication_safety.proofs.Drops.{Drops, drops-top, drops-top_other, drops-grows, drops-kept, drops-sizes, keeps_Raises}
 use Rattle.replication_safety.proofs.Consequences.{kept-committed, content-agrees}
 
+-- a node that passes its first entry drops just that one
 pub passes-drops : (old new : StreamState) (n : ℕ) → PassesFirst old new n → Drops old new n (suc (old.done n))
 passes-drops old new n s =
     let one : suc (old.done n) - old.done n ≡ 1 = omega arith in
     record { acts = s.acts; above = omega arith; done = s.done; kept = rw one s.kept }
 
+-- passing an entry takes nothing back
 pub grows_PassesFirst : (old new : StreamState) (n : ℕ) → PassesFirst old new n → Grows old new
 grows_PassesFirst old new n s = drops-grows old new n (suc (old.done n)) (passes-drops old new n s)
 
@@ -28,6 +30,7 @@ grows_PassesFirst old new n s = drops-grows old new n (suc (old.done n)) (passes
 passes-top_here : (old new : StreamState) (n : ℕ) → PassesFirst old new n → top new n ≡ top old n
 passes-top_here old new n s = omega (arith, s.done, s.some, ap length s.kept, length-drop 1 (old.kept n))
 
+-- passing an entry leaves the number of each node's next entry
 pub passes-top : (old new : StreamState) (n m : ℕ) → PassesFirst old new n → top new m ≡ top old m
 passes-top old new n m s =
     elim (cases_eq m n) [
@@ -35,6 +38,7 @@ passes-top old new n m s =
       | inr other ↦ drops-top_other old new n (suc (old.done n)) m (passes-drops old new n s) other
     ]
 
+-- if a node passes its first entry, then it kept that one
 pub passes-kept : (old new : StreamState) (n : ℕ) → PassesFirst old new n → Has old n (old.done n)
 passes-kept old new n s = (omega arith, omega (arith, s.some))
 
@@ -61,6 +65,7 @@ passes-raises old new passed n r s below =
       kept = d.kept;
     }
 
+-- if an entry that has passed elsewhere passes at one more node, then the replication invariant still holds
 pub keeps_PassesFirst_again : (old new : StreamState) (passed n : ℕ) → ReplicationInvariant old passed → PassesFirst old new n → old.done n < passed → ReplicationInvariant new passed
 keeps_PassesFirst_again old new passed n r s below = keeps_Raises old new passed n (suc (old.done n)) r (passes-raises old new passed n r s below)
 
@@ -141,5 +146,6 @@ first_pass-preserves old new passed n r s first =
       says = acting-says old new passed (suc passed) n r s.acts;
     }
 
+-- if an entry passes at the first node of all, then the replication invariant holds with one more passed
 pub keeps_PassesFirst_first : (old new : StreamState) (passed n : ℕ) → ReplicationInvariant old passed → PassesFirst old new n → old.done n ≡ passed → ReplicationInvariant new (suc passed)
 keeps_PassesFirst_first old new passed n r s first = carried old new passed (suc passed) r (first_pass-preserves old new passed n r s first)

@@ -216,6 +216,7 @@ carried-sent_barrier old new passed now e k from to f d x r c v out above le m =
 
 -- ---- all of them
 
+-- if a move pays what it owes, then the replication invariant holds after it as before
 pub carried : (old new : StreamState) (passed now : ℕ) → ReplicationInvariant old passed → PreservesReplication old new passed now → ReplicationInvariant new now
 carried old new passed now r c =
     record {

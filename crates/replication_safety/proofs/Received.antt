@@ -20,5 +20,6 @@ stores-room l passed from n e k d x r m = receiver-room l passed n k d x (r.copi
 pub stores-known : (l : StreamState) (passed from n e k d : ℕ) (x : Entry) → ReplicationInvariant l passed → In (Stores from n e k d x) l.letters → d ≤ passed
 stores-known l passed from n e k d x r m = (r.copies from n e k d x m).done_passed
 
+-- if a letter tells how many entries have passed, then that many have
 pub passes-known : (l : StreamState) (passed n d : ℕ) → ReplicationInvariant l passed → In (Passes n d) l.letters → d ≤ passed
 passes-known l passed n d r m = (r.told n d m).0

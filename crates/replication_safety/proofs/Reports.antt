@@ -18,6 +18,7 @@ has-with_either m n ms h =
 
 -- ---- a node reports
 
+-- if a node reports, then each node keeps what it kept
 pub reports-kept : (old new : StreamState) (n : ℕ) → ReportsItself old new n → SameKept old new
 reports-kept old new n s =
     record {
@@ -64,6 +65,7 @@ reports-reports old new passed n m a r s live h =
           quiet-reports old new passed m a r s.sends.stay (acts-live old new n m s.acts) (s.acts.others.epoch m other) (s.acts.others.reported m other) live h
     ]
 
+-- reporting takes nothing back
 pub grows_ReportsItself : (old new : StreamState) (n : ℕ) → ReportsItself old new n → Grows old new
 grows_ReportsItself old new n s = acts-grows old new n (reports-kept old new n s) s.acts s.sends.stay
 
@@ -77,11 +79,13 @@ reports-preserves old new passed n r s =
           (λ m e k is out h. reports-silent old new n m e k s out h);
     }
 
+-- if the replication invariant holds, then it holds after a node reports
 pub keeps_ReportsItself : (old new : StreamState) (passed n : ℕ) → ReplicationInvariant old passed → ReportsItself old new n → ReplicationInvariant new passed
 keeps_ReportsItself old new passed n r s = carried old new passed passed r (reports-preserves old new passed n r s)
 
 -- ---- a node hears of a report
 
+-- if a node hears a report, then each node keeps what it kept
 pub hears-kept : (old new : StreamState) (n a : ℕ) → Hears old new n a → SameKept old new
 hears-kept old new n a s =
     record {
@@ -135,6 +139,7 @@ hears-reports old new passed n b m a r s live h =
           quiet-reports old new passed m a r s.sends.stay (acts-live old new n m s.acts) (s.acts.others.epoch m other) (s.acts.others.reported m other) live h
     ]
 
+-- hearing a report takes nothing back
 pub grows_Hears : (old new : StreamState) (n a : ℕ) → Hears old new n a → Grows old new
 grows_Hears old new n a s = acts-grows old new n (hears-kept old new n a s) s.acts s.sends.stay
 
@@ -148,5 +153,6 @@ hears-preserves old new passed n a r s =
           (λ m e k is out h. hears-silent old new n a m e s);
     }
 
+-- if the replication invariant holds, then it holds after a node hears a report
 pub keeps_Hears : (old new : StreamState) (passed n a : ℕ) → ReplicationInvariant old passed → Hears old new n a → ReplicationInvariant new passed
 keeps_Hears old new passed n a r s = carried old new passed passed r (hears-preserves old new passed n a r s)

@@ -14,24 +14,31 @@ pub record SameKept (old new : StreamState) : Type 0 where
   pub done : (n : ℕ) → new.done n ≡ old.done n
   pub kept : (n : ℕ) → new.kept n ≡ old.kept n
 
+-- if each node keeps what it kept, then the number of its next entry stays
 pub same-top : (old new : StreamState) (n : ℕ) → SameKept old new → top new n ≡ top old n
 same-top old new n s = rw (s.done n, s.kept n)
 
+-- if each node keeps what it kept, then the count of committed entries stays
 pub same-end : (old new : StreamState) → SameKept old new → end new ≡ end old
 same-end old new s = rw s.home (same-top old new old.home s)
 
+-- if each node keeps what it kept, then a node that keeps an entry after it kept it before
 pub same-has_before : (old new : StreamState) (n k : ℕ) → SameKept old new → Has new n k → Has old n k
 same-has_before old new n k s h = let t : top new n ≡ top old n = same-top old new n s in omega (arith, s.done n)
 
+-- if each node keeps what it kept, then a node that kept an entry before keeps it after
 pub same-has : (old new : StreamState) (n k : ℕ) → SameKept old new → Has old n k → Has new n k
 same-has old new n k s h = let t : top new n ≡ top old n = same-top old new n s in omega (arith, s.done n)
 
+-- if each node keeps what it kept, then so does it at each number
 pub same-kept_at : (old new : StreamState) (n k : ℕ) → SameKept old new → kept_at new n k ≡ kept_at old n k
 same-kept_at old new n k s = rw (s.done n, s.kept n)
 
+-- if each node keeps what it kept, then each entry stays the same
 pub same-entry : (old new : StreamState) (k : ℕ) → SameKept old new → entry new k ≡ entry old k
 same-entry old new k s = rw (same-kept_at old new new.home k s, s.home)
 
+-- if each node keeps what it kept, views and letters stay, no epoch falls and nobody revives, then nothing is taken back
 pub same-grows : (old new : StreamState) → SameKept old new → ((e : ℕ) → IsView old e → view new e ≡ view old e)
     → ((n : ℕ) → IsLive new n → IsLive old n) → ((n : ℕ) → old.epoch n ≤ new.epoch n) → ((l : Letter) → In l old.letters → In l new.letters) → Grows old new
 same-grows old new s views live later stay =
@@ -54,6 +61,7 @@ same-own_first old new passed r s live h =
     let same : new.done new.home ≡ old.done new.home = s.done new.home in
     cc
 
+-- if each node keeps what it kept and nobody revives, then all that the nodes keep is accounted for
 pub same-kept : (old new : StreamState) (passed : ℕ) → ReplicationInvariant old passed → SameKept old new → ((n : ℕ) → IsLive new n → IsLive old n) → PreservesKept old new passed passed
 same-kept old new passed r s live =
     record {
@@ -79,12 +87,15 @@ pub record Speaks (old new : StreamState) : Type 0 where
       → In (Stores from to e k d x) old.letters ⊎ (IsLive old from × (e ≡ old.epoch from))
   pub reports : (from e : ℕ) → In (Reports from e) new.letters → In (Reports from e) old.letters ⊎ (IsLive old from × (e ≡ old.epoch from))
 
+-- if the views stay, then an epoch that has a view after had one before
 pub IsView-same : (old new : StreamState) (e : ℕ) → SameSetting old new → IsView new e → IsView old e
 IsView-same old new e s v = rw s.views at v
 
+-- if the views stay, then an epoch that had a view before has one after
 pub IsView-stays : (old new : StreamState) (e : ℕ) → SameSetting old new → IsView old e → IsView new e
 IsView-stays old new e s v = rw s.views v
 
+-- if the views stay, then each epoch has the same view
 pub view-same : (old new : StreamState) (e : ℕ) → SameSetting old new → view new e ≡ view old e
 view-same old new e s = rw s.views
 
@@ -112,6 +123,7 @@ speaks-reports old new from e v s m =
       | inr now ↦ speaker old new from e v s now.0 now.1
     ]
 
+-- if each new letter comes from a live node in its epoch and no epoch falls, then views and epochs stay in order
 pub speaks-viewed : (old new : StreamState) → IsViewed old → Speaks old new → IsViewed new
 speaks-viewed old new v s =
     record {
@@ -149,6 +161,7 @@ quiet-silent old new n e sends epoch reported h =
       | inr knows ↦ inr (sym epoch ∙ knows.0, rw reported at knows.1)
     ]
 
+-- if a node's epoch and what it knows of reports stay, then each report that it knows is still its own or a sent one
 pub quiet-reports : (old new : StreamState) (passed n m : ℕ) → ReplicationInvariant old passed → ((l : Letter) → In l old.letters → In l new.letters)
     → (IsLive new n → IsLive old n) → new.epoch n ≡ old.epoch n → new.reported n ≡ old.reported n
     → IsLive new n → has m (new.reported n) ≡ true → (new.epoch n ≡ 1) ⊎ ((m ≡ n) ⊎ In (Reports m (new.epoch n)) new.letters)
@@ -160,15 +173,19 @@ quiet-reports old new passed n m r stay live epoch reported is h =
 
 -- ---- moves of a live node in its epoch
 
+-- if a node acts, then who has stopped stays
 pub acts-stopped : (old new : StreamState) (n m : ℕ) → Acts old new n → new.stopped m ≡ old.stopped m
 acts-stopped old new n m a = agree new.stopped old.stopped n a.others.stopped a.stopped m
 
+-- if a node acts, then each node's epoch stays
 pub acts-epoch : (old new : StreamState) (n m : ℕ) → Acts old new n → new.epoch m ≡ old.epoch m
 acts-epoch old new n m a = agree new.epoch old.epoch n a.others.epoch a.epoch m
 
+-- if a node acts, then who lives after it lived before
 pub acts-live : (old new : StreamState) (n m : ℕ) → Acts old new n → IsLive new m → IsLive old m
 acts-live old new n m a h = let same : new.stopped m ≡ old.stopped m = acts-stopped old new n m a in cc
 
+-- if a node acts and each new letter comes from a live node in its epoch, then views and epochs stay in order
 pub acts-speaks : (old new : StreamState) (n : ℕ) → IsViewed old → Acts old new n
     → ((from to e k d : ℕ) (x : Entry) → In (Stores from to e k d x) new.letters → In (Stores from to e k d x) old.letters ⊎ (IsLive old from × (e ≡ old.epoch from)))
     → ((from e : ℕ) → In (Reports from e) new.letters → In (Reports from e) old.letters ⊎ (IsLive old from × (e ≡ old.epoch from)))
@@ -184,12 +201,14 @@ acts-speaks old new n v a entries reports =
       reports = reports;
     }
 
+-- if a node acts and sends no letter, then views and epochs stay in order
 pub acts-viewed : (old new : StreamState) (n : ℕ) → IsViewed old → Acts old new n → Sends old new nothing → IsViewed new
 acts-viewed old new n v a s =
     acts-speaks old new n v a
     (λ from to e k d x m. inl (silent-only old new (Stores from to e k d x) s m))
     (λ from e m. inl (silent-only old new (Reports from e) s m))
 
+-- if a node acts, each node keeps what it kept, and the letters stay, then nothing is taken back
 pub acts-grows : (old new : StreamState) (n : ℕ) → SameKept old new → Acts old new n → ((l : Letter) → In l old.letters → In l new.letters) → Grows old new
 acts-grows old new n s a stay =
     same-grows old new s (λ e _. view-same old new e a.setting) (λ m. acts-live old new n m a) (λ m. omega (arith, acts-epoch old new n m a)) stay

@@ -14,6 +14,7 @@ use Rattle.replication_safety.proofs.Same.{SameKept, same-grows, same-kept, spea
 
 -- ---- a node stops
 
+-- if a node stops, then each node keeps what it kept
 pub stops-kept : (old new : StreamState) (n : ℕ) → Stops old new n → SameKept old new
 stops-kept old new n s =
     record {
@@ -22,6 +23,7 @@ stops-kept old new n s =
       kept = agree new.kept old.kept n s.others.kept s.kept;
     }
 
+-- if a node is live after another stops, then it was live before
 pub stops-live : (old new : StreamState) (n m : ℕ) → Stops old new n → IsLive new m → IsLive old m
 stops-live old new n m s h =
     elim (cases_eq m n) [
@@ -47,6 +49,7 @@ stops-viewed old new n v s =
       reports = λ from e m. inl (silent-only old new (Reports from e) s.sends m);
     }
 
+-- a stop takes nothing back
 pub grows_Stops : (old new : StreamState) (n : ℕ) → Stops old new n → Grows old new
 grows_Stops old new n s =
     same-grows old new (stops-kept old new n s) (λ e _. view-same old new e s.setting) (λ m. stops-live old new n m s) (λ m. omega (arith, stops-epoch old new n m s)) s.sends.stay
@@ -61,11 +64,13 @@ stops-preserves old new passed n r s =
           (λ m e k is out h. quiet-silent old new m e s.sends (stops-epoch old new n m s) (stops-reported old new n m s));
     }
 
+-- if the replication invariant holds, then it holds after a node stops
 pub keeps_Stops : (old new : StreamState) (passed n : ℕ) → ReplicationInvariant old passed → Stops old new n → ReplicationInvariant new passed
 keeps_Stops old new passed n r s = carried old new passed passed r (stops-preserves old new passed n r s)
 
 -- ---- a node installs a later view
 
+-- if a node installs a view, then each node keeps what it kept
 pub installs-kept : (old new : StreamState) (n e : ℕ) → Installs old new n e → SameKept old new
 installs-kept old new n e s =
     record {
@@ -74,6 +79,7 @@ installs-kept old new n e s =
       kept = agree new.kept old.kept n s.others.kept s.kept;
     }
 
+-- if a node is live after one installs a view, then it was live before
 pub installs-live : (old new : StreamState) (n e m : ℕ) → Installs old new n e → IsLive new m → IsLive old m
 installs-live old new n e m s h =
     let same : new.stopped m ≡ old.stopped m = agree new.stopped old.stopped n s.others.stopped s.stopped m in
@@ -125,6 +131,7 @@ installs-reports old new passed n e m a r s live h =
           quiet-reports old new passed m a r s.sends.stay (installs-live old new n e m s) (s.others.epoch m other) (s.others.reported m other) live h
     ]
 
+-- installing a view takes nothing back
 pub grows_Installs : (old new : StreamState) (n e : ℕ) → Installs old new n e → Grows old new
 grows_Installs old new n e s =
     same-grows old new (installs-kept old new n e s) (λ f _. view-same old new f s.setting) (λ m. installs-live old new n e m s) (λ m. (installs-epoch old new n e m s).0) s.sends.stay
@@ -139,11 +146,13 @@ installs-preserves old new passed n e r s =
           (λ m f k is out h. installs-silent old new n e m f s);
     }
 
+-- if the replication invariant holds, then it holds after a node installs a view
 pub keeps_Installs : (old new : StreamState) (passed n e : ℕ) → ReplicationInvariant old passed → Installs old new n e → ReplicationInvariant new passed
 keeps_Installs old new passed n e r s = carried old new passed passed r (installs-preserves old new passed n e r s)
 
 -- ---- a new view
 
+-- if a new view comes, then each node keeps what it kept
 pub viewed-kept : (old new : StreamState) (set : List ℕ) → NewView old new set → SameKept old new
 viewed-kept old new set s = record { home = s.home; done = s.done; kept = s.kept }
 
@@ -169,6 +178,7 @@ view-cases old new set e s v =
 view-stays : (old new : StreamState) (set : List ℕ) (e : ℕ) → NewView old new set → IsView old e → IsView new e
 view-stays old new set e s v = (v.0, omega (arith, v.1, view-length old new set s))
 
+-- if a node is live after a new view, then it was live before
 pub view-live : (old new : StreamState) (set : List ℕ) (n : ℕ) → NewView old new set → IsLive new n → IsLive old n
 view-live old new set n s h = let same : new.stopped n ≡ old.stopped n = s.stopped n in cc
 
@@ -240,6 +250,7 @@ view-says old new passed set r s =
       views = λ e. view-views old new set e r.viewed s;
     }
 
+-- a new view takes nothing back
 pub grows_NewView : (old new : StreamState) (set : List ℕ) → NewView old new set → Grows old new
 grows_NewView old new set s =
     same-grows old new (viewed-kept old new set s) (λ e. view-old old new set e s) (λ n. view-live old new set n s) (λ n. omega (arith, s.epoch n)) s.sends.stay
@@ -252,5 +263,6 @@ view-preserves old new passed set r s =
       says = view-says old new passed set r s;
     }
 
+-- if the replication invariant holds, then it holds after a new view
 pub keeps_NewView : (old new : StreamState) (passed : ℕ) (set : List ℕ) → ReplicationInvariant old passed → NewView old new set → ReplicationInvariant new passed
 keeps_NewView old new passed set r s = carried old new passed passed r (view-preserves old new passed set r s)

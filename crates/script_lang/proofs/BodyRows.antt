@@ -79,6 +79,7 @@ step_row steps.Stop words objects txs before live among = rw among refl
 step_row steps.View words objects txs before live among = rw among refl
 step_row steps.Install words objects txs before live among = rw among refl
 
+-- if a result tells a fault, then so does the result that goes on to more lines
 pub more_told : (T : Option Kind) (r : Result State Kind) → Tells T r Any → Tells T (more r) Any
 unfolding more
 more_told T (Ok s) h = tells_ok T _ _ tt

@@ -34,10 +34,12 @@ use Rattle.script_lang.proofs.Sound.{IfRead, read_bind, read_ok, read_err, read_
 
 -- ---- lists with one more at the end
 
+-- if a fact holds of each element of a list and of one more, then it holds of each with that one at the end
 pub each_more : {A : Type 0} (P : A → Type 0) (xs : List A) (x : A) → AllByRecursion P xs → P x → AllByRecursion P (xs ++ x ∷ [])
 each_more P [] x h p = (p, tt)
 each_more P (y ∷ ys) x h p = (h.0, each_more P ys x h.1 p)
 
+-- the same for the other way to say "of each element"
 pub all_more : {A : Type 0} (P : A → Type 0) (xs : List A) (x : A) → All P xs → P x → All P (xs ++ x ∷ [])
 all_more P xs x h p = All-from_recursion P (xs ++ x ∷ []) (each_more P xs x (recursion_from_All P xs h) p)
 
@@ -48,6 +50,7 @@ object_lines-more [] (p ∷ objects) name o same = absurd (omega arith)
 object_lines-more (n ∷ names) [] name o same = absurd (omega arith)
 object_lines-more (n ∷ names) (p ∷ objects) name o same = ap (λ (ls : List (List (List ℕ))). object_words n p ∷ ls) (object_lines-more names objects name o (omega arith))
 
+-- if transactions fit and the next one fits at its number, then they fit with it at the end
 pub FitTxs-more : (config : Config) (k : ℕ) (ts : List TxDecl) (t : TxDecl) → FitTxs config k ts → FitsTx config (length ts + k) t → FitTxs config k (ts ++ t ∷ [])
 unfolding FitTxs
 FitTxs-more config k [] t h fits = (rw zero-add at fits, tt)
@@ -273,6 +276,7 @@ body_line : (live : Bool) (stage : Stage) (s : State) (ws : List (List ℕ)) →
 body_line live stage s ws at body fits =
     read_bind _ _ _ (word_at-sound ws) (λ w p. rw p (body_taken-sound live stage s w.0 w.1 at body fits))
 
+-- if a state fits its stage and a line is read, then the line adds itself or is `end`
 pub line_taken-sound : (live : Bool) (stage : Stage) (s : State) (ws : List (List ℕ)) → s.stage ≡ stage → Fits live stage s → IfRead (line_taken live s stage ws) (Goes live stage s ws)
 unfolding line_taken
 line_taken-sound live stages.Version s ws at fits = more-sound live stages.Version s ws _ (version_taken-sound live s ws fits)

@@ -10,27 +10,32 @@ unfoldable pub Lacks : ℕ → List ℕ → Type 0
 Lacks d [] = Unit {0}
 Lacks d (b ∷ bs) = (b ≢ d) × Lacks d bs
 
+-- if two lists lack the separator, then so do both put together
 pub Lacks-append : (d : ℕ) (xs ys : List ℕ) → Lacks d xs → Lacks d ys → Lacks d (xs ++ ys)
 unfolding Lacks
 Lacks-append d [] ys h g = g
 Lacks-append d (x ∷ xs) ys h g = (h.0, Lacks-append d xs ys h.1 g)
 
+-- if the bytes before a place lack the separator and the byte there is another, then the bytes up to and with it lack it
 pub Lacks-take_more : (d i : ℕ) (bs : List ℕ) → i < length bs → Lacks d (take i bs) → get_or bs i 0 ≢ d → Lacks d (take (suc i) bs)
 unfolding Lacks
 Lacks-take_more d i [] lt h g = absurd (omega arith)
 Lacks-take_more d zero (b ∷ bs) lt h g = (g, tt)
 Lacks-take_more d (suc i) (b ∷ bs) lt h g = (h.0, Lacks-take_more d i bs (omega arith) h.1 g)
 
+-- if bytes lack the separator, then the cut gives them back as one part
 pub cut_free : (d : ℕ) (bs : List ℕ) → Lacks d bs → cut d bs ≡ bs ∷ []
 unfolding Lacks cut with_byte
 cut_free d [] h = refl
 cut_free d (b ∷ bs) h = rw (ne_eqb b d h.0, cut_free d bs h.1) refl
 
+-- if the bytes before a separator lack it, then they are the first part of the cut, and the rest is cut on
 pub cut_front : (d : ℕ) (front rest : List ℕ) → Lacks d front → cut d (front ++ d ∷ rest) ≡ front ∷ cut d rest
 unfolding Lacks cut with_byte
 cut_front d [] rest h = rw (eq-eqb d d refl) refl
 cut_front d (b ∷ bs) rest h = rw (ne_eqb b d h.0, cut_front d bs rest h.1) refl
 
+-- if the byte at a place is the separator and none before it is, then the cut is there, and the rest is cut on
 pub cut_at : (d i : ℕ) (bs : List ℕ) → i < length bs → Lacks d (take i bs) → get_or bs i 0 ≡ d → cut d bs ≡ take i bs ∷ cut d (drop (suc i) bs)
 unfolding Lacks cut with_byte
 cut_at d i [] lt h g = absurd (omega arith)
@@ -51,6 +56,7 @@ unfolding with_byte first_part other_parts
 some_part b [] = refl
 some_part b (p ∷ ps) = refl
 
+-- a cut is its first part and its other parts
 pub cut_some : (d : ℕ) (bs : List ℕ) → cut d bs ≡ first_part (cut d bs) ∷ other_parts (cut d bs)
 unfolding cut first_part other_parts with_byte
 cut_some d [] = refl
@@ -61,14 +67,17 @@ cut_some d (b ∷ bs) = go (b == d) (cut d bs)
     go false [] = refl
     go false (p ∷ ps) = refl
 
+-- a cut has at least one part
 pub cut_not_none : (d : ℕ) (bs : List ℕ) → cut d bs ≡ [] → ⊥
 cut_not_none d bs h = let some = cut_some d bs in absurd cc
 
+-- if no byte up to a place past the end is the separator, then the cut gives the bytes back as one part
 pub cut_whole : (d i : ℕ) (bs : List ℕ) → length bs ≤ i → Lacks d (take i bs) → cut d bs ≡ bs ∷ []
 cut_whole d i bs le h =
     let whole : take i bs ≡ bs = grind (arith, common_steps) in
     cut_free d bs (rw whole at h)
 
+-- as many bytes as are left behind a place are all of those behind it
 pub rest_of : (bs : List ℕ) (i : ℕ) → take (length bs - i) (drop i bs) ≡ drop i bs
 rest_of bs i = grind (arith, common_steps)
 

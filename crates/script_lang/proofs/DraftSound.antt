@@ -15,6 +15,7 @@ use Rattle.script_lang.proofs.NumberLaws.{range_at-sound}
 use Rattle.script_lang.proofs.StepLaws.{ended-sound, none_below}
 use Rattle.script_lang.proofs.Sound.{IfRead, read_bind, read_ok, read_err, read_cond}
 
+-- if a keyword is read, then the words are the keyword and the words left
 pub keyword_at-sound : (k : List ℕ) (ws : List (List ℕ)) → IfRead (keyword_at k ws) (λ x. ws ≡ k ∷ x.1)
 unfolding keyword_at word_at
 keyword_at-sound k [] = read_err _ _
@@ -31,6 +32,7 @@ version_of-sound w =
 
 -- ---- the first lines
 
+-- if a word is read, then the words are that word and the words left
 pub word_at-sound : (ws : List (List ℕ)) → IfRead (word_at ws) (λ x. ws ≡ x.0 ∷ x.1)
 unfolding word_at
 word_at-sound [] = read_err _ _
@@ -47,6 +49,7 @@ version_made live s w ws1 ws v fits spelled is low high end = record {
   lines = rw (spelled, is, end) refl;
 }
 
+-- if a state fits before the version and the line of the version is read, then the line adds itself
 pub version_taken-sound : (live : Bool) (s : State) (ws : List (List ℕ)) → Fits live stages.Version s → IfRead (version_taken s ws) (Adds live stages.Version s ws)
 unfolding version_taken
 version_taken-sound live s ws fits =
@@ -62,6 +65,7 @@ nodes_made live s ws1 ws n fits spelled low high end = record {
   lines = rw (spelled, end) refl;
 }
 
+-- if a state fits before the nodes and the line of the nodes is read, then the line adds itself
 pub nodes_taken-sound : (live : Bool) (s : State) (ws : List (List ℕ)) → Fits live stages.Nodes s → IfRead (nodes_taken s ws) (Adds live stages.Nodes s ws)
 unfolding nodes_taken
 nodes_taken-sound live s ws fits =
@@ -76,6 +80,7 @@ slots_made live s ws1 ws n fits spelled low high end = record {
   lines = rw (spelled, end) refl;
 }
 
+-- if a state fits before the slots and the line of the slots is read, then the line adds itself
 pub slots_taken-sound : (live : Bool) (s : State) (ws : List (List ℕ)) → Fits live stages.Slots s → IfRead (slots_taken s ws) (Adds live stages.Slots s ws)
 unfolding slots_taken
 slots_taken-sound live s ws fits =
@@ -97,6 +102,7 @@ directory_made live s ws1 ws ns some fits spelled listed same nonempty =
       lines = rw (spelled, listed.words, fits.head.3, body.names, body.txs, ← whole) refl;
     }
 
+-- if a state fits before the directory and the line of the directory is read, then the line adds itself
 pub directory_taken-sound : (live : Bool) (s : State) (ws : List (List ℕ)) → Fits live stages.Directory s → IfRead (directory_taken s ws) (Adds live stages.Directory s ws)
 unfolding directory_taken
 directory_taken-sound live s ws fits =

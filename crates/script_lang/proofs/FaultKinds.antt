@@ -47,10 +47,12 @@ cut-shown [] last others lack = refl
 cut-shown (p ∷ front) last others lack =
     ap (cut 10) (shown-front (length front) p (front ++ last ∷ others) (some_behind front last others)) ∙ cut_front 10 p (shown (length front) (front ++ last ∷ others)) lack.0 ∙ ap (λ (ps : List (List ℕ)). p ∷ ps) (cut-shown front last others lack.1)
 
+-- if a part follows a front of a cut, then the lines of the front are cut into its parts and an empty one
 pub cut-first_lines : (bytes : List ℕ) (front : List (List ℕ)) (last : List ℕ) (others : List (List ℕ)) → cut 10 bytes ≡ front ++ last ∷ others → cut 10 (first_lines (length front) bytes) ≡ front ++ [] ∷ []
 cut-first_lines bytes front last others is =
     ap (cut 10) (first_lines-shown (length front) bytes ∙ ap (shown (length front)) is) ∙ cut-shown front last others (subst (AllByRecursion (Lacks 10)) is (parts_lack 10 bytes))
 
+-- if two lists with the same front are equal, then so is what stands behind it
 pub same_behind : (front xs ys : List (List ℕ)) → front ++ xs ≡ front ++ ys → xs ≡ ys
 same_behind [] xs ys e = e
 same_behind (p ∷ front) xs ys e = let rest : front ++ xs ≡ front ++ ys = cc in same_behind front xs ys rest

@@ -55,6 +55,7 @@ pub record Before (live : Bool) (s : State) (n : ℕ) (parts : List (List ℕ)) 
   pub lines : lines_at stages.Steps whole ++ (codes "end" ∷ []) ∷ [] ≡ lines_at s.stage s ++ (ls ++ rest)
   pub place : ((rest ≡ []) × (f.kind ≡ kinds.Extra)) ⊎ Wanted live s n parts f
 
+-- if a fault at a line is this fault, then it is of the same kind
 pub kind_there : (n : ℕ) (k : Kind) (f : ScriptFault) → failed (fault_at n k) ≡ failed f → k ≡ f.kind
 kind_there n k f e = let same : fault_at n k ≡ f = cc in ap (λ (g : ScriptFault). g.kind) same
 
@@ -132,6 +133,7 @@ blamed live s stage ws k l e is =
     let blames : BlamesWord (failure k) = subst BlamesWord e (line_blames live s stage ws) in
     subst IsOfWord is blames.holds
 
+-- if reading lines fails, then the lines before the fault are those with which a whole script begins or ends
 pub before_fault : (live : Bool) (s : State) (n : ℕ) (parts : List (List ℕ)) (f : ScriptFault) → (parts ≡ [] → ⊥) → Fits live s.stage s → lines_taken live s n parts ≡ Err f → Before live s n parts f
 unfolding lines_taken line_done
 before_fault live s n [] f some fits h = absurd (some refl)

@@ -16,6 +16,7 @@ use Rattle.script_lang.proofs.ReadComplete.{text_taken}
 
 -- ---- lines that are shown alike
 
+-- bytes that lack byte 10 are no bytes with a byte 10 in them
 pub not_ended : (p q rest : List ℕ) → Lacks 10 p → p ≡ q ++ 10 ∷ rest → ⊥
 unfolding Lacks
 not_ended [] [] rest h e = cc
@@ -23,6 +24,7 @@ not_ended [] (c ∷ q) rest h e = cc
 not_ended (b ∷ p) [] rest h e = let first : b ≡ 10 = cc in h.0 first
 not_ended (b ∷ p) (c ∷ q) rest h e = let others : p ≡ q ++ 10 ∷ rest = cc in not_ended p q rest h.1 others
 
+-- if two texts are equal and their first lines lack byte 10, then the first lines are equal and so is the rest
 pub same_line : (p q xs ys : List ℕ) → Lacks 10 p → Lacks 10 q → p ++ 10 ∷ xs ≡ q ++ 10 ∷ ys → (p ≡ q) × (xs ≡ ys)
 unfolding Lacks
 same_line [] [] xs ys h g e = (refl, cc)
@@ -35,10 +37,12 @@ same_line (b ∷ p) (c ∷ q) xs ys h g e =
     let same : p ≡ q = rest.0 in
     (cc, rest.1)
 
+-- whether a list of bytes is empty
 pub is_none : List ℕ → Bool
 is_none [] = true
 is_none (b ∷ bs) = false
 
+-- a part is the last one just if nothing is shown of the parts behind it
 pub is_last-shown : (n : ℕ) (q : List ℕ) (ps : List (List ℕ)) → is_last (q ∷ ps) ≡ is_none (shown (suc n) (q ∷ ps))
 unfolding is_last is_none shown
 is_last-shown n [] [] = refl
@@ -51,9 +55,11 @@ is_last-shown n (b ∷ q) (p ∷ ps) = refl
 abbrev pub failed : ScriptFault → Result State ScriptFault
 failed f = Err f
 
+-- if a fault at a line is this fault, then it is in the same line
 pub at_line : (n : ℕ) (k : Kind) (f : ScriptFault) → failed (fault_at n k) ≡ failed f → n ≡ f.line
 at_line n k f e = let same : fault_at n k ≡ f = cc in ap (λ (g : ScriptFault). g.line) same
 
+-- a fault of lines that are read from a number on is in none of the lines before
 pub from_line : (live : Bool) (s : State) (m : ℕ) (ps : List (List ℕ)) (f : ScriptFault) → lines_taken live s m ps ≡ Err f → m ≤ f.line
 unfolding lines_taken line_done
 from_line live s m [] f h = omega (arith, at_line m kinds.Missing f h)

@@ -14,6 +14,7 @@ shown (suc n) [] = []
 shown (suc n) (p ∷ []) = p
 shown (suc n) (p ∷ q ∷ ps) = p ++ 10 ∷ shown n (q ∷ ps)
 
+-- if parts follow, then one part more in front is shown with its byte 10 before them
 pub shown-front : (n : ℕ) (p : List ℕ) (ps : List (List ℕ)) → (ps ≡ [] → ⊥) → shown (suc n) (p ∷ ps) ≡ p ++ 10 ∷ shown n ps
 unfolding shown
 shown-front n p [] some = absurd (some refl)
@@ -25,6 +26,7 @@ shown-with_byte n b [] = refl
 shown-with_byte n b (p ∷ []) = refl
 shown-with_byte n b (p ∷ q ∷ ps) = refl
 
+-- the first n lines of bytes are the text of the first n parts of their cut
 pub first_lines-shown : (n : ℕ) (bytes : List ℕ) → first_lines n bytes ≡ shown n (cut 10 bytes)
 unfolding first_lines shown cut
 first_lines-shown zero [] = refl
@@ -60,6 +62,7 @@ unfolding with_byte Lacks
 lack-with_byte d b [] apart h = ((apart, tt), tt)
 lack-with_byte d b (p ∷ ps) apart h = ((apart, h.0), h.1)
 
+-- no part of a cut has the separator in it
 pub parts_lack : (d : ℕ) (bytes : List ℕ) → AllByRecursion (Lacks d) (cut d bytes)
 unfolding cut Lacks
 parts_lack d [] = (tt, tt)

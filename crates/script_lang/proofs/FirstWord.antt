@@ -42,11 +42,13 @@ unfolding or_else word_of
 found_of R w ws k (Some l) e g rest = found_here R (w ∷ ws) k (e ∙ g)
 found_of R w ws k None e g rest = found_later R w ws k (rest g) e
 
+-- if words have a first fault, then some word meets that row and none before it meets any
 pub found : (R : Rows) (ws : List (List ℕ)) (k : Kind) → first_fault R ws ≡ Some k → Found R ws k
 unfolding first_fault word_of
 found R [] k h = found_here R [] k h
 found R (w ∷ ws) k h = found_of R w ws k (R [] (Some w)) refl h (found (next R w) ws k)
 
+-- if two tables of rows agree everywhere, then the first fault is the same with both
 pub first_fault-same : (R S : Rows) (ws : List (List ℕ)) → ((pre : List (List ℕ)) (w : Option (List ℕ)) → R pre w ≡ S pre w) → first_fault R ws ≡ first_fault S ws
 unfolding first_fault
 first_fault-same R S [] e = e [] None
@@ -77,16 +79,20 @@ Told T (Err k) Q = T ≡ Some k
 pub record Tells {A : Type 0} (T : Option Kind) (r : Result A Kind) (Q : A → Type 0) : Type 0 where
   pub holds : Told T r Q
 
+-- if a first result tells a fault and each next one does for what was read, then so do both in sequence
 pub tells_bind : {A B : Type 0} (T : Option Kind) (r : Result A Kind) (f : A → Result B Kind) {P : A → Type 0} (Q : B → Type 0) → Tells T r P → ((x : A) → P x → Tells T (f x) Q) → Tells T (r >>= f) Q
 tells_bind T (Ok x) f Q p q = q x p.holds
 tells_bind T (Err k) f Q p q = record { holds = p.holds }
 
+-- if a fact holds of a value, then a result with the value tells it
 pub tells_ok : {A : Type 0} (T : Option Kind) (x : A) (Q : A → Type 0) → Q x → Tells T (Ok x) Q
 tells_ok T x Q q = record { holds = q }
 
+-- if the fault is of this kind, then an error of this kind tells it
 pub tells_err : {A : Type 0} (T : Option Kind) (k : Kind) (Q : A → Type 0) → T ≡ Some k → Tells T (Err k) Q
 tells_err T k Q e = record { holds = e }
 
+-- if a result that tells a fault is an error, then the fault is of the error's kind
 pub tells_fault : {A : Type 0} (T : Option Kind) (r : Result A Kind) (Q : A → Type 0) (k : Kind) → Tells T r Q → r ≡ Err k → T ≡ Some k
 tells_fault T (Ok x) Q k t e = absurd cc
 tells_fault T (Err l) Q k t e = let same : l ≡ k = cc in t.holds ∙ ap (λ (m : Kind). Some m) same

@@ -12,10 +12,12 @@ unfolding named_after
 named_after-push seen [] op = refl
 named_after-push seen (o ∷ ops) op = named_after-push (mentioned seen (object_of o)) ops op
 
+-- one more operation at the end adds its object to the objects named
 pub named-push : (ops : List Op) (op : Op) → named (ops ++ op ∷ []) ≡ mentioned (named ops) (object_of op)
 unfolding named
 named-push ops op = named_after-push [] ops op
 
+-- if an operation on an object may follow, then at most 8 objects are named with it
 pub length-taken : (before : List Op) (x : ℕ) → takes_object before x ≡ true → length (named before) ≤ 8 → length (mentioned (named before) x) ≤ 8
 unfolding takes_object
 length-taken before x takes few = go (mentions x (named before)) refl takes

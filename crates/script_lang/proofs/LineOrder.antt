@@ -40,6 +40,7 @@ words_at stages.Steps s = codes "end" ∷ step_keywords
 abbrev pub words_behind : Bool → List ℕ → List (List ℕ)
 words_behind live w = under (codes "end" ∷ step_keywords) w (order (opening live))
 
+-- the last line of lines with one more at the end is that one
 pub last_line-more : (ls : List (List (List ℕ))) (l : List (List ℕ)) → last_line (ls ++ l ∷ []) ≡ l
 unfolding last_line
 last_line-more [] l = refl

@@ -45,6 +45,7 @@ keyword_choice R T keyword w ws so other same true e =
     tells_ok T (tt, ws) _ (passes R T keyword ws (ap (λ (v : List ℕ). first_fault R (v ∷ ws)) (sym is) ∙ so) same)
 keyword_choice R T keyword w ws so other same false e = tells_err T kinds.Word _ (stops R T w ws so kinds.Word (other w e))
 
+-- if only the keyword fits first, then reading it fails with the first fault, or leaves that fault to the words behind it
 pub keyword_told : (R : Rows) (T : Option Kind) (keyword : List ℕ) (ws : List (List ℕ)) → first_fault R ws ≡ T → R [] None ≡ Some kinds.Word → ((v : List ℕ) → bytes_eq v keyword ≡ false → R [] (Some v) ≡ Some kinds.Word) → R [] (Some keyword) ≡ None
     → Tells T (keyword_at keyword ws) (λ x. first_fault (next R keyword) x.1 ≡ T)
 unfolding keyword_at
@@ -66,6 +67,7 @@ version_row : (live : Bool) (w : List ℕ) → row_met (must (Keyword (versions 
 unfolding table version_of is_among
 version_row live w = or_none _ ∙ version_choice (bytes_eq w (codes "1")) (bytes_eq w (codes "2"))
 
+-- if no node is listed and the line ends, then a word is at fault
 pub none_listed : (nodes : ℕ) → 1 ≤ nodes → first_fault (counted_rows nodes 0 0 false) [] ≡ Some kinds.Word
 unfolding first_fault table some_words
 none_listed nodes some =

@@ -14,6 +14,7 @@ use Rattle.script_lang.specs.Reading.{fault_at, is_last, unended, line_done, lin
 abbrev pub one_line : Bool → State → ℕ → List ℕ → List (List ℕ) → Result State ScriptFault
 one_line live s n p rest = line_done (line_taken live s s.stage (cut 32 p)) n rest (λ t. lines_taken live t (suc n) rest)
 
+-- if a part is not the last one, then it is read as one line, and the parts behind it after it
 pub line_ended : (live : Bool) (s : State) (n : ℕ) (p : List ℕ) (rest : List (List ℕ)) → (rest ≡ [] → ⊥) → lines_taken live s n (p ∷ rest) ≡ one_line live s n p rest
 unfolding lines_taken
 line_ended live s n p [] some = absurd (some refl)

@@ -29,11 +29,13 @@ beginning-append words (x ∷ xs) ys = rw (beginning-append words xs ys) (go (is
     go true = refl
     go false = refl
 
+-- if the line of each element begins with one of the words, then all these lines are picked
 pub beginning-all : {A : Type 0} (words : List (List ℕ)) (f : A → List (List ℕ)) (xs : List A) → ((x : A) → is_among (first_word (f x)) words ≡ true) → beginning words (map f xs) ≡ map f xs
 unfolding beginning
 beginning-all words f [] h = refl
 beginning-all words f (x ∷ xs) h = rw (h x, beginning-all words f xs h) refl
 
+-- if the line of no element begins with one of the words, then none of these lines is picked
 pub beginning-none : {A : Type 0} (words : List (List ℕ)) (f : A → List (List ℕ)) (xs : List A) → ((x : A) → is_among (first_word (f x)) words ≡ false) → beginning words (map f xs) ≡ []
 unfolding beginning
 beginning-none words f [] h = refl
@@ -58,6 +60,7 @@ names_said [] os same = refl
 names_said (n ∷ ns) [] same = absurd (omega (arith, same))
 names_said (n ∷ ns) (o ∷ os) same = ap (λ (ms : List (List ℕ)). n ∷ ms) (names_said ns os (omega (arith, same)))
 
+-- a list has as many elements after a map as before
 pub length-map : {A B : Type 0} (f : A → B) (xs : List A) → length (map f xs) ≡ length xs
 length-map f [] = refl
 length-map f (x ∷ xs) = ap suc (length-map f xs)
@@ -88,6 +91,7 @@ tx_first : (names : List (List ℕ)) (words : List (List ℕ)) (b : Bool) → is
 unfolding tx_words nth
 tx_first names words b h t = h
 
+-- the line of a step does not begin with `object`
 pub no_object_step : (st : Step) → is_among (first_word (step_words st)) (codes "object" ∷ []) ≡ false
 unfolding step_words is_among nth
 no_object_step (Begin k) = refl
@@ -98,6 +102,7 @@ no_object_step (Stop n) = refl
 no_object_step (View ns) = refl
 no_object_step (Install n e) = refl
 
+-- the line of a step does not begin with `tx`
 pub no_tx_step : (st : Step) → is_among (first_word (step_words st)) (codes "tx" ∷ []) ≡ false
 unfolding step_words is_among nth
 no_tx_step (Begin k) = refl
@@ -108,6 +113,7 @@ no_tx_step (Stop n) = refl
 no_tx_step (View ns) = refl
 no_tx_step (Install n e) = refl
 
+-- the line of a step begins with one of the words of steps
 pub a_step : (st : Step) → is_among (first_word (step_words st)) step_keywords ≡ true
 unfolding step_words is_among nth
 a_step (Begin k) = refl

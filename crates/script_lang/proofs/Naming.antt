@@ -12,22 +12,27 @@ use Rattle.zeus_base.specs.Texts.{IsText}
 use Rattle.script_lang.specs.Values.{is_printable, is_text}
 use Rattle.script_lang.specs.Names.{is_letter, is_name_byte, is_name, find}
 
+-- the test of letters is true of letters and of no other byte
 pub is_letter_Decides : (b : ℕ) → Decides (is_letter b) (IsLetter b)
 is_letter_Decides b = grind (arith, nat_tests)
 
+-- the test of name bytes is true of these and of no other byte
 pub is_name_byte_Decides : (b : ℕ) → Decides (is_name_byte b) (IsNameByte b)
 is_name_byte_Decides b = grind (arith, nat_tests)
 
+-- the test of all bytes of a word is true if each of them is a name byte, and only then
 pub all_name_bytes : (w : List ℕ) → Decides (list_all is_name_byte w) (All IsNameByte w)
 all_name_bytes w = (
   λ h k d lt. (is_name_byte_Decides (get_or w k d)).0 (AllPass-from_list_all is_name_byte w h k d lt),
   λ h. list_all-from_AllPass is_name_byte w (λ k d lt. (is_name_byte_Decides (get_or w k d)).1 (h k d lt)),
 )
 
+-- if both together are true, then each is
 pub and_true : (x y : Bool) → (x && y) ≡ true → (x ≡ true) × (y ≡ true)
 and_true true y h = (refl, h)
 and_true false y h = absurd cc
 
+-- the test of names is true of names and of no other word
 pub is_name_Decides : (w : List ℕ) → Decides (is_name w) (IsName w)
 unfolding is_name
 is_name_Decides w =
@@ -54,11 +59,13 @@ place_step true k n o h = grind (arith, nat_tests)
 place_step false k n None h = grind (arith, nat_tests)
 place_step false k n (Some i) h = grind (arith, nat_tests)
 
+-- the place of a word among names is where the search finds it
 pub position_is_find : (names : List (List ℕ)) (w : List ℕ) → position (bytes_eq w) names ≡ find names w
 unfolding find
 position_is_find [] w = refl
 position_is_find (n ∷ ns) w = place_step (bytes_eq w n) (position_or_len (bytes_eq w) ns) (length ns) (find ns w) (position_is_find ns w)
 
+-- if a word is not found among names, then it equals none of them
 pub new_name : (names : List (List ℕ)) (w : List ℕ) → find names w ≡ None → list_any (bytes_eq w) names ≡ false
 unfolding find
 new_name [] w none = refl
@@ -78,6 +85,7 @@ all_printable w = (
   λ h. list_all-from_AllPass is_printable w (λ k d lt. (is_printable_Decides (get_or w k d)).1 (h k d lt)),
 )
 
+-- the test of texts is true of texts and of no other word
 pub is_text_Decides : (w : List ℕ) → Decides (is_text w) (IsText w)
 unfolding is_text
 is_text_Decides w =

@@ -27,9 +27,11 @@ with_node-last n b (m ∷ ms) h le =
     let rest : with_node n ms ≡ ms ++ n ∷ [] = with_node-last n b ms (λ k g. h k (has-tail k m ms g)) le in
     rw (le-ltb n m (omega arith), ne_eqb n m (λ e. omega arith), rest) refl
 
+-- if nodes are below a bound, then they are below a higher one
 pub IsBelow-more : (b c : ℕ) (ms : List ℕ) → b ≤ c → IsBelow b ms → IsBelow c ms
 IsBelow-more b c ms le h k g = let low = h k g in omega arith
 
+-- if one of two or the other is false, then each is
 pub or_false : (x y : Bool) → (x || y) ≡ false → (x ≡ false) × (y ≡ false)
 or_false true y h = absurd cc
 or_false false y h = (refl, h)
@@ -78,6 +80,7 @@ listed_more nodes owner lowest listed w ws n all low is le lt other rest = recor
     below : (k : ℕ) → ((k == n) || has k rest.ns) ≡ true → k < nodes
     below k h = grind (arith, nat_tests, rest.below k)
 
+-- if nodes are read behind those listed, then the words spell the further nodes, which rise and fit
 pub nodes_after-sound : (nodes : ℕ) (most owner : Option ℕ) (listed : List ℕ) (lowest : ℕ) (ws : List (List ℕ)) → IsBelow lowest listed → IfRead (nodes_after nodes most owner listed lowest ws) (IsListed nodes owner lowest listed ws)
 unfolding nodes_after
 nodes_after-sound nodes most owner listed lowest [] low = read_ok _ _ (listed_none nodes owner lowest listed)
@@ -108,6 +111,7 @@ none_owner : (o : Bool) (k : Bool) → (o ≡ true → k ≡ false) → k ≡ tr
 none_owner true k h g = let no = h refl in absurd cc
 none_owner false k h g = refl
 
+-- if further nodes rise, are in range, are not the owner and have room, then reading their words gives the list with them
 pub nodes_after-nodes : (nodes : ℕ) (most owner : Option ℕ) (listed : List ℕ) (lowest : ℕ) (ns : List ℕ) → nodes ≤ 8 → IsBelow lowest listed → RisesFrom lowest ns → IsBelow nodes ns
     → ((k : ℕ) → is_owner owner k ≡ true → has k ns ≡ false) → HasRoom most (length listed + length ns) → nodes_after nodes most owner listed lowest (map decimal ns) ≡ Ok (listed ++ ns)
 unfolding nodes_after RisesFrom

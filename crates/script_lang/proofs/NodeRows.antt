@@ -47,6 +47,7 @@ node_row_of nodes lowest most owner listed may_end w room (Some n) e =
     rw (room, e, (number_said w n e).0, (number_said w n e).1, low)
     (range_choice n (nat_lt n nodes) _ _ (or_none _ ∙ twice_choice n (nat_lt n lowest || is_owner owner n)))
 
+-- if the list is not full, then the row that a word of a list of nodes meets is the fault of reading it
 pub node_row : (nodes lowest : ℕ) (most owner : Option ℕ) (listed : List ℕ) (may_end : Bool) (w : List ℕ) → is_full most (length listed) ≡ false → row_met (a_node nodes lowest owner may_end) (Some w) ≡ row_of (listed_of nodes most owner listed lowest w)
 node_row nodes lowest most owner listed may_end w room = node_row_of nodes lowest most owner listed may_end w room (number_of w) refl
 
@@ -77,6 +78,7 @@ listed_number_in nodes most owner listed lowest w n h =
 abbrev pub member_rows : ℕ → Option ℕ → ℕ → Rows
 member_rows nodes owner lowest = λ pre w. row_met (a_node nodes (above lowest pre) owner true) w
 
+-- if reading a list of members fails, then its fault is the first row that a word meets
 pub members_told : (T : Option Kind) (nodes : ℕ) (owner : Option ℕ) (listed : List ℕ) (lowest : ℕ) (ws : List (List ℕ)) → first_fault (member_rows nodes owner lowest) ws ≡ T → Tells T (nodes_after nodes None owner listed lowest ws) (λ _. Unit {0})
 unfolding nodes_after above is_full
 members_told T nodes owner listed lowest [] so = tells_ok T listed _ tt
@@ -120,6 +122,7 @@ counted_next T nodes count lowest n some w ws is so =
 one_more : (lowest n : ℕ) (listed : List ℕ) → IsBelow lowest listed → lowest ≤ n → suc (length listed) ≡ length (with_node n listed)
 one_more lowest n listed low le = rw (with_node-last n lowest listed low le, length-append) (omega arith)
 
+-- if reading a list with a greatest count fails, or lists no node, then its fault is the first row that a word meets
 pub counted_told : (T : Option Kind) (nodes count : ℕ) (listed : List ℕ) (lowest : ℕ) (some : Bool) (ws : List (List ℕ)) → count ≡ length listed → IsBelow lowest listed
     → (listed ≡ [] → first_fault (counted_rows nodes count lowest some) [] ≡ Some kinds.Word) → first_fault (counted_rows nodes count lowest some) ws ≡ T
     → Tells T (nodes_after nodes (Some nodes) None listed lowest ws) (λ ns. ns ≡ [] → T ≡ Some kinds.Word)

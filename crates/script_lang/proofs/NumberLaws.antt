@@ -14,6 +14,7 @@ abbrev pub read_on : ℕ → List ℕ → ℕ
 read_on n [] = n
 read_on n (c ∷ cs) = read_on (10 * n + (c - 48)) cs
 
+-- our numerals are the standard library's: read from 0 on, where all bytes are ASCII digits
 pub own : IsNumeralModel (λ ds. all_ascii_digits ds ≡ true) (read_on 0)
 own = numerals_by_fold _ (search rules) read_on (search rules)
 
@@ -78,17 +79,20 @@ number_of-decimal n lt =
     no_lead zero lt = rw (decimal_digit 0 (omega arith)) refl
     no_lead (suc n) lt = grind (arith, nat_tests, first_decimal (suc n) (omega arith) lt)
 
+-- if a word is read as a number of a range, then it spells a number that is in the range and below 2^64
 pub range_of-sound : (lowest limit : ℕ) (w : List ℕ) → IfRead (range_of lowest limit w) (λ n. (w ≡ decimal n) × (n < 2 ^ 64) × (lowest ≤ n) × (n < limit))
 unfolding range_of
 range_of-sound lowest limit w =
     read_bind _ _ _ (read_or _ _ _ (number_of-sound w)) (λ n p. read_cond (nat_le lowest n && nat_lt n limit) _ _ _ (λ t. read_ok _ _ (p.0, p.1, grind (arith, nat_tests), grind (arith, nat_tests))) (λ f. read_err _ _))
 
+-- if the next word is read as a number, then it spells a number below 2^64
 pub number_at-sound : (ws : List (List ℕ)) → IfRead (number_at ws) (λ x. (ws ≡ decimal x.0 ∷ x.1) × (x.0 < 2 ^ 64))
 unfolding number_at word_at
 number_at-sound [] = read_err _ _
 number_at-sound (w ∷ ws) =
     read_bind _ _ _ (read_or _ _ _ (number_of-sound w)) (λ n p. read_ok _ _ (ap (λ (v : List ℕ). v ∷ ws) p.0, p.1))
 
+-- if the next word is read as a number of a range, then it spells a number that is in the range and below 2^64
 pub range_at-sound : (lowest limit : ℕ) (ws : List (List ℕ)) → IfRead (range_at lowest limit ws) (λ x. (ws ≡ decimal x.0 ∷ x.1) × (x.0 < 2 ^ 64) × (lowest ≤ x.0) × (x.0 < limit))
 unfolding range_at word_at
 range_at-sound lowest limit [] = read_err _ _
@@ -97,14 +101,17 @@ range_at-sound lowest limit (w ∷ ws) =
 
 -- ---- what is spelled is read
 
+-- if a number is in the range and below 2^64, then its word is read as that number
 pub range_of-decimal : (lowest limit n : ℕ) → n < 2 ^ 64 → lowest ≤ n → n < limit → range_of lowest limit (decimal n) ≡ Ok n
 unfolding range_of
 range_of-decimal lowest limit n fits low high = rw (number_of-decimal n fits) (grind (arith, nat_tests))
 
+-- if a number is below 2^64, then its word is read as that number, and the words behind it are left
 pub number_at-decimal : (n : ℕ) (ws : List (List ℕ)) → n < 2 ^ 64 → number_at (decimal n ∷ ws) ≡ Ok (n, ws)
 unfolding number_at word_at
 number_at-decimal n ws fits = rw (number_of-decimal n fits) refl
 
+-- if a number is in the range and below 2^64, then its word is read as that number, and the words behind it are left
 pub range_at-decimal : (lowest limit n : ℕ) (ws : List (List ℕ)) → n < 2 ^ 64 → lowest ≤ n → n < limit → range_at lowest limit (decimal n ∷ ws) ≡ Ok (n, ws)
 unfolding range_at word_at
 range_at-decimal lowest limit n ws fits low high = rw (range_of-decimal lowest limit n fits low high) refl

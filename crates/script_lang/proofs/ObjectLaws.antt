@@ -81,6 +81,7 @@ made version nodes names w name ws1 ws2 ws3 value owner others same is new e1 fi
       };
     }
 
+-- if an object is read, then the words spell a new name and an object that fits
 pub object_at-sound : (version nodes : ℕ) (names ws : List (List ℕ)) → IfRead (object_at version nodes names ws) (IsObject version nodes names ws)
 unfolding object_at word_at
 object_at-sound version nodes names [] = read_err _ _
@@ -104,6 +105,7 @@ owner_apart owner ns k h = rw (eqb-true k owner h) (has-without_same owner ns)
 below_without : (b owner : ℕ) (ns : List ℕ) → IsBelow b ns → IsBelow b (without owner ns)
 below_without b owner ns h k g = h k (grind (arith, has-without k owner ns, g))
 
+-- if a name is new and an object fits, then reading their words gives both
 pub object_at-object : (version nodes : ℕ) (names : List (List ℕ)) (name : List ℕ) (o : ObjectDecl) → nodes ≤ 8 → IsName name → find names name ≡ None → FitsValue version o.value → KeepsDeclaration version nodes o → object_at version nodes names (object_rest name o) ≡ Ok (name, o)
 unfolding object_at word_at HasRoom
 object_at-object version nodes names name o few is new fits keeps =

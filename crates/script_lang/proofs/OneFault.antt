@@ -45,6 +45,7 @@ pub data Sort (k : Kind) : Type 0 where
   size : k ≡ kinds.Size → Sort k
   word : IsOfWord k → Sort k
 
+-- each kind is one of a line, that of the size, or one of a word
 pub sort : (k : Kind) → Sort k
 unfolding IsOfWord
 sort kinds.Missing = missing refl

@@ -56,9 +56,11 @@ op_word_of-word version w =
     (word_choice version w (bytes_eq w (codes "same") && (version == 2)) words.Same None
     (λ t. let both = and_true (bytes_eq w (codes "same")) (version == 2) t in (bytes_eq-true w (codes "same") both.0, eqb-true version 2 both.1)) tt))))
 
+-- if a word is read as that of an operation, then it is the operation's word, and the version has it
 pub op_word_of-sound : (version : ℕ) (w : List ℕ) (k : OpWord) → op_word_of version w ≡ Some k → IsWord version w k
 op_word_of-sound version w k h = rw h at (op_word_of-word version w)
 
+-- if the version has an operation's word, then the word is read as that operation
 pub op_word_of-text : (version : ℕ) (k : OpWord) → HasWord version k → op_word_of version (op_text k) ≡ Some k
 unfolding op_word_of op_text HasWord
 op_word_of-text version words.Get h = refl
@@ -110,6 +112,7 @@ op_made version names before w v ws k o x is room at lt takes operand = record {
   room = room;
 }
 
+-- if an operation is read behind others, then the words spell one that fits there
 pub op_at-sound : (version : ℕ) (names : List (List ℕ)) (before : List Op) (ws : List (List ℕ)) → IfRead (op_at version names before ws) (IsOp version names before ws)
 unfolding op_at op_rest_at word_at
 op_at-sound version names before [] = read_err _ _

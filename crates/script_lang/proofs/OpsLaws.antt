@@ -48,6 +48,7 @@ ops_none version names before few objects = record { new = []; whole = sym (appe
 pub few_more : (version : ℕ) (names : List (List ℕ)) (before : List Op) (ws : List (List ℕ)) (x : Op × List (List ℕ)) → length before ≤ 16 → IsOp version names before ws x → length (before ++ x.0 ∷ []) ≤ 16
 few_more version names before ws x few op = let room = op.room in rw length-append (omega arith)
 
+-- if operations name at most 8 objects and one more is read behind them, then they name at most 8 with it
 pub objects_more : (version : ℕ) (names : List (List ℕ)) (before : List Op) (ws : List (List ℕ)) (x : Op × List (List ℕ)) → length (named before) ≤ 8 → IsOp version names before ws x → length (named (before ++ x.0 ∷ [])) ≤ 8
 objects_more version names before ws x objects op = rw named-push (length-taken before (object_of x.0) op.takes objects)
 
@@ -63,6 +64,7 @@ ops_more version names before w ws x all semi op rest = record {
   objects = rest.objects;
 }
 
+-- if operations are read behind others, then the words spell the further ones, and all have room
 pub ops_after-sound : (version : ℕ) (names : List (List ℕ)) (room : ℕ) (before : List Op) (ws : List (List ℕ)) → length before ≤ 16 → length (named before) ≤ 8 → IfRead (ops_after version names room before ws) (AreOps version names before ws)
 unfolding ops_after
 ops_after-sound version names zero before [] few objects = read_ok _ _ (ops_none version names before few objects)
@@ -92,6 +94,7 @@ tx_ops version names ws x all op rest =
       tx = record { some = rw whole (omega arith); few = rest.few; objects = rest.objects };
     }
 
+-- if the operations of a transaction are read, then the words spell them
 pub ops_at-sound : (version : ℕ) (names ws : List (List ℕ)) → IfRead (ops_at version names ws) (AreTxOps version names ws)
 unfolding ops_at named named_after
 ops_at-sound version names ws =
@@ -132,6 +135,7 @@ unfolding op_at word_at
 op_at-words version names before k o ws are room has lt takes =
     rw (op_word_of-text version k has, ne_eqb (length before) 16 (λ e. omega arith), op_rest_at-words version names before k o ws are lt takes) refl
 
+-- if an operation fits and has room behind others, then reading its words gives it, and the rest is left
 pub op_at-op : (version : ℕ) (names : List (List ℕ)) (before : List Op) (op : Op) (rest : List (List ℕ)) → AreNames names → length before < 16 → FitsAt version names op → takes_object before (object_of op) ≡ true → op_at version names before (op_words names op ++ rest) ≡ Ok (op, rest)
 unfolding op_words object_of FitsVersion op_text HasWord operand_at
 op_at-op version names before (ops.Get x) rest are room fits takes = op_at-words version names before words.Get x rest are room tt fits.object takes
@@ -153,6 +157,7 @@ takes_next before more op few = go (mentions (object_of op) (named before)) refl
         let all : named_after (mentioned (named before) (object_of op)) more ≡ named (before ++ op ∷ more) = named_next before more op in
         lt-ltb _ _ (omega (arith, rw all at longer))
 
+-- if further operations fit and all name at most 8 objects, then reading their words gives all of them
 pub ops_after-words : (version : ℕ) (names : List (List ℕ)) (room : ℕ) (before more : List Op) → AreNames names → length more ≤ room → length before + room ≤ 16 → AllByRecursion (FitsAt version names) more → length (named (before ++ more)) ≤ 8
     → ops_after version names room before (more_op_words names more) ≡ Ok (before ++ more)
 unfolding ops_after more_op_words
@@ -167,6 +172,7 @@ ops_after-words version names (suc room) before (op ∷ more) are len few fits o
     let rest = ops_after-words version names room (before ++ op ∷ []) more are (omega arith) shorter fits.1 (rw together objects) in
     rw here (rest ∙ ap Ok together)
 
+-- if operations fit and make a transaction, then reading their words gives them
 pub ops_at-words : (version : ℕ) (names : List (List ℕ)) (all : List Op) → AreNames names → AllByRecursion (FitsAt version names) all → IsTx all → ops_at version names (tx_op_words names all) ≡ Ok all
 unfolding ops_at tx_op_words
 ops_at-words version names [] are fits tx = absurd (omega (arith, tx.some))

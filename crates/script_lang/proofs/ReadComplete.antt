@@ -440,6 +440,7 @@ pub record IsTaken (live : Bool) (s : Script) : Type 0 where
   pub parts : cut 10 (spelling s) ≡ map words_text (script_lines s) ++ [] ∷ []
   pub taken : lines_taken live start 1 (cut 10 (spelling s)) ≡ Ok (whole_state s)
 
+-- if a script is one of the language, then its text is cut into its lines, and they are taken
 pub text_taken : (live : Bool) (s : Script) → IsOpenedScript (FitsLive live) s → IsTaken live s
 unfolding spelling
 text_taken live s opened =

@@ -29,6 +29,7 @@ pub record Reached (live : Bool) (s : State) (parts : List (List ℕ)) (t : Stat
   pub fits : Fits live stages.Steps t
   pub lines : lines_at stages.Steps t ++ (codes "end" ∷ []) ∷ [] ≡ lines_at s.stage s ++ ls
 
+-- if nothing stands behind the last line, then only an empty part is left
 pub last_is : (rest : List (List ℕ)) → is_last rest ≡ true → rest ≡ [] ∷ []
 unfolding is_last
 last_is [] h = absurd cc
@@ -68,6 +69,7 @@ went_on : (n : ℕ) (u t : State) (rest : List (List ℕ)) (go_on : State → Re
 unfolding line_done
 went_on n u t rest go_on h = h
 
+-- if lines are read from a state that fits, then they lead to a whole script, of which they are the last lines
 pub lines_taken-sound : (live : Bool) (s t : State) (n : ℕ) (parts : List (List ℕ)) → Fits live s.stage s → lines_taken live s n parts ≡ Ok t → Reached live s parts t
 unfolding lines_taken
 lines_taken-sound live s t n [] fits h = absurd cc
@@ -88,10 +90,12 @@ lines_taken-sound live s t n (p ∷ q ∷ ps) fits h =
 
 -- ---- the whole script
 
+-- the state before the first line fits
 pub start_fits : (live : Bool) → Fits live start.stage start
 unfolding start HeadFits BodyFits
 start_fits live = record { head = refl; body = record { names = refl; objects = refl; txs = refl; steps = refl } }
 
+-- if a state fits behind the steps, then its script fits
 pub script_fits : (live : Bool) (t : State) → Fits live stages.Steps t → FitsScript (script_of t)
 unfolding HeadFits BodyFits script_of
 script_fits live t fits =
@@ -115,18 +119,22 @@ script_fits live t fits =
       steps = All-from_recursion (FitsStep (config_of t) (length t.txs)) t.steps fits.body.2.fit;
     }
 
+-- if a state fits behind the steps, then its script keeps the bounds of a live run, where it is one
 pub script_live : (live : Bool) (t : State) → Fits live stages.Steps t → FitsLive live (script_of t)
 unfolding BodyFits script_of
 script_live live t fits = record { txs = fits.body.1.live_few; steps = fits.body.2.live_none }
 
+-- if a state fits behind the steps, then its script has at most 50,000 steps
 pub steps_fit : (live : Bool) (t : State) → Fits live stages.Steps t → length (script_of t).steps ≤ 50000
 unfolding BodyFits script_of
 steps_fit live t fits = fits.body.2.few
 
+-- the lines of a state's script are the lines read so far and `end`
 pub script_lines-lines : (t : State) → script_lines (script_of t) ≡ lines_at stages.Steps t ++ (codes "end" ∷ []) ∷ []
 unfolding script_lines script_of lines_at
 script_lines-lines t = refl
 
+-- before the first line no line was read
 pub no_lines : lines_at start.stage start ≡ []
 unfolding start lines_at
 no_lines = refl

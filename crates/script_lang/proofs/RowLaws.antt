@@ -37,6 +37,7 @@ digits_said-read n (b ∷ bs) = digits_said-read (10 * n + (b - 48)) bs
 pub number_in-decimal : (n : ℕ) → n < 2 ^ 64 → number_in (decimal n) ≡ n
 number_in-decimal n lt = digits_said-read 0 (decimal n) ∙ digits_value-decimal own n lt
 
+-- if a word is read as a number, then it is a numeral, and of that number
 pub number_said : (w : List ℕ) (n : ℕ) → number_of w ≡ Some n → (is_number w ≡ true) × (number_in w ≡ n)
 unfolding is_number
 number_said w n h =
@@ -55,6 +56,7 @@ none_said_of w true true e f h =
 none_said_of w true false e f h = refl
 none_said_of w false b e f h = refl
 
+-- if a word is not read as a number, then it is no numeral
 pub none_said : (w : List ℕ) → number_of w ≡ None → is_number w ≡ false
 unfolding is_number
 none_said w h = none_said_of w (bytes_eq w (decimal (number_in w))) (nat_lt (number_in w) (2 ^ 64)) refl refl h
@@ -68,6 +70,7 @@ range_row_of lowest limit w (Some n) e = rw (e, (number_said w n e).0, (number_s
     go true = refl
     go false = refl
 
+-- the row that a word meets where a number of a range must stand is the fault of reading it so
 pub range_row : (lowest limit : ℕ) (w : List ℕ) → row_met (must (Number lowest limit)) (Some w) ≡ row_of (range_of lowest limit w)
 range_row lowest limit w = range_row_of lowest limit w (number_of w) refl
 
@@ -79,6 +82,7 @@ number_row_of w (Some n) e =
     let low : nat_le 0 n ≡ true = grind (arith, nat_tests) in
     rw (e, (number_said w n e).0, (number_said w n e).1, low, small) refl
 
+-- the row that a word meets where a number must stand is the fault of reading it so
 pub number_row : (w : List ℕ) → row_met (must (Number 0 (2 ^ 64))) (Some w) ≡ row_of (or_fault (number_of w) kinds.Number)
 number_row w = number_row_of w (number_of w) refl
 
@@ -106,9 +110,11 @@ value_row_of version w true false o e f g = rw (e, f) refl
 value_row_of version w false t None e f g = rw (e, g, none_said w g) refl
 value_row_of version w false t (Some n) e f g = rw (e, g, (number_said w n g).0) refl
 
+-- the row that a word meets where a value must stand is the fault of reading it so
 pub value_row : (version : ℕ) (w : List ℕ) → row_met (must (AValue version)) (Some w) ≡ row_of (value_of version w)
 value_row version w = value_row_of version w (is_marked version w) (is_text (drop 1 w)) (number_of w) refl refl refl
 
+-- if a value must stand next, then reading it fails with the first fault, or leaves that fault to the words behind it
 pub value_told : (R : Rows) (T : Option Kind) (ws : List (List ℕ)) → first_fault R ws ≡ T → (version : ℕ) → ((w : Option (List ℕ)) → R [] w ≡ row_met (must (AValue version)) w) → Tells T (value_at version ws) (λ x. Next R T (λ w. value_of version w ≡ Ok x.0) x.1)
 unfolding value_at table
 value_told R T ws so version at =
@@ -123,6 +129,7 @@ among_choice true o c h e = absurd cc
 among_choice false None c h e = h refl
 among_choice false (Some i) c h e = absurd cc
 
+-- if a word is not found among names, then it is none of them
 pub among_none : (names : List (List ℕ)) (w : List ℕ) → find names w ≡ None → is_among w names ≡ false
 unfolding find is_among
 among_none [] w h = refl
@@ -133,6 +140,7 @@ among_chosen true o c i h e = refl
 among_chosen false None c i h e = absurd cc
 among_chosen false (Some j) c i h e = h j refl
 
+-- if a word is found among names, then it is one of them
 pub among_some : (names : List (List ℕ)) (w : List ℕ) (i : ℕ) → find names w ≡ Some i → is_among w names ≡ true
 unfolding find is_among
 among_some [] w i h = absurd cc
@@ -144,11 +152,13 @@ new_name_row_of names w false o e f = rw e refl
 new_name_row_of names w true None e f = rw (e, f, among_none names w f) refl
 new_name_row_of names w true (Some i) e f = rw (e, f, among_some names w i f) refl
 
+-- the row that a word meets where a new name must stand is the fault of reading it so
 pub new_name_row : (names : List (List ℕ)) (w : List ℕ) → row_met (must (NewName names)) (Some w) ≡ row_of (new_name_of names w)
 new_name_row names w = new_name_row_of names w (is_name w) (find names w) refl refl
 
 -- ---- the end of a line
 
+-- if the line must end here, then a word that still stands is its first fault
 pub ended_told : (R : Rows) (T : Option Kind) (ws : List (List ℕ)) → first_fault R ws ≡ T → ((w : Option (List ℕ)) → R [] w ≡ row_met ends w) → Tells T (ended ws) (λ _. Unit {0})
 unfolding ended table
 ended_told R T [] so at = tells_ok T tt _ tt

@@ -48,9 +48,11 @@ step_word_of-word w =
     (word_choice w (bytes_eq w (codes "view")) words.View _ (bytes_eq-true w (codes "view"))
     (word_choice w (bytes_eq w (codes "install")) words.Install None (bytes_eq-true w (codes "install")) tt))))))
 
+-- if a word is read as that of a step, then it is the step's word
 pub step_word_of-sound : (w : List ℕ) (k : StepWord) → step_word_of w ≡ Some k → w ≡ step_text k
 step_word_of-sound w k h = rw h at (step_word_of-word w)
 
+-- the word of a step is read as that step
 pub step_word_of-text : (k : StepWord) → step_word_of (step_text k) ≡ Some k
 unfolding step_word_of step_text
 step_word_of-text words.Begin = refl
@@ -66,15 +68,18 @@ pub record IsStepLine (config : Config) (txs : ℕ) (k : StepWord) (ws : List (L
   pub spelled : step_text k ∷ ws ≡ step_words step
   pub fits : FitsStep config txs step
 
+-- if a line is found to end, then no words are left
 pub ended-sound : (ws : List (List ℕ)) → IfRead (ended ws) (λ _. ws ≡ [])
 unfolding ended
 ended-sound [] = read_ok _ _ refl
 ended-sound (w ∷ ws) = read_err _ _
 
+-- no nodes are below every bound
 pub none_below : (b : ℕ) → IsBelow b []
 unfolding has
 none_below b k h = absurd cc
 
+-- if a step is read behind its word, then the words spell a step that fits
 pub step_at-sound : (config : Config) (txs : ℕ) (k : StepWord) (ws : List (List ℕ)) → IfRead (step_at config.nodes config.slots txs k ws) (IsStepLine config txs k ws)
 unfolding step_at step_text step_words FitsStep
 step_at-sound config txs words.Begin ws =
@@ -121,6 +126,7 @@ step_rest (steps.Stop n) = decimal n ∷ []
 step_rest (steps.View ns) = map decimal ns
 step_rest (steps.Install n e) = decimal n ∷ decimal e ∷ []
 
+-- the words of a step are its first word and the rest
 pub step_words-parts : (step : Step) → step_words step ≡ step_text (word_of_step step) ∷ step_rest step
 unfolding step_words step_text word_of_step step_rest
 step_words-parts (steps.Begin k) = refl
@@ -131,6 +137,7 @@ step_words-parts (steps.Stop n) = refl
 step_words-parts (steps.View ns) = refl
 step_words-parts (steps.Install n e) = refl
 
+-- if there is no owner, then no list of nodes has it
 pub no_owner : (k : ℕ) (ns : List ℕ) → is_owner None k ≡ true → has k ns ≡ false
 unfolding is_owner
 no_owner k ns h = absurd cc
@@ -139,6 +146,7 @@ any_room : (k : ℕ) → HasRoom None k
 unfolding HasRoom
 any_room k = tt
 
+-- if a step fits, then reading the words behind its first word gives it
 pub step_at-words : (config : Config) (txs : ℕ) (step : Step) → config.nodes ≤ 8 → config.slots ≤ 8 → txs ≤ 2 ^ 64 → FitsStep config txs step → step_at config.nodes config.slots txs (word_of_step step) (step_rest step) ≡ Ok step
 unfolding step_at word_of_step step_rest FitsStep ended
 step_at-words config txs (steps.Begin k) few slots small fits = rw (range_at-decimal 0 txs k [] (omega arith) (omega arith) fits) refl

@@ -83,6 +83,7 @@ abbrev pub printed : List ℕ → Bool
 printed [] = true
 printed (b ∷ bs) = nat_le 33 b && printed bs
 
+-- if the test finds a word printed, then it is
 pub from_test : (w : List ℕ) → printed w ≡ true → IsPrinted w
 from_test [] h = tt
 from_test (b ∷ bs) h = go (nat_le 33 b) (printed bs) refl refl h (from_test bs)
@@ -101,6 +102,7 @@ digits_printed (b ∷ bs) h = go (is_ascii_digit b) (all_ascii_digits bs) refl r
     go true false e f g rest = absurd cc
     go false u e f g rest = absurd cc
 
+-- the word of a number below 2^64 is printed
 pub decimal_printed : (n : ℕ) → n < 2 ^ 64 → IsPrinted (decimal n)
 decimal_printed n lt = digits_printed (decimal n) (digits_decimal own n lt)
 
@@ -122,6 +124,7 @@ unfolding FitsValue value_text
 value_printed version (Num n) h = decimal_printed n h
 value_printed version (Text bytes) h = (omega arith, weaken (λ b. (33 ≤ b) × (b ≤ 126)) (λ b. 33 ≤ b) (λ b p. p.0) bytes (recursion_from_All (λ b. (33 ≤ b) × (b ≤ 126)) bytes h.1.2))
 
+-- the words of nodes below a bound of at most 8 are printed
 pub nodes_printed : (b : ℕ) (ns : List ℕ) → b ≤ 8 → IsBelow b ns → AllByRecursion IsPrinted (map decimal ns)
 nodes_printed b [] le h = tt
 nodes_printed b (n ∷ ns) le h =
@@ -161,6 +164,7 @@ after_printed (Some j) k le h = (from_test (codes "after") refl, (decimal_printe
 
 -- ---- the lines of a script are lines
 
+-- if a transaction fits, then its words make a line
 pub tx_line : (config : Config) (names : List (List ℕ)) (k : ℕ) (t : TxDecl) → config.nodes ≤ 8 → config.slots ≤ 8 → k ≤ 2 ^ 64 → All IsName names → length names ≡ length config.objects → FitsTx config k t → IsLine (tx_words names t)
 unfolding IsLine tx_words
 tx_line config names k t nodes slots le each same h =
@@ -169,11 +173,13 @@ tx_line config names k t nodes slots le each same h =
 below_without : (b owner : ℕ) (ns : List ℕ) → IsBelow b ns → IsBelow b (without owner ns)
 below_without b owner ns h k g = h k (grind (arith, has-without k owner ns, g))
 
+-- if an object and its name fit, then their words make a line
 pub object_line : (version nodes : ℕ) (name : List ℕ) (o : ObjectDecl) → nodes ≤ 8 → IsName name → FitsValue version o.value → KeepsDeclaration version nodes o → IsLine (object_words name o)
 unfolding IsLine object_words
 object_line version nodes name o few is fits keeps =
     (from_test (codes "object") refl, (name_printed name is, (value_printed version o.value fits, (decimal_printed o.owner (omega (arith, keeps.owner)), nodes_printed nodes (without o.owner o.replicas) few (below_without nodes o.owner o.replicas keeps.replicas)))))
 
+-- if a step fits, then its words make a line
 pub step_line : (config : Config) (txs : ℕ) (step : Step) → config.nodes ≤ 8 → config.slots ≤ 8 → txs ≤ 2 ^ 64 → FitsStep config txs step → IsLine (step_words step)
 unfolding IsLine step_words FitsStep
 step_line config txs (steps.Begin k) nodes slots le h = (from_test (codes "begin") refl, (decimal_printed k (omega arith), tt))
@@ -184,30 +190,37 @@ step_line config txs (steps.Stop n) nodes slots le h = (from_test (codes "stop")
 step_line config txs (steps.View ns) nodes slots le h = (from_test (codes "view") refl, nodes_printed config.nodes ns nodes h.1)
 step_line config txs (steps.Install n e) nodes slots le h = (from_test (codes "install") refl, (decimal_printed n (omega (arith, h.0)), (decimal_printed e (omega (arith, h.2)), tt)))
 
+-- `run` makes a line
 pub run_line : IsLine (codes "run" ∷ [])
 unfolding IsLine
 run_line = (from_test (codes "run") refl, tt)
 
+-- `end` makes a line
 pub end_line : IsLine (codes "end" ∷ [])
 unfolding IsLine
 end_line = (from_test (codes "end") refl, tt)
 
+-- `zeus` and a number below 2^64 make a line
 pub zeus_line : (v : ℕ) → v < 2 ^ 64 → IsLine (codes "zeus" ∷ decimal v ∷ [])
 unfolding IsLine
 zeus_line v lt = (from_test (codes "zeus") refl, (decimal_printed v lt, tt))
 
+-- `nodes` and a number below 2^64 make a line
 pub nodes_line : (n : ℕ) → n < 2 ^ 64 → IsLine (codes "nodes" ∷ decimal n ∷ [])
 unfolding IsLine
 nodes_line n lt = (from_test (codes "nodes") refl, (decimal_printed n lt, tt))
 
+-- `slots` and a number below 2^64 make a line
 pub slots_line : (n : ℕ) → n < 2 ^ 64 → IsLine (codes "slots" ∷ decimal n ∷ [])
 unfolding IsLine
 slots_line n lt = (from_test (codes "slots") refl, (decimal_printed n lt, tt))
 
+-- `degree` and a number below 2^64 make a line
 pub degree_line : (n : ℕ) → n < 2 ^ 64 → IsLine (codes "degree" ∷ decimal n ∷ [])
 unfolding IsLine
 degree_line n lt = (from_test (codes "degree") refl, (decimal_printed n lt, tt))
 
+-- `directory` and nodes below a bound of at most 8 make a line
 pub directory_line : (b : ℕ) (ns : List ℕ) → b ≤ 8 → IsBelow b ns → IsLine (codes "directory" ∷ map decimal ns)
 unfolding IsLine
 directory_line b ns le h = (from_test (codes "directory") refl, nodes_printed b ns le h)

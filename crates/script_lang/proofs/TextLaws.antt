@@ -58,6 +58,7 @@ joined-cut d (b ∷ bs) = go (b == d) refl (joined-cut d bs)
         joined-front d [] (cut d bs) some ∙ ap (λ (w : List ℕ). d ∷ w) rest ∙ ap (λ (x : ℕ). x ∷ bs) (sym (eqb-true b d e))
     go false e rest = joined-with_byte d b (cut d bs) ∙ ap (λ (w : List ℕ). b ∷ w) rest
 
+-- the texts of lines and an empty part behind them are not nothing
 pub ended_lines : (ls : List (List (List ℕ))) → map words_text ls ++ [] ∷ [] ≡ [] → ⊥
 ended_lines [] none = cc
 ended_lines (l ∷ ls) none = cc
@@ -69,5 +70,6 @@ joined-lines [] = refl
 joined-lines (l ∷ ls) =
     joined-front 10 (words_text l) (map words_text ls ++ [] ∷ []) (ended_lines ls) ∙ rw (joined-lines ls) (sym (append_assoc (words_text l) (10 ∷ []) (lines_text ls)))
 
+-- if bytes are cut into the texts of lines and an empty part, then they are the text of these lines
 pub lines_of_parts : (bytes : List ℕ) (ls : List (List (List ℕ))) → cut 10 bytes ≡ map words_text ls ++ [] ∷ [] → bytes ≡ lines_text ls
 lines_of_parts bytes ls is = sym (joined-cut 10 bytes) ∙ ap (joined 10) is ∙ joined-lines ls

@@ -51,6 +51,7 @@ tx_made config names k ws ws1 ws2 ws3 node slot after tx same e1 n e2 s e3 a ops
   fits = record { node = n; slot = s; after = a; tx = ops.tx; ops = All-from_recursion (FitsOp config) tx (fits_ops config names tx same ops.fits) };
 }
 
+-- if a transaction is read, then the words spell one that fits
 pub tx_at-sound : (config : Config) (names : List (List ℕ)) (k : ℕ) (ws : List (List ℕ)) → length names ≡ length config.objects → IfRead (tx_at config.version config.nodes config.slots names k ws) (IsTxLine config names k ws)
 unfolding tx_at
 tx_at-sound config names k ws same =
@@ -84,6 +85,7 @@ after_at-words names k (Some j) (op ∷ all) small a some = ap (number_if k) (be
     behind : (names : List (List ℕ)) (op : Op) (all : List Op) (j : ℕ) → word_if (codes "after") (codes "after" ∷ decimal j ∷ tx_op_words names (op ∷ all)) ≡ (true, decimal j ∷ tx_op_words names (op ∷ all))
     behind names op all j = word_if-choice (codes "after") (decimal j ∷ tx_op_words names (op ∷ all)) true refl
 
+-- if a transaction fits, then reading its words gives it
 pub tx_at-words : (config : Config) (names : List (List ℕ)) (k : ℕ) (t : TxDecl) → config.nodes ≤ 8 → config.slots ≤ 8 → k ≤ 2 ^ 64 → length names ≡ length config.objects → AreNames names → FitsTx config k t → tx_at config.version config.nodes config.slots names k (tx_rest names t) ≡ Ok t
 unfolding tx_at
 tx_at-words config names k t few slots small same are fits =

@@ -20,10 +20,12 @@ use Rattle.script_lang.proofs.Sound.{IfRead, read_bind, read_ok, read_err, read_
 
 -- ---- names
 
+-- if a word is read as a name, then it is one, and the name is the word
 pub name_of_word-sound : (w : List ℕ) → IfRead (name_of_word w) (λ name. (name ≡ w) × IsName w)
 unfolding name_of_word
 name_of_word-sound w = read_cond (is_name w) _ _ _ (λ t. read_ok _ _ (refl, (is_name_Decides w).0 t)) (λ f. read_err _ _)
 
+-- if a word is a name, then it is read as that name
 pub name_of_word-name : (w : List ℕ) → IsName w → name_of_word w ≡ Ok w
 unfolding name_of_word
 name_of_word-name w name = rw ((is_name_Decides w).1 name) refl
@@ -42,6 +44,7 @@ marked : (w : List ℕ) → (slice_index w 0 == 39) ≡ true → w ≡ 39 ∷ dr
 marked [] h = absurd cc
 marked (b ∷ bs) h = ap (λ (x : ℕ). x ∷ bs) (eqb-true b 39 h)
 
+-- if a word is read as a value, then it spells the value, and the version has such values
 pub value_of-sound : (version : ℕ) (w : List ℕ) → IfRead (value_of version w) (λ v. (w ≡ value_text v) × FitsValue version v)
 unfolding value_of
 value_of-sound version w =
@@ -60,20 +63,24 @@ unmarked : (a b : Bool) → b ≡ false → (a && b) ≡ false
 unmarked true b h = h
 unmarked false b h = refl
 
+-- if the version has such values, then the word of a value is read as that value
 pub value_of-text : (version : ℕ) (v : Value) → FitsValue version v → value_of version (value_text v) ≡ Ok v
 unfolding value_of value_text FitsValue text_of
 value_of-text version (Num n) fits = rw (unmarked (version == 2) (slice_index (decimal n) 0 == 39) (no_mark n fits), number_of-decimal n fits) refl
 value_of-text version (Text bytes) fits = rw (eq-eqb version 2 fits.0, (is_text_Decides bytes).1 fits.1) refl
 
+-- if the next word is read as a value, then it spells the value, and the version has such values
 pub value_at-sound : (version : ℕ) (ws : List (List ℕ)) → IfRead (value_at version ws) (λ x. (ws ≡ value_text x.0 ∷ x.1) × FitsValue version x.0)
 unfolding value_at word_at
 value_at-sound version [] = read_err _ _
 value_at-sound version (w ∷ ws) = read_bind _ _ _ (value_of-sound version w) (λ v p. read_ok _ _ (ap (λ (u : List ℕ). u ∷ ws) p.0, p.1))
 
+-- if the version has such values, then the word of a value is read as it, and the words behind it are left
 pub value_at-text : (version : ℕ) (v : Value) (ws : List (List ℕ)) → FitsValue version v → value_at version (value_text v ∷ ws) ≡ Ok (v, ws)
 unfolding value_at word_at
 value_at-text version v ws fits = rw (value_of-text version v fits) refl
 
+-- in version 1 each value is a number
 pub number-in-version-1 : (v : Value) → FitsValue 1 v → is_num v ≡ true
 unfolding FitsValue is_num
 number-in-version-1 (Num n) fits = refl

@@ -32,35 +32,43 @@ Blames (Err k) = IsOfWord k
 pub record BlamesWord {A : Type 0} (r : Result A Kind) : Type 0 where
   pub holds : Blames r
 
+-- if a word is to blame for a first result and for each next one, then for both in sequence
 pub then : {A B : Type 0} (r : Result A Kind) (f : A → Result B Kind) → BlamesWord r → ((x : A) → BlamesWord (f x)) → BlamesWord (r >>= f)
 then (Ok x) f h g = g x
 then (Err k) f h g = record { holds = h.holds }
 
+-- nothing is to blame where reading succeeds
 pub ok : {A : Type 0} (x : A) → BlamesWord (Ok x)
 ok x = record { holds = tt }
 
+-- a word is to blame for an error whose kind is one of a word
 pub err : {A : Type 0} (k : Kind) → IsOfWord k → BlamesWord {A = A} (Err k)
 err k h = record { holds = h }
 
+-- if a word is to blame for either result, then for the one that a test chooses
 pub either : {A : Type 0} (b : Bool) (x y : Result A Kind) → BlamesWord x → BlamesWord y → BlamesWord (cond b x y)
 either true x y h g = h
 either false x y h g = g
 
+-- if a kind is one of a word, then a word is to blame where there is nothing to read
 pub some : {A : Type 0} (o : Option A) (k : Kind) → IsOfWord k → BlamesWord (or_fault o k)
 some None k h = record { holds = h }
 some (Some x) k h = record { holds = tt }
 
 -- ---- words and numbers
 
+-- if no word can be read, then a word is to blame
 pub word_blames : (ws : List (List ℕ)) → BlamesWord (word_at ws)
 unfolding word_at IsOfWord
 word_blames [] = err _ tt
 word_blames (w ∷ ws) = ok _
 
+-- if a keyword cannot be read, then a word is to blame
 pub keyword_blames : (k : List ℕ) (ws : List (List ℕ)) → BlamesWord (keyword_at k ws)
 unfolding keyword_at IsOfWord
 keyword_blames k ws = then _ _ (word_blames ws) (λ w. either _ _ _ (ok _) (err _ tt))
 
+-- if a line does not end, then a word is to blame
 pub ended_blames : (ws : List (List ℕ)) → BlamesWord (ended ws)
 unfolding ended IsOfWord
 ended_blames [] = ok _
@@ -70,6 +78,7 @@ range_of_blames : (lowest limit : ℕ) (w : List ℕ) → BlamesWord (range_of l
 unfolding range_of IsOfWord
 range_of_blames lowest limit w = then _ _ (some (number_of w) kinds.Number tt) (λ n. either _ _ _ (ok _) (err _ tt))
 
+-- if a number of a range cannot be read, then a word is to blame
 pub range_blames : (lowest limit : ℕ) (ws : List (List ℕ)) → BlamesWord (range_at lowest limit ws)
 unfolding range_at
 range_blames lowest limit ws = then _ _ (word_blames ws) (λ w. then _ _ (range_of_blames lowest limit w.0) (λ n. ok _))
@@ -82,6 +91,7 @@ listed_blames : (nodes : ℕ) (most owner : Option ℕ) (listed : List ℕ) (low
 unfolding listed_of IsOfWord
 listed_blames nodes most owner listed lowest w = either _ _ _ (err _ tt) (then _ _ (range_of_blames 0 nodes w) (λ n. either _ _ _ (err _ tt) (ok _)))
 
+-- if a list of nodes cannot be read, then a word is to blame
 pub nodes_blame : (nodes : ℕ) (most owner : Option ℕ) (listed : List ℕ) (lowest : ℕ) (ws : List (List ℕ)) → BlamesWord (nodes_after nodes most owner listed lowest ws)
 unfolding nodes_after
 nodes_blame nodes most owner listed lowest [] = ok _

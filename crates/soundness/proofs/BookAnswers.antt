@@ -63,6 +63,7 @@ one_record b of id r at others = record {
 
 -- ---- begin
 
+-- if a transaction has not begun, then its begin writes into the book just what its answer says
 pub begun-change : (b : Book) (k : ℕ) (a : BeginOutcome) → (record_of b k).begun ≡ None → IsChange b (book_begun b k a) (said_begin b.steps k a)
 unfolding book_begun said_begin
 begun-change b k BeginStopped none = IsChange-book_only b
@@ -145,6 +146,7 @@ refuse-change b t id x true =
     record { begun = leaves r.begun; entry = leaves r.entry; reply = leaves r.reply; point = keeps r.point; acked = keeps r.acked }
     (λ j other. refl)
 
+-- if a transaction that a try ends is open, then the try writes into the book just what its answer says
 pub tried-change : (b : Book) (t : Stream) (degree : Option ℕ) (a : Tried) → ((id : ℕ) → ended_id a ≡ Some id → IsOpen (record_of b id)) → IsChange b (book_tried b t degree a) (said_tried t a)
 unfolding book_tried said_tried ended_id
 tried-change b t degree (Committed id number reply) new = commit-change b t id number reply (new id refl)
@@ -157,6 +159,7 @@ tried-change b t degree _ new = IsChange-book_only b
 no_replies : (c : BookChange) → SaysReplies nothing_said c
 no_replies c id = (λ none. absurd cc, λ none. absurd cc)
 
+-- what a begin's answer says of entries and replies goes together: it says nothing of either
 pub said_begin-replies : (step k : ℕ) (a : BeginOutcome) (c : BookChange) → SaysReplies (said_begin step k a) c
 unfolding said_begin
 said_begin-replies step k BeginStopped c id = no_replies c id
@@ -166,6 +169,7 @@ said_begin-replies step k Begun c id = elim (cases_Bool (k == id)) [
   | inr other ↦ rw other (no_replies c id)
 ]
 
+-- what a try's answer says goes together: an entry comes with its reply, and a reply with an entry or a point
 pub said_tried-replies : (b : Book) (t : Stream) (degree : Option ℕ) (a : Tried) → SaysReplies (said_tried t a) (book_tried b t degree a)
 unfolding said_tried book_tried
 said_tried-replies b t degree (Committed i number reply) id = elim (cases_Bool (i == id)) [

@@ -12,11 +12,13 @@ use Rattle.soundness.proofs.Written.{Writes, leaves, Writes-none}
 
 -- ---- lists of transactions
 
+-- the transactions of two lists of points put together are those of the first and then those of the second
 pub ids_of-append : (ps qs : List Point) → ids_of (ps ++ qs) ≡ ids_of ps ++ ids_of qs
 unfolding ids_of
 ids_of-append [] qs = refl
 ids_of-append (p ∷ ps) qs = ap (λ (l : List ℕ). p.id ∷ l) (ids_of-append ps qs)
 
+-- a transaction stands in two lists put together as often as in both
 pub how_often-append : (id : ℕ) (js ks : List ℕ) → how_often id (js ++ ks) ≡ how_often id js + how_often id ks
 unfolding how_often
 how_often-append id [] ks = omega arith
@@ -102,6 +104,7 @@ IsChange-then b c d said first second = record {
 
 -- ---- no change
 
+-- a record that stays is written by a step that says and tells nothing of it
 pub IsRewritten-same : (step : ℕ) (r : TxRecord) → IsRewritten step record { begun = None; entry = None; reply = None } 0 0 r r
 IsRewritten-same step r = record { begun = leaves r.begun; entry = leaves r.entry; reply = leaves r.reply; point = keeps r.point; acked = keeps r.acked }
 

@@ -49,6 +49,7 @@ point-told : (step k : ℕ) (old new : Option ℕ) → Notes step k old new → 
 point-told step k old new (keeps _) h = absurd (omega arith)
 point-told step k old new notes h = refl
 
+-- if the book has the replies of its history and a change says what goes together, then it has them after the change
 pub HasReplies-after : (b : Book) (c : BookChange) (said : ℕ → Said) → HasReplies b → IsChange b c said → SaysReplies said c → HasReplies c.book
 HasReplies-after b c said r h says = record {
   points = λ p i. elim (In-append p b.points h.added (subst (λ (l : List Point). In p l) h.points i)) [
@@ -81,23 +82,29 @@ HasReplies-passed b c r h = HasReplies-after b c nothing_said r h (λ id. (λ no
 
 -- ---- a point and an acknowledgement
 
+-- a transaction stands in the list of it alone once
 pub how_often-one : (id : ℕ) → how_often id (id ∷ []) ≡ 1
 unfolding how_often
 how_often-one id = rw (eq-eqb id id refl) refl
 
+-- another transaction stands in that list never
 pub how_often-other : (id j : ℕ) → j ≢ id → how_often j (id ∷ []) ≡ 0
 unfolding how_often
 how_often-other id j other = rw (ne_eqb id j (λ e. other (sym e))) refl
 
+-- the point of a transaction goes into its record
 pub pointed-here : (b : Book) (id : ℕ) → record_of (book_point b id) id ≡ record (record_of b id) { point = Some b.steps }
 pointed-here b id = nth-put_same no_record b.records id (record (record_of b id) { point = Some b.steps })
 
+-- the point of a transaction leaves the record of each other one
 pub pointed-other : (b : Book) (id j : ℕ) → j ≢ id → record_of (book_point b id) j ≡ record_of b j
 pointed-other b id j other = nth-put_other no_record b.records id j (record (record_of b id) { point = Some b.steps }) (λ e. other (sym e))
 
+-- the acknowledgement of a transaction goes into its record
 pub acked-here : (b : Book) (id : ℕ) → record_of (book_ack b id) id ≡ record (record_of b id) { acked = Some b.steps }
 acked-here b id = nth-put_same no_record b.records id (record (record_of b id) { acked = Some b.steps })
 
+-- the acknowledgement of a transaction leaves the record of each other one
 pub acked-other : (b : Book) (id j : ℕ) → j ≢ id → record_of (book_ack b id) j ≡ record_of b j
 acked-other b id j other = nth-put_other no_record b.records id j (record (record_of b id) { acked = Some b.steps }) (λ e. other (sym e))
 
@@ -115,6 +122,7 @@ In-one : {A : Type 0} (a b : A) → In a (b ∷ []) → a ≡ b
 In-one a b (here _ _ e) = e
 In-one a b (there _ _ i) = elim i [ ]
 
+-- no transaction stands in the empty list
 pub how_often-none : (id : ℕ) → how_often id [] ≡ 0
 unfolding how_often
 how_often-none id = refl
@@ -154,6 +162,7 @@ reply_added b id reply p has_reply i =
     let given : reply_or (record_of b id).reply ≡ reply = ap (λ (o : Option Reply). reply_or o) has_reply in
     rw is (kept ∙ ap (λ (r : Reply). Some r) (sym given))
 
+-- if a transaction has a reply, then its entry's pass writes its point, if it had none, and tells just that
 pub point_once-change : (b : Book) (id : ℕ) (o : Option ℕ) (reply : Reply) → (record_of b id).point ≡ o → (record_of b id).reply ≡ Some reply → IsChange b (point_once b id o) nothing_said
 unfolding point_once ids_of
 point_once-change b id (Some step) reply is has_reply = IsChange-book_only b
@@ -167,6 +176,7 @@ point_once-change b id None reply is has_reply = record {
       (λ j other. (refl, how_often-other id j other, how_often-none j, pointed-other b id j other));
 }
 
+-- an entry's pass at its own node writes the acknowledgement, if there was none, and tells just that
 pub ack_once-change : (b : Book) (id : ℕ) (own : Bool) (o : Option ℕ) → (record_of b id).acked ≡ o → IsChange b (ack_once b id own o) nothing_said
 unfolding ack_once ids_of
 ack_once-change b id own (Some step) is = IsChange-book_only b
@@ -222,6 +232,7 @@ tx_of-entry b s k id h =
     let same : found.0 ≡ id = let e = found.1 in omega arith in
     subst (λ (j : ℕ). is_some (record_of b j).entry ≡ true) same found.2
 
+-- if the book has the replies of its history, then passes of a stream's entries write just what they tell
 pub pass_numbers-change : (b : Book) (own : Bool) (s : Stream) (ks : List ℕ) → HasReplies b → IsChange b (pass_numbers b own s ks) nothing_said
 unfolding pass_numbers
 pass_numbers-change b own s [] r = IsChange-book_only b
@@ -230,6 +241,7 @@ pass_numbers-change b own s (k ∷ ks) r =
     let first = pass_tx-change b own (tx_of b s k) r (λ id h. tx_of-entry b s k id h) in
     IsChange-then b c (pass_numbers c.book own s ks) nothing_said first (pass_numbers-change c.book own s ks (HasReplies-passed b c r first))
 
+-- if the book has the replies of its history, then all passes of a step write just what they tell
 pub book_passes-change : (b : Book) (me : ℕ) (ps : List Passed) → HasReplies b → IsChange b (book_passes b me ps) nothing_said
 unfolding book_passes
 book_passes-change b me [] r = IsChange-book_only b

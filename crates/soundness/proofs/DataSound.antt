@@ -30,14 +30,17 @@ use Rattle.data_safety.specs.RunState.{Witness, run_state, txs_of, place_now}
 use Rattle.data_safety.specs.DataInvariant.{DataInvariant, IsNewer, left, content_of}
 use Rattle.soundness.proofs.Owners.{live_owner}
 
+-- the system of a world has the world's configuration
 pub system_config : (w : World) → (system w).config ≡ w.config
 unfolding system
 system_config w = refl
 
+-- if an object is declared in a world, then it is one of its system
 pub system_objects : (w : World) (x : ℕ) → x < length w.config.objects → x < length (system w).config.objects
 unfolding system
 system_objects w x h = h
 
+-- the system of a world has the world's nodes
 pub system_node : (w : World) (n : ℕ) → (system w).node n ≡ node w n
 unfolding system
 system_node w n = refl
@@ -49,10 +52,12 @@ unfolding history_txs txs_of
 txs-same w [] = refl
 txs-same w (p ∷ ps) = ap (λ (ts : List (List Op)). (nth Rattle.zeus_model.specs.World.no_tx w.txs p.id).tx ∷ ts) (txs-same w ps)
 
+-- if there is something, then it has a value
 pub some_value : {A : Type 0} (o : Option A) → is_some o ≡ true → (a : A) × (o ≡ Some a)
 some_value None h = cc
 some_value (Some a) h = (a, refl)
 
+-- if what is found is two values, then these are equal
 pub same_some : (o : Option ℕ) (a b : ℕ) → o ≡ Some a → o ≡ Some b → a ≡ b
 same_some o a b e f = cc
 
@@ -108,6 +113,7 @@ unfolding nth
 newest-each x e n ns top more zero h = not_below-trans (entry n x).stamp (newer e (entry n x)).stamp top.stamp (newer-second e (entry n x)) more.first
 newest-each x e n ns top more (suc i) h = more.each i (omega arith)
 
+-- the newest of entries is one of them, and none is above it
 pub newest-is : (x : ℕ) (e : Entry) (ns : List Node) → IsNewest x e ns (newest x e ns)
 unfolding newest nth
 newest-is x e [] = record { first = is_below-irrefl e.stamp; each = λ i h. absurd (omega arith); found = inl refl }
@@ -125,10 +131,12 @@ newest-is x e (n ∷ ns) =
       ];
     }
 
+-- the latest entry of an object is the newest one of all nodes
 pub latest-newest : (w : World) (x : ℕ) → IsNewest x (entry (node w 0) x) w.nodes (latest_entry w x)
 unfolding latest_entry
 latest-newest w x = newest-is x (entry (node w 0) x) w.nodes
 
+-- a node's entry of an object in the system is that in the world
 pub object_node : (w : World) (x i : ℕ) → i < w.config.nodes → (object (system w) x).entry i ≡ entry (node w i) x
 object_node w x i h = object-entry (system w) x i (rw (system_config w) h) ∙ ap (λ (n : Node). entry n x) (system_node w i)
 
@@ -180,6 +188,7 @@ latest_is w u x f count within =
 
 -- ---- copies
 
+-- if a copy is what the history leaves, or a newer write that has not passed, then it is up to date
 pub up_to_date : (w : World) (u : Witness) (n x : ℕ) (c : Copy) → (content_of c ≡ left (run_state w) x) ⊎ IsNewer (run_state w) u n x c → left (run_state w) x ≡ record { ver = (left_of w x).ver; value = (left_of w x).value }
     → IsUpToDate c (left_of w x)
 up_to_date w u n x c (inl same) is = record {
@@ -193,6 +202,7 @@ up_to_date w u n x c (inr newer) is = record {
   same = λ h. let v : (left (run_state w) x).ver ≡ (left_of w x).ver = ap (λ (k : Content). k.ver) is in let a = newer.above in absurd (omega arith);
 }
 
+-- what the history leaves of an object is the same in the run's state and in the world
 pub left-same : (w : World) (x : ℕ) → left (run_state w) x ≡ record { ver = (left_of w x).ver; value = (left_of w x).value }
 unfolding left system
 left-same w x = rw (txs-same w w.book.points) refl

@@ -19,6 +19,7 @@ fits-step c txs (Stop n) h = h
 fits-step c txs (View set) h = (h.0, h.1)
 fits-step c txs (Install n e) h = (h.0, h.1)
 
+-- if steps keep the limits, then they fit their configuration
 pub fits-steps : (c : Config) (txs : List TxDecl) (steps : List Step) → All (FitsStep c (length txs)) steps → All (StepFits c txs) steps
 fits-steps c txs [] h = All-nil (StepFits c txs)
 fits-steps c txs (s ∷ ss) h =

@@ -60,11 +60,13 @@ tx-declared c k [] id x fits h = absurd (nothing_mentioned x h)
 tx-declared c k (t ∷ ts) zero x fits h = named-declared c t.tx [] x fits.0.ops (λ y m. absurd (nothing_mentioned y m)) h
 tx-declared c k (t ∷ ts) (suc id) x fits h = tx-declared c (suc k) ts id x fits.1 h
 
+-- if transactions fit, then they name declared objects
 pub names-declared : (c : Config) (txs : List TxDecl) → FitTxs c 0 txs → NamesDeclared c txs
 names-declared c txs fits = λ id x h. tx-declared c 0 txs id x fits h
 
 -- ---- there are as many nodes as the configuration says
 
+-- at the start there are as many nodes as configured
 pub start-counts : (c : Config) (txs : List TxDecl) → length (start c txs).nodes ≡ (start c txs).config.nodes
 unfolding start
 start-counts c txs = length-map_numbers (start_node c) 0 c.nodes
@@ -118,6 +120,7 @@ install-counts w n e h within = elim (cases_Bool (nat_lt (length w.views) e)) [
   | inr known ↦ rw known (put-counts w n _ h within)
 ]
 
+-- if there are as many nodes as configured, then there are so after a step that fits
 pub step-counts : (w : World) (txs : List TxDecl) (s : Step) → length w.nodes ≡ w.config.nodes → StepFits w.config txs s → length (stepped w s).nodes ≡ (stepped w s).config.nodes
 unfolding happens StepFits tried_at ticked_at stopped_at step_begin
 step-counts w txs (Begin k) h fits = begin-counts w k (begin_refused w k) refl h

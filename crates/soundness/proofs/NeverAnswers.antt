@@ -11,22 +11,27 @@ never-of : (a : Answer) (cause : Cause) → a ≡ Receive (Refused cause) → Ne
 unfolding NeverComes IsNeverRefused
 never-of a cause e h = rw e h
 
+-- a refusal because the stream is the receiver's own is an answer that never comes
 pub never-own_stream : (a : Answer) → a ≡ Receive (Refused OwnStream) → NeverComes a
 unfolding NeverStands
 never-own_stream a e = never-of a OwnStream e tt
 
+-- a refusal because the receiver's window for the stream is full is an answer that never comes
 pub never-window : (a : Answer) → a ≡ Receive (Refused Window) → NeverComes a
 unfolding NeverStands
 never-window a e = never-of a Window e tt
 
+-- a refusal because the receiver is no arbiter of the proposal is an answer that never comes
 pub never-not_arbiter : (a : Answer) → a ≡ Receive (Refused NotArbiter) → NeverComes a
 unfolding NeverStands
 never-not_arbiter a e = never-of a NotArbiter e tt
 
+-- a refusal because the receiver is no collector of the proposal is an answer that never comes
 pub never-not_collector : (a : Answer) → a ≡ Receive (Refused NotCollector) → NeverComes a
 unfolding NeverStands
 never-not_collector a e = never-of a NotCollector e tt
 
+-- a refusal because the placement would make the receiver the owner without its own request is an answer that never comes
 pub never-own_place : (a : Answer) → a ≡ Receive (Refused OwnPlace) → NeverComes a
 unfolding NeverStands
 never-own_place a e = never-of a OwnPlace e tt

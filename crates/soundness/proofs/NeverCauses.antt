@@ -136,6 +136,7 @@ leave-may Leave n requester place =
     (where_true-may (not (exceeds n.degree (length (meet place.replicas n.members)))) Degree degree_stands)
     (where_true-may (is_node (source place n.members) requester) IsSource source_stands)
 
+-- the cause for which a node refuses a request is one that may stand
 pub request-may : (n : Node) (x requester : ℕ) (want : Want) → MayStand (request_cause n x requester want)
 unfolding request_cause drive_cause
 request-may n x requester want =
@@ -178,6 +179,7 @@ unfolding where_true MayStand
 where_false-may true cause h = absurd cc
 where_false-may false cause h = tt
 
+-- if a node is an arbiter of a proposal's base, then the cause for which it does not hold the proposal is one that may stand
 pub hold-may : (n : Node) (x : ℕ) (p : Proposal) → IsArbiterOf n p.base_place → MayStand (hold_cause n x p)
 unfolding hold_cause
 hold-may n x p arbiter =

@@ -52,6 +52,7 @@ stream-home : (s : SystemState) (t : Stream) → (stream_state s t).home ≡ t.n
 unfolding stream_state
 stream-home s t = refl
 
+-- if a stream is replicated safely, then the letter of an entry that a live node can take is one that it may expect
 pub rinv_expected : (s : SystemState) (n : ℕ) (l : Letter) (r : Invalidation) → IsNumbered s → IsLive s n → IsReceivable s n l → l.body ≡ RInv r → IsKept (stream_state s r.stream)
     → Expected (s.node n) (RInv r)
 unfolding Expected
@@ -62,6 +63,7 @@ rinv_expected s n l r numbered live at is kept =
       (kept.1.copies l.from l.to l.epoch r.number r.done _ heard).near,
     )
 
+-- if a stream is replicated safely, then the letter of passed entries that a live node can take is one that it may expect
 pub rval_expected : (s : SystemState) (n : ℕ) (l : Letter) (t : Stream) (d : ℕ) → IsNumbered s → IsLive s n → IsReceivable s n l → l.body ≡ RVal t d → IsKept (stream_state s t)
     → Expected (s.node n) (RVal t d)
 unfolding Expected
@@ -110,12 +112,14 @@ some-is_node : (o : Option ℕ) (n : ℕ) → o ≡ Some n → is_node o n ≡ t
 unfolding is_node
 some-is_node o n h = rw h (eq-eqb n n refl)
 
+-- if a live node is a directory node or the source of a place in its view, then it knows that it is an arbiter
 pub arbiter-known : (s : SystemState) (n : ℕ) (place : Place) → IsNumbered s → IsLive s n
     → (has n s.config.directory ≡ true) ⊎ (source place (view s (s.node n).epoch) ≡ Some n) → IsArbiterOf (s.node n) place
 arbiter-known s n place numbered live (inl directory) = inl (rw (numbered.me n live, numbered.directory n live) directory)
 arbiter-known s n place numbered live (inr at_source) =
     inr (rw (numbered.me n live, numbered.members n live) (some-is_node (source place (view s (s.node n).epoch)) n at_source))
 
+-- if a live node is a proposal's requester, or that one is no member, then it knows that it is the collector
 pub collector-known : (s : SystemState) (n : ℕ) (p : Proposal) → IsNumbered s → IsLive s n
     → (p.requester ≡ n) ⊎ (has p.requester (view s (s.node n).epoch) ≡ false) → IsCollectorOf (s.node n) p
 collector-known s n p numbered live (inl mine) = inl (mine ∙ sym (numbered.me n live))
@@ -133,6 +137,7 @@ unfolding object
 collector_of s x n l p c chain numbered live at is ownership =
     collector-known s n p numbered live (ack-collector (object s x) chain ownership l.from n p c (heard_oack s x n l p c at is))
 
+-- if the ownership invariant of an object holds, then an OInv that a live node can take is one that it may expect
 pub oinv_expected : (s : SystemState) (x n : ℕ) (l : Letter) (p : Proposal) (chain : List Proposal) → IsNumbered s → IsLive s n → IsReceivable s n l → l.body ≡ OInv x p
     → OwnershipInvariant (object s x) chain → Expected (s.node n) (OInv x p)
 unfolding Expected
@@ -144,6 +149,7 @@ oinv_expected s x n l p chain numbered live at is ownership =
           (λ below named. base-own_place o chain ownership n (s.node n).epoch p (object-live s x n live) (inl (l.from, n, heard)) below named),
     )
 
+-- if the ownership invariant of an object holds, then an OAck that a live node can take is one that it may expect
 pub oack_expected : (s : SystemState) (x n : ℕ) (l : Letter) (p : Proposal) (c : Option Content) (chain : List Proposal) → IsNumbered s → IsLive s n → IsReceivable s n l
     → l.body ≡ OAck x p c → OwnershipInvariant (object s x) chain → Expected (s.node n) (OAck x p c)
 unfolding Expected object
@@ -157,6 +163,7 @@ oack_expected s x n l p c chain numbered live at is ownership =
           (λ not_below below named other. ack-own_place o chain ownership l.from n p c (object-live s x n live) heard not_below below named other),
     )
 
+-- if the ownership invariant of an object holds, then an OVal that a live node can take is one that it may expect
 pub oval_expected : (s : SystemState) (x n : ℕ) (l : Letter) (t : Stamp) (place : Place) (chain : List Proposal) → IsNumbered s → IsLive s n → IsReceivable s n l
     → l.body ≡ OVal x t place → OwnershipInvariant (object s x) chain → Expected (s.node n) (OVal x t place)
 unfolding Expected

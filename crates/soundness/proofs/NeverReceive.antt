@@ -275,6 +275,7 @@ run_foreseen c txs steps keeps fits =
       ];
     }
 
+-- if the steps of a run keep the limits, then the next one, whichever it is, gives no answer that never comes
 pub run_never_refused : (c : Config) (txs : List TxDecl) (steps : List Step) (s : Step) → KeepsLimits c → All (StepFits c txs) steps
     → NeverComes (happens (run (start c txs) steps) s).answer → ⊥
 unfolding MayAnswer

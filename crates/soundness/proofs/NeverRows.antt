@@ -311,6 +311,7 @@ recovered-may n from = cond_both (has from n.reported) _ _ (λ (d : Did Outcome)
 
 -- ---- each letter
 
+-- if a node may expect a letter, then what it answers may come
 pub row-may : (body : Body) (n : Node) (from : ℕ) → Expected n body → MayCome (row n from body).answer
 unfolding row Expected
 row-may (RInv r) n from e = rinv-may n from r e.0 e.1

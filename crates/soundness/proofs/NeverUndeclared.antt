@@ -108,15 +108,18 @@ rewritten-none w = refl
 untouched-copies : (n : Node) (cs : List (Option Copy)) (x : ℕ) → nth None cs x ≡ None → IsUntouchedNode n x → IsUntouchedNode (with_copies n cs) x
 untouched-copies n cs x c h = record { stamp = h.stamp; place = h.place; held = h.held; copy = c; gather = h.gather }
 
+-- if a node has nothing of an object, then it has nothing of it with another slot
 pub untouched-with_slot : (n : Node) (i : ℕ) (l : Slot) (x : ℕ) → IsUntouchedNode n x → IsUntouchedNode (with_slot n i l) x
 untouched-with_slot n i l x h = record { stamp = h.stamp; place = h.place; held = h.held; copy = h.copy; gather = h.gather }
 
+-- if a node has nothing of an object, then it has nothing of it with another stored stream
 pub untouched-with_log : (n : Node) (t : Stream) (l : StreamLog) (x : ℕ) → IsUntouchedNode n x → IsUntouchedNode (with_log n t l) x
 untouched-with_log n t l x h = record { stamp = h.stamp; place = h.place; held = h.held; copy = h.copy; gather = h.gather }
 
 untouched-passing : (n : Node) (ws : List Write) (x : ℕ) → IsUntouchedNode n x → IsUntouchedNode (with_copies n (each_write validated n.copies ws)) x
 untouched-passing n ws x h = untouched-copies n (each_write validated n.copies ws) x (no_copy_comes validated validated-none n.copies ws x h.copy) h
 
+-- if a node has nothing of an object, then it has nothing of it when it knows more entries to have passed
 pub untouched-raise : (n : Node) (t : Stream) (d x : ℕ) → IsUntouchedNode n x → IsUntouchedNode (raise n t d) x
 unfolding raise
 untouched-raise n t d x h =
@@ -124,17 +127,21 @@ untouched-raise n t d x h =
     (λ _. untouched-with_log (after_passing n (take (d - (log n t).done) (log n t).kept)) t _ x (untouched-passing n _ x h))
     (λ _. h)
 
+-- if a node has nothing of an object, then it has nothing of it when it stores an entry
 pub untouched-store : (n : Node) (r : Invalidation) (x : ℕ) → IsUntouchedNode n x → IsUntouchedNode (store n r) x
 untouched-store n r x h =
     untouched-with_log (with_copies n (each_write applied n.copies r.writes)) r.stream _ x
     (untouched-copies n (each_write applied n.copies r.writes) x (no_copy_comes applied applied-none n.copies r.writes x h.copy) h)
 
+-- if a node has nothing of an object, then it has nothing of it when an entry of its own stream passes
 pub untouched-pass_own : (n : Node) (i k x : ℕ) → IsUntouchedNode n x → IsUntouchedNode (pass_own n i k) x
 untouched-pass_own n i k x h = untouched-with_slot _ i _ x (untouched-passing n _ x h)
 
+-- if a node has nothing of an object, then it has nothing of it when an entry of another node's stream passes
 pub untouched-pass_kept : (n : Node) (t : Stream) (k x : ℕ) → IsUntouchedNode n x → IsUntouchedNode (pass_kept n t k) x
 untouched-pass_kept n t k x h = untouched-with_log _ t _ x (untouched-passing n _ x h)
 
+-- if a node has nothing of an object, then it has nothing of it when it commits
 pub untouched-committed : (n : Node) (i : ℕ) (c : Current) (ran : Ran) (followers : List ℕ) (writes : List Write) (x : ℕ) → IsUntouchedNode n x
     → IsUntouchedNode (committed n i c ran followers writes) x
 untouched-committed n i c ran followers writes x h =
@@ -142,6 +149,7 @@ untouched-committed n i c ran followers writes x h =
 
 -- ---- ownership
 
+-- if a node has nothing of an object, then it has nothing of it when it holds a proposal that leaves the object so
 pub untouched-holding : (n : Node) (y : ℕ) (p : Proposal) (x : ℕ) → (y ≡ x → IsUntouchedProposal p) → IsUntouchedNode n x → IsUntouchedNode (holding n y p) x
 unfolding IsUntouchedHeld
 untouched-holding n y p x says h =
@@ -166,6 +174,7 @@ no_content-noted p (Some g) from c h e =
     cond_both (same_stamp g.proposal.stamp p.stamp) g record { proposal = p; acks = []; content = None } (λ (k : Gather). or_else k.content c ≡ None)
     (λ _. rw h e) (λ _. e)
 
+-- if a node has nothing of an object, then it has nothing of it when it notes an acknowledgement without a content of it
 pub untouched-noted : (n : Node) (y from : ℕ) (p : Proposal) (c : Option Content) (x : ℕ) → (y ≡ x → c ≡ None) → IsUntouchedNode n x
     → IsUntouchedNode (with_gather n y (Some (noted (gather_for p (gather n y)) from c))) x
 untouched-noted n y from p c x says h =
@@ -195,6 +204,7 @@ untouched-settle_other n y stamp place x other h =
     (λ _. untouched-as n m x (nth-put_other no_entry n.entries y x e other) refl (nth-put_other None n.gathers y x g other) h)
     (λ _. h)
 
+-- if a node has nothing of an object, then it has nothing of it when it brings in another object
 pub untouched-bring_other : (n : Node) (y : ℕ) (p : Proposal) (c : Content) (x : ℕ) → x ≢ y → IsUntouchedNode n x → IsUntouchedNode (bring n y p c) x
 unfolding bring
 untouched-bring_other n y p c x other h =
@@ -215,6 +225,7 @@ dropped-none [] x = refl
 dropped-none (g ∷ gs) zero = refl
 dropped-none (g ∷ gs) (suc x) = dropped-none gs x
 
+-- if a node has nothing of an object, then it has nothing of it when it installs a view
 pub untouched-installed : (n : Node) (e : ℕ) (members : List ℕ) (x : ℕ) → IsUntouchedNode n x
     → IsUntouchedNode (record n { epoch = e; members = members; reported = []; gathers = dropped n.gathers }) x
 unfolding HasNoContent

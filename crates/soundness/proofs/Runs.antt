@@ -35,6 +35,7 @@ pub record IsReached (w : World) : Type 0 where
 pub reached-sound : (w : World) → IsReached w → Sound w
 reached-sound w r = invariant-sound w r.witness r.data_invariant r.counts
 
+-- if a configuration keeps the limits and its transactions fit, then its start is reached
 pub start-reached : (c : Config) (txs : List TxDecl) → KeepsLimits c → FitTxs c 0 txs → IsReached (start c txs)
 start-reached c txs keeps fits = record {
   usual = start_usual c txs keeps;
@@ -57,6 +58,7 @@ step-reached c txs w s config same r fits =
       data_invariant = next.1;
     }
 
+-- if a world is reached and steps fit, then the world after them is reached
 pub run-reached : (c : Config) (txs : List TxDecl) (steps : List Step) (w : World) → w.config ≡ c → w.txs ≡ txs → IsReached w → All (StepFits c txs) steps → IsReached (run w steps)
 unfolding run
 run-reached c txs [] w config same r fits = r
@@ -82,6 +84,7 @@ All-take P zero xs h = All-nil P
 All-take P (suc k) [] h = All-nil P
 All-take P (suc k) (x ∷ xs) h = All-cons P x (take k xs) (All-head P x xs h) (All-take P k xs (All-tail P x xs h))
 
+-- if a configuration, its transactions and steps keep the limits, then the world after each number of steps is sound
 pub prefix-sound : (c : Config) (txs : List TxDecl) (steps : List Step) (k : ℕ) → KeepsLimits c → FitsTxs c txs → All (FitsStep c (length txs)) steps
     → Sound (run (start c txs) (take k steps))
 prefix-sound c txs steps k keeps fit fits = run-sound c txs (take k steps) keeps fit (All-take (FitsStep c (length txs)) k steps fits)

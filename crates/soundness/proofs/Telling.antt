@@ -29,6 +29,7 @@ IsAt-next : (w : World) (s t : Step) (ss : List Step) (k : ℕ) (e : Event) → 
 unfolding events
 IsAt-next w s t ss k e h = record { step = h.step; event = h.event }
 
+-- if something was made along a run at a place, then a step and its event stand there and it was made of these
 pub along-found : {A : Type 0} (f : ℕ → Step → Event → A) (j : ℕ) (w : World) (ss : List Step) (k : ℕ) (a : A) → slice_get (along f j w ss) k ≡ Some a
     → (s : Step) × (e : Event) × IsAt w ss k s e × (f (j + k) s e ≡ a)
 unfolding along events
@@ -41,6 +42,7 @@ along-found f j w (s ∷ ss) (suc k) a h =
     let same : j + suc k ≡ suc j + k = omega arith in
     (more.0, more.1, IsAt-next w s more.0 ss k more.1 more.2, rw same more.3)
 
+-- if a step and its event stand at a place of a run, then what is made of them stands there
 pub along-there : {A : Type 0} (f : ℕ → Step → Event → A) (j : ℕ) (w : World) (ss : List Step) (k : ℕ) (s : Step) (e : Event) → IsAt w ss k s e
     → slice_get (along f j w ss) k ≡ Some (f (j + k) s e)
 unfolding along events
@@ -103,6 +105,7 @@ unfolding FitsOnce
 FitsOnce-then k m n old mid (keeps _) h = let none : 0 + n ≡ n = omega arith in rw none h
 FitsOnce-then k m n old mid notes h = omega arith
 
+-- that nothing more is told fits whatever was told before
 pub FitsOnce-none : (o : Option ℕ) → FitsOnce o 0
 unfolding FitsOnce
 FitsOnce-none None = omega arith
@@ -123,6 +126,7 @@ pub record RunTells (w : World) (ss : List Step) : Type 0 where
   pub records : (id : ℕ) → Writing w.book.steps w ss id (record_of w.book id) (record_of (run w ss).book id)
   pub replies : HasReplies (run w ss).book
 
+-- if the book has the replies of its history, then a run of no steps tells what the book has
 pub RunTells-none : (w : World) → HasReplies w.book → RunTells w []
 unfolding run events told_points told_acks along how_often
 RunTells-none w r = record {
@@ -159,6 +163,7 @@ writing_more k w s ss id old mid new one more =
           (FitsOnce-then k (how_often id e.acked) (how_often id (told_acks (events (stepped w s) ss))) old.acked mid.acked one.acked more.once);
     }
 
+-- if a step tells what it writes and so do the steps after it, then so do all of them
 pub RunTells-more : (w : World) (s : Step) (ss : List Step) → StepTells w s (happens w s) → RunTells (stepped w s) ss → RunTells w (s ∷ ss)
 unfolding run events told_points
 RunTells-more w s ss one more = record {

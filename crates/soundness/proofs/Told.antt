@@ -342,6 +342,7 @@ module _ (w : World) (steps : List Step) (new : IsNew w) (t : RunTells w steps) 
 
 -- ---- the start
 
+-- at the start nothing has happened yet
 pub start-new : (c : Config) (txs : List TxDecl) → IsNew (start c txs)
 unfolding start
 start-new c txs = record { steps = refl; points = refl; records = λ id. elim (nth-replicate no_record no_record (length txs) id) [ inl is ↦ is | inr is ↦ is ] }
@@ -349,6 +350,7 @@ start-new c txs = record { steps = refl; points = refl; records = λ id. elim (n
 no_reply_there : (r : TxRecord) → r ≡ no_record → (is_some r.reply ≡ true → ⊥) × (is_some r.entry ≡ true → ⊥)
 no_reply_there r is = rw is (λ none. cc, λ none. cc)
 
+-- if nothing has happened yet, then the book has the replies of its history
 pub new-replies : (w : World) → IsNew w → HasReplies w.book
 new-replies w new = record {
   points = λ p i. let none : In p [] = subst (λ (ps : List Point). In p ps) new.points i in elim none [ ];

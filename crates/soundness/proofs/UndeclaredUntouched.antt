@@ -170,6 +170,7 @@ hold_untouched old new x n y p ch steady h says =
     changes_untouched old new x n (holding (old.node n) y p) (IsAboutProposal (old.node n) y p) ch h (untouched-holding (old.node n) y p x says (h.nodes n))
     (λ l about. untouched_letter old.config old.views n (old.node n) y x p l (steady.nodes n ch.live) (h.nodes n) says about)
 
+-- if nothing came of an object before a move, then nothing comes of it by the move
 pub move_untouched : (old new : SystemState) (x : ℕ) → IsSteady old → Move old new → IsUntouched old x → IsUntouched new x
 move_untouched old new x steady (makes_view set v) h = view_untouched old new x set v steady h
 move_untouched old new x steady (stops n ch) h = quiet_untouched old new x n _ ch h (untouched-as (old.node n) _ x refl refl refl (h.nodes n))
@@ -201,6 +202,7 @@ move_untouched old new x steady (hears n m l is by at ch) h = quiet_untouched ol
 move_untouched old new x steady (commits n s c less is cause ch) h =
     quiet_untouched old new x n _ ch h (untouched-committed (old.node n) s c (run_here (old.node n) c.tx) _ _ x (h.nodes n))
 
+-- if nothing came of an object before some moves, then nothing comes of it by them
 pub moves_untouched : (old new : SystemState) (x : ℕ) → IsSteady old → Moves old new → IsUntouched old x → IsUntouched new x
 moves_untouched old new x steady (none _ _ same) h = same_untouched old new x same h
 moves_untouched old new x steady (next _ mid _ m ms) h = moves_untouched mid new x (move_keep old mid m steady) ms (move_untouched old mid x steady m h)

@@ -65,6 +65,7 @@ plain_verdict v status is =
       | inr unsound ↦ record { written = λ e. cc (unsound, is, e); read = λ e. cc (unsound, is, e); memory = λ e. cc (unsound, is, e) }
     ]
 
+-- the status of an answer is none of a fault, and none of want of memory
 pub answer-plain : (c : Option Command) (before after : Option (List ℕ)) (status : Status) (text : List ℕ) → IsAnswer c before after status text → IsPlain status
 answer-plain None before after status text h = record { written = λ e. cc (h.0, e); read = λ e. cc (h.0, e); memory = λ e. cc (h.0, e) }
 answer-plain (Some Run) before after status text (inl h) = record { written = λ e. cc (h.0, e); read = λ e. cc (h.0, e); memory = λ e. cc (h.0, e) }
@@ -75,6 +76,7 @@ answer-plain (Some Audit) before after status text (inl h) = plain_verdict h.ver
 answer-plain (Some Audit) before after status text (inr h) = record { written = λ e. cc (h.0, e); read = λ e. cc (h.0, e); memory = λ e. cc (h.0, e) }
 answer-plain (Some (Storm n)) before after status text h = plain_storm n status h.status_is
 
+-- the status of wrong usage is none of a fault, and none of want of memory
 pub usage-plain : IsPlain Usage
 usage-plain = record { written = λ e. cc e; read = λ e. cc e; memory = λ e. cc e }
 
@@ -101,6 +103,7 @@ pub written_fault : (faults later : ℕ) (held now : Option (List ℕ)) (status 
 written_fault faults later held now status result text plain (inl w) e = absurd (plain.written (sym w.0 ∙ e))
 written_fault faults later held now status result text plain (inr w) e = w.1
 
+-- if a plain answer was written or its sink failed, then the status is none of a read fault and none of want of memory
 pub written_plain : (faults later : ℕ) (held now : Option (List ℕ)) (status result : Status) (text : List ℕ) → IsPlain status → IsWritten held now faults later text status result
     → (result ≢ ReadFaultStatus) × (result ≢ OutOfMemory)
 written_plain faults later held now status result text plain (inl w) = (λ e. plain.read (sym w.0 ∙ e), λ e. plain.memory (sym w.0 ∙ e))
@@ -182,6 +185,7 @@ storm_answered Lease words before after n status text e f h = absurd cc
 storm_answered Audit words before after n status text e f h = absurd cc
 storm_answered (Storm m) words before after n status text e f h = elim (storm_plain m) [ inl done ↦ inl (h.status_is ∙ done) | inr left ↦ inr (h.status_is ∙ left) ]
 
+-- if the source has an input of the command and the answer is one to it, then the status is one of the answers to an input
 pub input_answered : (c found : Command) (words : List (List ℕ)) (before after : Option (List ℕ)) (status : Status) (text : List ℕ) → words ≡ command_words found → words ≡ command_words c → HasInput c before
     → IsAnswer (Some found) before after status text → IsAnswered c status
 input_answered Run found words before after status text e f has h = run_answered found words before after status text e f has h
@@ -197,6 +201,7 @@ written_complete c faults later held now status result text answered quiet (inr 
 
 -- ---- from the arguments
 
+-- if the words behind the program's name end a command so, then the arguments end it so, with the number of the status
 pub ends_by_args : {A E : Type 0} (args : Result (IntoIter (String A) A) E) (it : IntoIter (String A) A) (words : List (String A)) (before after held now : Option (List ℕ)) (status : Status) (number : ℕ)
     → args ≡ Ok it → words ≡ drop 1 (into_iter_items it) → EndsBy (map string_bytes words) before after held now status → number ≡ exit_status status → EndsByArgs args before after held now number
 ends_by_args {A} {E} args it words before after held now status number is same ends number_is =
@@ -217,6 +222,7 @@ complete_by_args {A} {E} {P} args it words c is same asked goes =
     let asks : AsksBy {A = A} {E = E} (Ok it) (Some c) = subst (λ (r : Result (IntoIter (String A) A) E). AsksBy r (Some c)) is asked in
     goes (subst (λ (ws : List (String A)). Asks (map string_bytes ws) (Some c)) (sym same) asks)
 
+-- arguments that are no texts ask for no command
 pub asks_no_error : {A E : Type 0} (args : Result (IntoIter (String A) A) E) (error : E) (c : Command) → args ≡ Err error → AsksBy args (Some c) → ⊥
 asks_no_error {A} {E} args error c is asked =
     let none : AsksBy {A = A} {E = E} (Err error) (Some c) = subst (λ (r : Result (IntoIter (String A) A) E). AsksBy r (Some c)) is asked in
@@ -237,10 +243,12 @@ pub halt_read : (halt : Halt) (status : Status) → status ≡ status_of_halt ha
 halt_read ReadFault status is e = refl
 halt_read NoMemory status is e = absurd (cc (is, e))
 
+-- the status of a halt is none of a write fault
 pub halt_unwritten : (halt : Halt) (status : Status) → status ≡ status_of_halt halt → status ≢ WriteFault
 halt_unwritten ReadFault status is = λ e. cc (is, e)
 halt_unwritten NoMemory status is = λ e. cc (is, e)
 
+-- if a halt is none of a read fault, then its status is that of want of memory
 pub halt_starved : (halt : Halt) (status : Status) → status ≡ status_of_halt halt → halt ≢ ReadFault → status ≡ OutOfMemory
 halt_starved ReadFault status is other = absurd (other refl)
 halt_starved NoMemory status is other = is

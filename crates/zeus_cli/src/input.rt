@@ -26,6 +26,7 @@ impl From<NoMemory> for Halt {
 }
 
 impl Halt {
+    /// The status with which the program ends then.
     pub(crate) fn status(self) -> Status
         ensures { result ≡ status_of_halt self }
     {

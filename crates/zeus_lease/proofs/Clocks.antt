@@ -11,6 +11,7 @@ use Rattle.zeus_lease.specs.Machine.{no_node, is_skewed, skewed_beside, skew, we
 
 -- ---- the nodes' clocks
 
+-- there are as many nodes after clocks have gone on
 pub length-went_on : (ns : List Node) (ts : List ℕ) → length (went_on ns ts) ≡ length ns
 unfolding went_on
 length-went_on [] ts = refl
@@ -25,6 +26,7 @@ went_on-clock (n ∷ ns) [] k lt = omega arith
 went_on-clock (n ∷ ns) (t ∷ ts) zero lt = refl
 went_on-clock (n ∷ ns) (t ∷ ts) (suc k) lt = went_on-clock ns ts k (omega arith)
 
+-- no node's clock goes back
 pub went_on-le : (ns : List Node) (ts : List ℕ) (k : ℕ) → (nth no_node ns k).clock ≤ (nth no_node (went_on ns ts) k).clock
 unfolding went_on nth
 went_on-le [] ts k = omega arith
@@ -32,6 +34,7 @@ went_on-le (n ∷ ns) [] k = omega arith
 went_on-le (n ∷ ns) (t ∷ ts) zero = omega arith
 went_on-le (n ∷ ns) (t ∷ ts) (suc k) = went_on-le ns ts k
 
+-- each node's clock goes on by at most its number of ticks
 pub went_on-most : (ns : List Node) (ts : List ℕ) (k : ℕ) → (nth no_node (went_on ns ts) k).clock ≤ (nth no_node ns k).clock + nth 0 ts k
 unfolding went_on nth
 went_on-most [] ts k = omega arith
@@ -39,6 +42,7 @@ went_on-most (n ∷ ns) [] k = omega arith
 went_on-most (n ∷ ns) (t ∷ ts) zero = omega arith
 went_on-most (n ∷ ns) (t ∷ ts) (suc k) = went_on-most ns ts k
 
+-- the end of each node's lease stays when clocks go on
 pub went_on-end : (ns : List Node) (ts : List ℕ) (k : ℕ) → (nth no_node (went_on ns ts) k).end ≡ (nth no_node ns k).end
 unfolding went_on nth
 went_on-end [] ts k = refl
@@ -46,6 +50,7 @@ went_on-end (n ∷ ns) [] k = refl
 went_on-end (n ∷ ns) (t ∷ ts) zero = refl
 went_on-end (n ∷ ns) (t ∷ ts) (suc k) = went_on-end ns ts k
 
+-- the expiry of each node stays when clocks go on
 pub went_on-expiry : (ns : List Node) (ts : List ℕ) (k : ℕ) → (nth no_node (went_on ns ts) k).expiry ≡ (nth no_node ns k).expiry
 unfolding went_on nth
 went_on-expiry [] ts k = refl
@@ -55,11 +60,13 @@ went_on-expiry (n ∷ ns) (t ∷ ts) (suc k) = went_on-expiry ns ts k
 
 -- ---- no clock goes too fast
 
+-- the numbers from i on, n of them, have each one from i up to i + n
 pub has-numbers_from : (i n k : ℕ) → i ≤ k → k < i + n → has k (numbers_from i n) ≡ true
 unfolding has numbers_from
 has-numbers_from i zero k le lt = absurd (omega arith)
 has-numbers_from i (suc n) k le lt = grind (arith, nat_tests, has-numbers_from (suc i) n k)
 
+-- if a search over numbers finds nothing, then there is nothing at each of them
 pub none_of : {A : Type 0} (f : ℕ → Option A) (k : ℕ) (xs : List ℕ) → first_of f xs ≡ None → has k xs ≡ true → f k ≡ None
 unfolding first_of has or_else
 none_of f k [] none h = absurd cc
@@ -68,6 +75,7 @@ none_of f k (x ∷ xs) none h = go (f x) refl none (none_of f k xs)
     go : (o : Option _) → f x ≡ o → or_else o (first_of f xs) ≡ None → (first_of f xs ≡ None → has k xs ≡ true → f k ≡ None) → f k ≡ None
     go o e g rest = grind (arith, nat_tests)
 
+-- if there is nothing where a test must be true, then the test is false
 pub none_where : {A : Type 0} (b : Bool) (a : A) → where_true b a ≡ None → b ≡ false
 unfolding where_true
 none_where true a h = absurd cc
@@ -114,6 +122,7 @@ grant_covers q s w asked c len x before late =
 pub later_covers : (total a x y : ℕ) → total ≤ a + 100 * x → x ≤ y → total ≤ a + 100 * y
 later_covers total a x y h le = omega arith
 
+-- a length times a percentage, divided by 100 and rounded up, is not less than that product by 100
 pub wait_is_long : (len q : ℕ) → q * len ≤ 100 * ((len * q + 99) / 100)
 wait_is_long len q =
     let same : q * len ≡ len * q = grind arith in
@@ -128,6 +137,7 @@ front_on (suc k) [] ts = []
 front_on (suc k) (n ∷ ns) [] = n ∷ ns
 front_on (suc k) (n ∷ ns) (t ∷ ts) = record n { clock = n.clock + t } ∷ front_on k ns ts
 
+-- there are as many nodes after the clocks of the first ones have gone on
 pub length-front_on : (k : ℕ) (ns : List Node) (ts : List ℕ) → length (front_on k ns ts) ≡ length ns
 unfolding front_on
 length-front_on zero ns ts = refl
@@ -143,6 +153,7 @@ front_on-here (suc k) [] ts = refl
 front_on-here (suc k) (n ∷ ns) [] = refl
 front_on-here (suc k) (n ∷ ns) (t ∷ ts) = front_on-here k ns ts
 
+-- if the clocks of the first k nodes have gone on and the next one's goes on, then those of the first k + 1 have
 pub front_on-next : (k : ℕ) (ns : List Node) (ts : List ℕ) → k < length ns → k < length ts
     → set (front_on k ns ts) k (record (nth no_node ns k) { clock = (nth no_node ns k).clock + nth 0 ts k }) ≡ front_on (suc k) ns ts
 unfolding front_on nth
@@ -153,6 +164,7 @@ front_on-next (suc k) [] ts h g = absurd (omega arith)
 front_on-next (suc k) (n ∷ ns) [] h g = absurd (omega arith)
 front_on-next (suc k) (n ∷ ns) (t ∷ ts) h g = ap (λ (l : List Node). record n { clock = n.clock + t } ∷ l) (front_on-next k ns ts (omega arith) (omega arith))
 
+-- if at least as many clocks have gone on as there are nodes, then all have
 pub front_on-all : (k : ℕ) (ns : List Node) (ts : List ℕ) → length ns ≤ k → front_on k ns ts ≡ went_on ns ts
 unfolding front_on went_on
 front_on-all zero [] ts h = refl

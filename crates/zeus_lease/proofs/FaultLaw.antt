@@ -164,6 +164,7 @@ script_read-sound bytes s h = go (nat_lt 4194304 (length bytes)) refl h
             let same : script_of t ≡ s = cc in
             subst (λ (x : LeaseScript). IsSpelled bytes x) same (record { fits = whole_script t both.0; few_bytes = ltb-false 4194304 (length bytes) e; spelled = both.1 })
 
+-- if a script was read, then the bytes spell it
 pub read_found : (bytes : List ℕ) (r : Result LeaseScript ReadScript) → ReadsScript r (script_read bytes) → IfOk r (λ s. IsSpelled bytes s)
 read_found bytes (Ok s) h = script_read-sound bytes s h
 read_found bytes (Err e) h = tt
@@ -176,11 +177,13 @@ script_read-complete bytes s spelled =
     let read : followed taken start 1 (cut 10 bytes) ≡ Ok (state_of_script s) = ap (λ (bs : List ℕ). followed taken start 1 (cut 10 bs)) is ∙ text in
     rw (le-ltb 4194304 (length bytes) spelled.few_bytes, read) (ap (λ (x : LeaseScript). Ok x) (script_is s))
 
+-- if bytes spell a script, then reading gives that one
 pub read_only : (bytes : List ℕ) (r : Result LeaseScript ReadScript) → ReadsScript r (script_read bytes) → (s : LeaseScript) → IsSpelled bytes s → ReadsScript r (Ok s)
 read_only bytes r h s spelled = rw (script_read-complete bytes s spelled) at h
 
 -- ---- the law
 
+-- bytes that spell a script have no fault
 pub none_of_script : (bytes : List ℕ) → SpellsScript bytes → (f : ScriptFault) → ¬ IsFaultOf bytes f
 none_of_script bytes spells f fault = go (f.line == 0) refl
   where

@@ -26,9 +26,11 @@ use Rattle.script_lang.proofs.WordKinds.{BlamesWord}
 abbrev failed : {S : Type 0} → ScriptFault → Result S ScriptFault
 failed f = Err f
 
+-- if a fault at a line is this fault, then it is in the same line
 pub at_line : {S : Type 0} (n : ℕ) (k : Kind) (f : ScriptFault) → failed {S = S} (fault_at n k) ≡ failed f → n ≡ f.line
 at_line n k f e = let same : fault_at n k ≡ f = cc in ap (λ (g : ScriptFault). g.line) same
 
+-- if a fault at a line is this fault, then it is of the same kind
 pub kind_there : {S : Type 0} (n : ℕ) (k : Kind) (f : ScriptFault) → failed {S = S} (fault_at n k) ≡ failed f → k ≡ f.kind
 kind_there n k f e = let same : fault_at n k ≡ f = cc in ap (λ (g : ScriptFault). g.kind) same
 

@@ -62,6 +62,7 @@ lines s = lines_at s.stage s
 abbrev pub all : State → Lines
 all s = script_lines (script_of s)
 
+-- behind the steps, all lines of a script are those read so far and `end`
 pub all_lines : (s : State) → s.stage ≡ stages.Steps → all s ≡ lines s ++ (codes "end" ∷ []) ∷ []
 unfolding script_lines script_of lines_at
 all_lines s at = subst (λ (k : Stage). all s ≡ lines_at k s ++ (codes "end" ∷ []) ∷ []) (sym at) refl
@@ -94,6 +95,7 @@ step_text words.Take = codes "take"
 step_text words.Act = codes "act"
 step_text words.View = codes "view"
 
+-- if a word is read as that of a step, then it is the step's word
 pub step_word_of-sound : (w : List ℕ) (k : StepWord) → step_word_of w ≡ Some k → w ≡ step_text k
 unfolding step_word_of step_text
 step_word_of-sound w k h = go (bytes_eq w (codes "pass")) (bytes_eq w (codes "ask")) (bytes_eq w (codes "hear")) (bytes_eq w (codes "take")) (bytes_eq w (codes "act")) (bytes_eq w (codes "view")) refl refl refl refl refl refl h

@@ -132,6 +132,7 @@ no_step : (w : List ℕ) → step_word_of w ≡ None → is_among w step_keyword
 unfolding step_word_of is_among
 no_step w h = no_step_of (bytes_eq w (codes "pass")) (bytes_eq w (codes "ask")) (bytes_eq w (codes "hear")) (bytes_eq w (codes "take")) (bytes_eq w (codes "act")) (bytes_eq w (codes "view")) h
 
+-- the word of a step is one of the words of steps
 pub a_step : (k : StepWord) → is_among (step_text k) step_keywords ≡ true
 unfolding is_among step_text
 a_step words.Pass = refl
@@ -211,6 +212,7 @@ any_ok : {A B : Type 0} (T : Option Kind) (r : Result A Kind) (f : A → B) → 
 any_ok T (Ok x) f h = tells_ok T (f x) _ tt
 any_ok T (Err k) f h = tells_err T k _ h.holds
 
+-- if reading a line fails, then its fault is the first row that a word of the line meets
 pub line_told : (d : Said) (s : State) (stage : Stage) (ws : List (List ℕ)) → d.next ≡ words_at stage → (stage ≡ stages.Steps → (d.nodes ≡ s.nodes) × (d.steps ≡ length s.steps)) → Tells (first_fault (line_rows d) ws) (line_taken s stage ws) Any
 unfolding line_taken words_at all_forms
 line_told d s stages.Version ws next counts = any_ok _ _ _ (version_told d _ ws refl next)

@@ -18,6 +18,7 @@ text_more m after ss i s out written whole h here taken kept added =
     let v : answer_lines after (i + 1) (drop (i + 1) ss) ≡ answer_lines (stepped m s) (suc i) (drop (i + 1) ss) = cc (n, taken) in
     cc (e, f, a, v)
 
+-- if no step is left, then the lines printed are all of them
 pub text_done : (m : Machine) (ss : List LeaseStep) (i : ℕ) (out whole : List ℕ) → length ss ≤ i → out ++ answer_lines m i (drop i ss) ≡ whole → out ≡ whole
 unfolding answer_lines
 text_done m ss i out whole h kept =
@@ -26,6 +27,7 @@ text_done m ss i out whole h kept =
     let a = append-nil out in
     cc (e, f, a)
 
+-- one more step is counted as one more
 pub count_more : (m : Machine) (s : LeaseStep) (first i : ℕ) → m.steps ≡ first + i → (stepped m s).steps ≡ first + (i + 1)
 unfolding stepped
 count_more m s first i h = omega (arith, h)

@@ -292,13 +292,16 @@ line_blames s stages.Steps ws = then _ _ (word_blames ws) (λ w. step_line_blame
 abbrev pub state_of_script : LeaseScript → State
 state_of_script s = with_steps s.nodes s.length s.percent s.steps
 
+-- the state of a script says that script
 pub script_is : (s : LeaseScript) → script_of (state_of_script s) ≡ s
 unfolding script_of
 script_is s = refl
 
+-- if a script fits, then its state is a whole one
 pub script_whole : (s : LeaseScript) → FitsScript s → Whole (state_of_script s)
 script_whole s fits = record { stage = refl; numbers = fits.numbers; steps = recursion_from_All (FitsStep s.nodes) s.steps fits.steps; few = fits.few_steps }
 
+-- if a state is a whole script, then its script fits
 pub whole_script : (t : State) → Whole t → FitsScript (script_of t)
 unfolding script_of
 whole_script t whole = record { numbers = whole.numbers; steps = All-from_recursion (FitsStep t.nodes) t.steps whole.steps; few_steps = whole.few }
@@ -319,6 +322,7 @@ start_fits : Fits start
 unfolding start FitsAt
 start_fits = refl
 
+-- before the first line no line was read
 pub no_lines : lines start ≡ []
 unfolding start lines_at
 no_lines = refl

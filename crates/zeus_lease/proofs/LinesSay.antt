@@ -142,6 +142,7 @@ word_fault_at bytes n kind front last others s is at said_so f =
       word = rw (before, line) (record { fit = f.fit; faulty = f.faulty });
     }
 
+-- if reading lines fails with a fault of a word, then that is the first word that does not fit
 pub word_fault : (bytes : List ℕ) (f : ScriptFault) → followed taken start 1 (cut 10 bytes) ≡ Err f → IsOfWord f.kind → IsWordFault bytes f.line f.kind
 word_fault bytes f h word =
     let w = where_wanted Fits Whole lines all taken start IsScriptText leases bytes f h word in

@@ -222,15 +222,18 @@ stepped_ranges : (m : Machine) (s : LeaseStep) → HasRanges m → IsSafe m → 
 unfolding stepped
 stepped_ranges m s r safe few fits = counted (suc m.steps) (length m.nodes) (happens m s).machine (happens_within m s r safe fits) few
 
+-- if a machine is in order and a step fits, then the step leaves how many nodes there are
 pub stepped_nodes : (m : Machine) (s : LeaseStep) → IsKept m → FitsStep (length m.nodes) s → length (stepped m s).nodes ≡ length m.nodes
 unfolding stepped
 stepped_nodes m s kept fits = (happens_within m s kept.ranges kept.safe fits).same
 
+-- if a machine is in order, a step fits and fewer than 50,000 were made, then it is in order after the step
 pub stepped_kept : (m : Machine) (s : LeaseStep) → IsKept m → m.steps < 50000 → FitsStep (length m.nodes) s → IsKept (stepped m s)
 stepped_kept m s kept few fits = record { ranges = stepped_ranges m s kept.ranges kept.safe few fits; safe = stepped_safe m s kept.safe }
 
 -- ---- the start
 
+-- if the numbers of a script fit, then the machine at the start is in order
 pub start_kept : (nodes term percent : ℕ) → FitsNumbers nodes term percent → IsKept (start nodes term percent)
 unfolding start
 start_kept nodes term percent numbers = record {
@@ -247,6 +250,7 @@ start_kept nodes term percent numbers = record {
   safe = start_safe nodes term percent;
 }
 
+-- the machine at the start has that many nodes and has made no step
 pub start_ready : (nodes term percent : ℕ) → (length (start nodes term percent).nodes ≡ nodes) × ((start nodes term percent).steps ≡ 0)
 unfolding start
 start_ready nodes term percent = (start_length nodes, refl)

@@ -36,23 +36,28 @@ test_made percent ticks fast slow f s b t e ef es h =
     let c = nth-get_or 0 ticks slow in
     cc
 
+-- if a test is true, then there is something where it must be true
 pub test_met : {A : Type 0} (b : Bool) (a : A) → b ≡ true → where_true b a ≡ Some a
 unfolding where_true
 test_met b a h = rw h refl
 
+-- if a test is false, then there is nothing where it must be true
 pub test_missed : {A : Type 0} (b : Bool) (a : A) → b ≡ false → where_true b a ≡ None
 unfolding where_true
 test_missed b a h = rw h refl
 
+-- if there is not something, then there is nothing
 pub none_there : {A : Type 0} (o : Option A) → is_some o ≡ false → o ≡ None
 none_there None h = refl
 none_there (Some a) h = absurd cc
 
 -- ---- clocks that go on
 
+-- if the clocks of the first k nodes have gone on, then the next node is as it was
 pub front_read : (k : ℕ) (ns now : List Node) (ts : List ℕ) → now ≡ front_on k ns ts → get_or now k no_node ≡ nth no_node ns k
 front_read k ns now ts is = sym (nth-get_or no_node now k) ∙ ap (λ (l : List Node). nth no_node l k) is ∙ front_on-here k ns ts
 
+-- if the clocks of the first k nodes have gone on and the next one is written so, then those of the first k + 1 have
 pub front_more : (k : ℕ) (ns now : List Node) (ts : List ℕ) → now ≡ front_on k ns ts → k < length ns → k < length ts
     → set now k record { clock = (get_or now k no_node).clock + get_or ts k 0; end = (get_or now k no_node).end; expiry = (get_or now k no_node).expiry } ≡ front_on (k + 1) ns ts
 front_more k ns now ts is lt few =
@@ -60,6 +65,7 @@ front_more k ns now ts is lt few =
     let tick = nth-get_or 0 ts k in
     rw (same, is, ← tick, add-one) (front_on-next k ns ts lt few)
 
+-- if no clock goes too fast and each has gone on by its ticks, then that is what passing time does
 pub passed_row : (m : Machine) (ticks : List ℕ) (nodes : List Node) (n : ℕ) → length ticks ≡ suc (length m.nodes) → skew m.percent ticks (length ticks) ≡ None → nodes ≡ went_on m.nodes ticks → n ≡ length m.nodes
     → just (record m { nodes = nodes; service = m.service + get_or ticks n 0 }) answers.Passed ≡ pass_or_not m ticks (skew m.percent ticks (suc (length m.nodes)))
 unfolding pass_or_not
@@ -70,6 +76,7 @@ passed_row m ticks nodes n count none is n_is =
 
 -- ---- asks and grants
 
+-- if a node has not ended and its ask is kept with its clock, then that is what an ask does
 pub asked_row : (m : Machine) (n clock count : ℕ) (asks : List Ask) → has n m.ended ≡ false → asks ≡ m.asks ++ record { node = n; clock = clock } ∷ [] → clock ≡ (node m n).clock → count ≡ length m.asks
     → just (record m { asks = asks }) (answers.Asked count) ≡ ask m n
 unfolding ask
@@ -80,6 +87,7 @@ unfolding nth last_view
 last_at v [] = refl
 last_at v (u ∷ us) = last_at u us
 
+-- the view at the last place is the last view
 pub last_read : (vs : List (List ℕ)) → nth [] vs (length vs - 1) ≡ last_view vs
 unfolding nth last_view
 last_read [] = refl
@@ -97,6 +105,7 @@ found_ask m i a kept is =
     let found = found_at no_ask m.asks i a is in
     subst (λ (b : Ask). b.node < length m.nodes) found.0 (kept.ranges.asks i found.1).0
 
+-- if an ask is of a member and its expiry and grant are written, then that is what hearing it does
 pub heard_row : (m : Machine) (i : ℕ) (a : Ask) (o : Option Ask) (nodes : List Node) (grants : List ℕ) (grant : ℕ) (was : Node) (expiry : ℕ) → o ≡ Some a → has a.node (last_view m.views) ≡ true → a.node < length m.nodes
     → node m a.node ≡ was → expiry ≡ max was.expiry (m.service + wait m) → nodes ≡ set m.nodes a.node (record was { expiry = expiry }) → grants ≡ m.grants ++ i ∷ [] → grant ≡ length m.grants
     → just (record m { nodes = nodes; grants = grants }) (answers.Granted grant) ≡ hear m i o
@@ -119,10 +128,12 @@ grant_there m g i kept is =
     let found = found_at 0 m.grants g i is in
     subst (λ (j : ℕ). j < length m.asks) found.0 (kept.safe.answered g found.1)
 
+-- if a grant is of a node that has ended, then taking it answers so and changes nothing
 pub ended_row : (m : Machine) (i : ℕ) (a : Ask) (o : Option ℕ) → o ≡ Some i → ask_of m i ≡ a → has a.node m.ended ≡ true → just m answers.Ended ≡ take m o
 unfolding take take_by
 ended_row m i a o is a_is over = rw (is, a_is, over) refl
 
+-- if a grant is of a node that has not ended and its lease's end is written, then that is what taking it does
 pub held_row : (m : Machine) (i : ℕ) (a : Ask) (o : Option ℕ) (nodes : List Node) (was : Node) (end : ℕ) → o ≡ Some i → ask_of m i ≡ a → has a.node m.ended ≡ false → a.node < length m.nodes
     → node m a.node ≡ was → end ≡ later was.end (a.clock + m.length) → nodes ≡ set m.nodes a.node (record was { end = Some end })
     → just (record m { nodes = nodes }) (answers.Held end) ≡ take m o
@@ -188,6 +199,7 @@ stopped_then f service place s so_far came n = go (n == place) refl
         let other = eqb-false n place e in
         grind (arith, nat_tests, has-with_node n place s, so_far n)
 
+-- if it is known which of the first nodes count as stopped and the next one does not, then it is known of one node more
 pub stopped_else : (f : ℕ → ℕ) (service place : ℕ) (s : List ℕ) → ((n : ℕ) → has n s ≡ (nat_lt n place && nat_le (f n) service)) → service < f place → (n : ℕ) → has n s ≡ (nat_lt n (place + 1) && nat_le (f n) service)
 stopped_else f service place s so_far late n = go (n == place) refl
   where
@@ -200,15 +212,18 @@ stopped_else f service place s so_far late n = go (n == place) refl
         let other = eqb-false n place e in
         grind (arith, nat_tests, so_far n)
 
+-- if the nodes that count as stopped are known and the last view is of nodes, then the world seen has these views and stops
 pub seen_with : (m : Machine) (stopped : List ℕ) → ((n : ℕ) → n < length m.nodes → has n stopped ≡ nat_le (node m n).expiry m.service) → IsBelow (length m.nodes) (last_view m.views) → IsWorldWith (seen m) m.views stopped
 seen_with m stopped stops below = record { views = seen_views m; stops = λ n h. seen_stopped m n (below n h) ∙ sym (stops n (below n h)) }
 
+-- if a view's answer and the views after it are those of the membership service, then that is what the view does
 pub viewed_row : (m : Machine) (e : Event) (made : Made) (views : List (List ℕ)) → ViewAnswer made ≡ e.answer → views ≡ e.world.views → just (record m { views = views }) (answers.View made) ≡ view m e
 unfolding view made_in
 viewed_row m e made views answer_is views_are = rw (← answer_is, views_are) refl
 
 -- ---- steps
 
+-- if a step was done and is counted, then that is what the machine becomes by it
 pub counted_row : (m after : Machine) (s : LeaseStep) (a : LeaseAnswer) (count : ℕ) → just after a ≡ happens m s → count ≡ m.steps + 1 → record after { steps = count } ≡ stepped m s
 unfolding stepped
 counted_row m after s a count did count_is = rw (← did, count_is, add-one) refl
@@ -228,6 +243,7 @@ module _ {A E : Type 0} (r : Result A E) (old new : Machine) (s : LeaseStep) (do
   pub still_left_out : (n : ℕ) → IsLeftOut old n → IsLeftOut new n
   still_left_out n out = either_way (λ (m : Machine). IsLeftOut m n) (stepped_leaves_out old s n out) out
 
+-- if a machine is in order and a step that fits was made, then there are as many nodes as before
 pub still_nodes : {A E : Type 0} (r : Result A E) (old new : Machine) (s : LeaseStep) → IfOk r (λ a. new ≡ stepped old s) → IsKept old → FitsStep (length old.nodes) s → IfOk r (λ a. length new.nodes ≡ length old.nodes)
 still_nodes (Ok a) old new s done kept fits = ap (λ (m : Machine). length m.nodes) done ∙ stepped_nodes old s kept fits
 still_nodes (Err e) old new s done kept fits = tt

@@ -71,12 +71,14 @@ module _ (m : Machine) (n : ℕ) (safe : IsSafe m) (out : IsLeftOut m n) where
 
 -- ---- the start
 
+-- at the start each node is a new one
 pub start_node : (nodes k : ℕ) → nth no_node (replicate nodes no_node) k ≡ no_node
 unfolding nth
 start_node zero k = refl
 start_node (suc nodes) zero = refl
 start_node (suc nodes) (suc k) = start_node nodes k
 
+-- at the start there are that many nodes
 pub start_length : (nodes : ℕ) → length (replicate nodes no_node) ≡ nodes
 start_length zero = refl
 start_length (suc nodes) = ap suc (start_length nodes)
@@ -86,6 +88,7 @@ unfolding has numbers_from
 has-below_lt i zero k h = absurd cc
 has-below_lt i (suc n) k h = grind (arith, nat_tests, has-below_lt (suc i) n k)
 
+-- at the start each lease is covered by the service's expiry
 pub start_safe : (nodes term percent : ℕ) → IsSafe (start nodes term percent)
 unfolding start last_view
 start_safe nodes term percent = record {
@@ -190,6 +193,7 @@ module _ (m : Machine) (n : ℕ) (new : Node) (there : n < length m.nodes) (cloc
             clocks = rw (nth-put_other no_node m.nodes n k new (eqb-false n k e)) covered.clocks;
           }
 
+-- if a node is changed and its clock is not, then no clock changes
 pub changed_clock : (m : Machine) (n : ℕ) (new : Node) → new.clock ≡ (node m n).clock → (k : ℕ) → (node (changed m n new) k).clock ≡ (node m k).clock
 changed_clock m n new clock k = go (n == k) refl
   where
@@ -421,6 +425,7 @@ happens_safe m (steps.Take i) safe = take_safe m i (slice_get m.grants i) refl s
 happens_safe m (steps.Act n) safe = act_safe m n safe
 happens_safe m (steps.View set) safe = view_safe m set safe
 
+-- if each lease is covered by the service's expiry, then each is after a step
 pub stepped_safe : (m : Machine) (s : LeaseStep) → IsSafe m → IsSafe (stepped m s)
 unfolding stepped
 stepped_safe m s safe = counted_safe (happens m s).machine (suc m.steps) (happens_safe m s safe)
@@ -479,15 +484,18 @@ happens_leaves_out m (steps.Take i) n out = rw (take_views m (slice_get m.grants
 happens_leaves_out m (steps.Act k) n out = rw (act_views m k) out
 happens_leaves_out m (steps.View set) n out = view_leaves_out m set n out
 
+-- if the last view leaves a node out, then it does after a step
 pub stepped_leaves_out : (m : Machine) (s : LeaseStep) (n : ℕ) → IsLeftOut m n → IsLeftOut (stepped m s) n
 unfolding stepped
 stepped_leaves_out m s n out = happens_leaves_out m s n out
 
+-- if each lease is covered by the service's expiry, then each is after a run
 pub run_safe : (m : Machine) (ss : List LeaseStep) → IsSafe m → IsSafe (run m ss)
 unfolding run
 run_safe m [] safe = safe
 run_safe m (s ∷ ss) safe = run_safe (stepped m s) ss (stepped_safe m s safe)
 
+-- if the last view leaves a node out, then it does after a run
 pub run_leaves_out : (m : Machine) (ss : List LeaseStep) (n : ℕ) → IsLeftOut m n → IsLeftOut (run m ss) n
 unfolding run
 run_leaves_out m [] n out = out
@@ -512,6 +520,7 @@ module _ (nodes term percent : ℕ) (before after : List LeaseStep) (n : ℕ) (o
 viewed_is : (a b : Made) → answers.View a ≡ answers.View b → a ≡ b
 viewed_is a b e = cc
 
+-- if a view is installed, then each node that it does not have is left out by the last view
 pub law_view : (m : Machine) (set : List ℕ) (epoch n : ℕ) → (happens m (steps.View set)).answer ≡ answers.View (Installed epoch) → has n set ≡ false → IsLeftOut (stepped m (steps.View set)) n
 unfolding stepped happens view
 law_view m set epoch n e h = rw (view_made m set epoch (viewed_is _ _ e)) h

@@ -14,6 +14,7 @@ use Rattle.zeus_lease.specs.Kept.{IsSafe}
 use Rattle.zeus_lease.specs.Machine.{Machine, no_node, node, world_node, seen, made_in, view}
 use Rattle.zeus_lease.proofs.Clocks.{none_of, none_where}
 
+-- the last view of views with one more at the end is that one
 pub last_view-more : (views : List (List ℕ)) (set : List ℕ) → last_view (views ++ set ∷ []) ≡ set
 unfolding last_view
 last_view-more [] set = refl
@@ -31,6 +32,7 @@ pub seen_stopped : (m : Machine) (k : ℕ) → k < length m.nodes → (world_nod
 unfolding seen
 seen_stopped m k lt = rw (nth-map m.service m.nodes k lt) refl
 
+-- the world of the membership service has the machine's views
 pub seen_views : (m : Machine) → (seen m).views ≡ m.views
 unfolding seen
 seen_views m = refl
@@ -93,6 +95,7 @@ made_safe m set made safe =
     (rw (last_view-more m.views set) (λ k h. safe.members k (was_member m set made k h)))
     (rw (last_view-more m.views set) (made_others m set made safe))
 
+-- if each lease is covered by the service's expiry, then each is after a view
 pub view_safe : (m : Machine) (set : List ℕ) → IsSafe m → IsSafe (view m (world_does (seen m) (ViewStep set))).machine
 unfolding view world_does view_or_not
 view_safe m set safe = go (view_refused (seen m) set) refl

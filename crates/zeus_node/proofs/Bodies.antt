@@ -68,14 +68,17 @@ module _ (l : Limits) (x : ℕ) where
     unfolding body_fits
     decided-place = (and_parts (object_fits l x && stamp_fits l stamp) (place_fits l place) fit).1
 
+-- if the body of an entry's letter fits, then the entry does
 pub entry-fits : (l : Limits) (r : Invalidation) → body_fits l (RInv r) ≡ true → inv_fits l r ≡ true
 unfolding body_fits
 entry-fits l r fit = fit
 
+-- if the body of an acknowledgement fits, then its stream does
 pub acknowledged-fits : (l : Limits) (s : Stream) (number : ℕ) → body_fits l (RAck s number) ≡ true → stream_fits l s ≡ true
 unfolding body_fits
 acknowledged-fits l s number fit = fit
 
+-- if the body of a letter of passed entries fits, then its stream does
 pub passed-fits : (l : Limits) (s : Stream) (done : ℕ) → body_fits l (RVal s done) ≡ true → stream_fits l s ≡ true
 unfolding body_fits
 passed-fits l s done fit = fit
@@ -161,6 +164,7 @@ oval-unpassed : (n : Node) (x : ℕ) (stamp : Stamp) (place : Place) → (on_ova
 unfolding on_oval
 oval-unpassed n x stamp place = grind arith
 
+-- the row of a letter passes nothing
 pub row-unpassed : (n : Node) (from : ℕ) (b : Body) → (row n from b).passed ≡ []
 unfolding row on_oreq
 row-unpassed n from (RInv r) = rinv-unpassed n from r

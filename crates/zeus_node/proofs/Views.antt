@@ -37,10 +37,12 @@ module _ (n : Node) (v : View) where
       rw (install-later s e)
       (done_then (just (in_view n v) Installed) finish Installed m k b b c (record { says = refl; becomes = becomes; adds = adds_nothing b room }) f)
 
+-- if a node has stopped, then a stop is answered so and changes nothing
 pub stop-stopped : (n : Node) → n.stopped ≡ true → stop n ≡ just n Halted
 unfolding stop
 stop-stopped n s = rw s refl
 
+-- if a node is live, then a stop stops it and is answered `Done`
 pub stop-running : (n : Node) → n.stopped ≡ false → stop n ≡ just (stopped n) Done
 unfolding stop
 stop-running n s = rw s refl

@@ -53,6 +53,7 @@ unfolding run
 run-config w [] = refl
 run-config w (s ∷ ss) = run-config (stepped w s) ss ∙ (step_keeps w s).config
 
+-- a run leaves the transactions
 pub run-txs : (w : World) (ss : List Step) → (run w ss).txs ≡ w.txs
 unfolding run
 run-txs w [] = refl
@@ -66,6 +67,7 @@ run_more w after end ss i s h here taken kept =
     let f : run w (s ∷ drop (i + 1) ss) ≡ run (stepped w s) (drop (i + 1) ss) = refl in
     cc (e, f)
 
+-- if no step is left of a run, then the world is the one at its end
 pub run_done : (w end : World) (ss : List Step) (i : ℕ) → length ss ≤ i → run w (drop i ss) ≡ end → w ≡ end
 unfolding run
 run_done w end ss i h kept =
@@ -84,6 +86,7 @@ text_more names w after ss i s out written whole h here taken kept added =
     let v : steps_text names after (i + 1) (drop (i + 1) ss) ≡ steps_text names (stepped w s) (suc i) (drop (i + 1) ss) = cc (n, taken) in
     cc (e, f, a, v)
 
+-- if no step is left of a run, then the text printed is the whole one
 pub text_done : (names : List (List ℕ)) (w : World) (ss : List Step) (i : ℕ) (out whole : List ℕ) → length ss ≤ i → out ++ steps_text names w i (drop i ss) ≡ whole → out ≡ whole
 unfolding steps_text
 text_done names w ss i out whole h kept =

@@ -9,6 +9,7 @@ use Rattle.zeus_txn.specs.Ops.{named}
 use Rattle.zeus_txn.specs.Run.{run, value_at}
 use Rattle.zeus_txn.specs.RunLaws.{run-value_at}
 
+-- if the values given are those that a map has of the objects named, then running on them is running at the map
 pub ran-run_at : (m : List Versioned) (tx : List Op) (ns : List ℕ) (items : List Versioned) (values slice : List Value) (ran : Ran) → ns ≡ named tx → items ≡ m → values ≡ map (λ x. (content items x).value) ns → slice ≡ values → ran ≡ run (value_at (named tx) slice) tx → ran ≡ run_at m tx
 ran-run_at m tx ns items values slice ran n i v s r =
     let found : ℕ → Value = λ x. (content m x).value in

@@ -6,6 +6,7 @@ use Rattle.zeus_txn.specs.OpLaws.{mentioned-new, length-named_after}
 use Rattle.zeus_txn.specs.declared.ops.Op.{Op}
 use Rattle.zeus_txn.proofs.Rests.{drop-here, drop-end}
 
+-- the objects named after one more operation in front: its object is added, then the rest are walked
 pub named_after-cons : (all : List ℕ) (op : Op) (ops : List Op) → named_after all (op ∷ ops) ≡ named_after (mentioned all (object_of op)) ops
 unfolding named_after
 named_after-cons all op ops = refl

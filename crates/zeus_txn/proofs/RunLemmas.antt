@@ -20,6 +20,7 @@ AllIn-at xs (first ∷ ops) (suc i) op all h is = AllIn-at xs ops i op all.1 (om
 pub named-at : (ops : List Op) (i : ℕ) (op : Op) → i < length ops → op ≡ get_or ops i op → mentions (object_of op) (named ops) ≡ true
 named-at ops i op h is = AllIn-at (named ops) ops i op (named-all ops) h is
 
+-- an operation gives at most one more value
 pub length-given : (vs : List Value) (o : Option Value) → length (given vs o) ≤ length vs + 1
 unfolding given
 length-given vs None = omega arith
@@ -39,6 +40,7 @@ run-fail found ops i vs ws op all h is fails ran =
     let step = run_from-none found i vs ws op (drop (i + 1) ops) fails in
     sym step ∙ (ap (λ rest. run_from found i vs ws rest) (sym (drop-here ops i op h is)) ∙ ran)
 
+-- if the place is past the last operation, then running what is left is succeeding with the values and writes so far
 pub run-end : (found : ℕ → Value) (ops : List Op) (i : ℕ) (vs : List Value) (ws : List (ℕ × Value)) (all : Ran) → length ops ≤ i → run_from found i vs ws (drop i ops) ≡ all → succeeds vs ws ≡ all
 unfolding run_from
 run-end found ops i vs ws all h ran = let none = drop-end ops i h in rw none at ran

@@ -9,14 +9,17 @@ use Rattle.zeus_base.specs.declared.value.Value.TheVariants.{Num}
 use Rattle.zeus_txn.specs.Run.{latest, rewritten, value_at}
 use Rattle.zeus_txn.proofs.Rests.{drop-here, drop-end}
 
+-- the latest write of an object from a place on is the write at that place, if it is of the object, else that of the places after
 pub latest-step : (ws : List (ℕ × Value)) (i : ℕ) (w : ℕ × Value) (x : ℕ) (v : Value) → i < length ws → w ≡ get_or ws i w → latest (drop i ws) x v ≡ (if x == w.0 then w.1 else latest (drop (i + 1) ws) x v)
 unfolding latest
 latest-step ws i w x v h is = rw (drop-here ws i w h is) refl
 
+-- if the place is past the last write, then the latest write from there is the default
 pub latest-end : (ws : List (ℕ × Value)) (i : ℕ) (x : ℕ) (v : Value) → length ws ≤ i → latest (drop i ws) x v ≡ v
 unfolding latest
 latest-end ws i x v h = rw (drop-end ws i h) refl
 
+-- the value of an object from a place on is the value at that place, if its name stands there, else that of the places after
 pub value_at-step : (ns : List ℕ) (vs : List Value) (i n : ℕ) (v : Value) (x : ℕ) → i < length ns → i < length vs → n ≡ get_or ns i n → v ≡ get_or vs i v → value_at (drop i ns) (drop i vs) x ≡ (if x == n then v else value_at (drop (i + 1) ns) (drop (i + 1) vs) x)
 unfolding value_at
 value_at-step ns vs i n v x h g is was = rw (drop-here ns i n h is, drop-here vs i v g was) refl
@@ -27,9 +30,11 @@ unfolding rewritten
 rewritten-place [] x v = refl
 rewritten-place (w ∷ ws) x v = let rest = rewritten-place ws x v in grind (arith, nat_tests)
 
+-- if no write is of the object, then its write goes at the end
 pub rewritten-new : (ws : List (ℕ × Value)) (x : ℕ) (v : Value) → position (λ w. x == w.0) ws ≡ None → rewritten ws x v ≡ ws ++ (x, v) ∷ []
 rewritten-new ws x v h = let at = rewritten-place ws x v in grind (arith, nat_tests)
 
+-- if the write at a place is the first of the object, then the new write takes that place
 pub rewritten-old : (ws : List (ℕ × Value)) (x : ℕ) (v : Value) (k : ℕ) → position (λ w. x == w.0) ws ≡ Some k → rewritten ws x v ≡ set ws k (x, v)
 rewritten-old ws x v k h = let at = rewritten-place ws x v in grind (arith, nat_tests)
 

@@ -27,6 +27,7 @@ unfoldable pub CanWrite : List Versioned → List (ℕ × Value) → Type 0
 CanWrite map [] = Unit {0}
 CanWrite map (w ∷ ws) = (w.0 < length map) × ((content map w.0).ver < 2 ^ 64 - 1) × (mentions w.0 (keys ws) ≡ false) × CanWrite map ws
 
+-- if writes can be made on a map and none is of the object put, then they can be made on the map after the put
 pub CanWrite-put : (map : List Versioned) (x : ℕ) (v : Versioned) (ws : List (ℕ × Value)) → x < length map → mentions x (keys ws) ≡ false → CanWrite map ws → CanWrite (put no_content map x v) ws
 unfolding CanWrite mentions keys
 CanWrite-put map x v [] h new can = tt

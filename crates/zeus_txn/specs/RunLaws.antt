@@ -15,10 +15,12 @@ use Rattle.zeus_txn.specs.Run.{effect, reaches, tested, given, latest, rewritten
 
 -- ---- one operation after another
 
+-- if the first operation left has no effect on the object's latest value, then the transaction fails at that place
 pub run_from-none : (found : ℕ → Value) (place : ℕ) (vs : List Value) (ws : List (ℕ × Value)) (op : Op) (ops : List Op) → effect op (latest ws (object_of op) (found (object_of op))) ≡ None → run_from found place vs ws (op ∷ ops) ≡ fails_at place vs
 unfolding run_from
 run_from-none found place vs ws op ops h = rw (h, run_from) refl
 
+-- if the first operation left has an effect, then the run goes on with what it gives and stores
 pub run_from-some : (found : ℕ → Value) (place : ℕ) (vs : List Value) (ws : List (ℕ × Value)) (op : Op) (ops : List Op) (e : Effect) → effect op (latest ws (object_of op) (found (object_of op))) ≡ Some e → run_from found place vs ws (op ∷ ops) ≡ run_from found (suc place) (given vs e.gives) (stored ws (object_of op) e.stores) ops
 unfolding run_from
 run_from-some found place vs ws op ops e h = rw (h, run_from) refl
@@ -29,6 +31,7 @@ both_ways : (o : Option Effect) (a : Ran) (f g : Effect → Ran) → ((e : Effec
 both_ways None a f g h = refl
 both_ways (Some e) a f g h = h e
 
+-- if two readings agree on the objects named, then a transaction over these objects runs the same with both
 pub run_from-agree : (f g : ℕ → Value) (ns : List ℕ) → ((x : ℕ) → mentions x ns ≡ true → f x ≡ g x) → (place : ℕ) (vs : List Value) (ws : List (ℕ × Value)) (ops : List Op) → AllIn ns ops → run_from f place vs ws ops ≡ run_from g place vs ws ops
 unfolding run_from AllIn
 run_from-agree f g ns same place vs ws [] all = refl
@@ -42,6 +45,7 @@ pub run-agree : (f g : ℕ → Value) (ops : List Op) → ((x : ℕ) → mention
 unfolding run
 run-agree f g ops same = run_from-agree f g (named ops) same 0 [] [] ops (named-all ops)
 
+-- if an object is among the names, then its value in the list made by a function is the function's
 pub value_at-map : (f : ℕ → Value) (ns : List ℕ) (x : ℕ) → mentions x ns ≡ true → value_at ns (map f ns) x ≡ f x
 unfolding value_at mentions
 value_at-map f [] x h = absurd cc
@@ -62,6 +66,7 @@ unfoldable pub keys : List (ℕ × Value) → List ℕ
 keys [] = []
 keys (w ∷ ws) = w.0 ∷ keys ws
 
+-- there are as many keys as writes
 pub length-keys : (ws : List (ℕ × Value)) → length (keys ws) ≡ length ws
 unfolding keys
 length-keys [] = refl
@@ -75,6 +80,7 @@ mentioned-first : (x k : ℕ) (ks : List ℕ) → (x == k) ≡ true → mentione
 unfolding mentioned mentions
 mentioned-first x k ks h = grind arith
 
+-- rewriting an object's value adds the object to the keys, if it is not among them
 pub keys-rewritten : (ws : List (ℕ × Value)) (x : ℕ) (v : Value) → keys (rewritten ws x v) ≡ mentioned (keys ws) x
 unfolding keys rewritten
 keys-rewritten [] x v = unfold mentioned mentions in refl
@@ -108,10 +114,12 @@ missing-one_fewer x ks (n ∷ ns) h g = grind (arith, nat_tests, missing-fewer x
 unfoldable pub HasRoom : List ℕ → List ℕ → Type 0
 HasRoom ks ns = length ks + missing ks ns ≤ length ns
 
+-- no writes have room among any names
 pub HasRoom-none : (ns : List ℕ) → HasRoom [] ns
 unfolding HasRoom
 HasRoom-none ns = omega (arith, missing-none ns)
 
+-- if keys have room among names, then so have they with one of the names added
 pub HasRoom-mentioned : (x : ℕ) (ks ns : List ℕ) → HasRoom ks ns → mentions x ns ≡ true → HasRoom (mentioned ks x) ns
 unfolding HasRoom
 HasRoom-mentioned x ks ns h g =
@@ -123,15 +131,18 @@ HasRoom-mentioned x ks ns h g =
           omega arith
     ] refl
 
+-- if keys have room among names, then they are no more than the names
 pub HasRoom-few : (ks ns : List ℕ) → HasRoom ks ns → length ks ≤ length ns
 unfolding HasRoom
 HasRoom-few ks ns h = omega arith
 
+-- if the keys of writes have room among names, then so have they after a store to one of the names
 pub HasRoom-stored : (ws : List (ℕ × Value)) (x : ℕ) (o : Option Value) (ns : List ℕ) → HasRoom (keys ws) ns → mentions x ns ≡ true → HasRoom (keys (stored ws x o)) ns
 unfolding stored
 HasRoom-stored ws x None ns h g = h
 HasRoom-stored ws x (Some v) ns h g = rw keys-rewritten (HasRoom-mentioned x (keys ws) ns h g)
 
+-- if the keys of writes have room among names, then the writes are no more than the names
 pub HasRoom-length : (ws : List (ℕ × Value)) (ns : List ℕ) → HasRoom (keys ws) ns → length ws ≤ length ns
 unfolding HasRoom
 HasRoom-length ws ns h = omega (arith, length-keys ws)
