@@ -1,18 +1,18 @@
 //! Packets as bytes.
-ghost use Rattle.std.specs.Prelude.{◌≡◌, ◌≤◌, ◌+◌, ◌++◌, IfOk, OnOk, true};
+ghost use Rattle.std.specs.Prelude.{◌≡◌, ◌≤◌, ◌+◌, ◌++◌, ◌∷◌, IfOk, OnOk, true};
 ghost use Rattle.zeus_packet.specs.Fits.{fits};
 ghost use Rattle.zeus_wire.specs.Ranges.{IsPacket, largest, longest, room};
-ghost use Rattle.zeus_model.specs.PacketSpelling.{packet_bytes};
+ghost use Rattle.zeus_model.specs.PacketSpelling.{packet_bytes, u32_bytes};
 
 mod body;
 mod fields;
 mod values;
 
 use body::write_body;
-use fields::{write_u8, write_u32};
+use fields::write_bytes;
 use std::alloc::Global;
 use zeus_base::NoMemory;
-use zeus_packet::{Letter, Limits, Packet};
+use zeus_packet::{Letter, Limits, NodeId, Packet};
 
 /// How many bytes the longest packet of a version of the format has.
 #[tactic(auto, unfolding(crate::specs::Ranges::longest))]
@@ -34,6 +34,28 @@ pub fn largest(version: u8) -> Limits
     }
 }
 
+/// Appends the version of the format, and the packet's number.
+#[tactic(auto, using(crate::proofs::Numbers::four_alone))]
+fn write_number(out: &mut Vec<u8>, version: u8, number: u32)
+    requires { 5 ≤ room out.old }
+    ensures bytes { out.new.items ≡ out.old.items ++ (version ∷ u32_bytes number) }
+    ensures room { room out.old ≤ room out.new + 5 }
+{
+    let [a, b, c, d] = number.to_be_bytes();
+    write_bytes(out, &[version, a, b, c, d]);
+}
+
+/// Appends the sender and the receiver of a letter, and its epoch.
+#[tactic(auto, using(crate::proofs::Numbers::four_alone))]
+fn write_ends(out: &mut Vec<u8>, from: NodeId, to: NodeId, epoch: u32)
+    requires { 6 ≤ room out.old }
+    ensures bytes { out.new.items ≡ out.old.items ++ (from ∷ to ∷ u32_bytes epoch) }
+    ensures room { room out.old ≤ room out.new + 6 }
+{
+    let [a, b, c, d] = epoch.to_be_bytes();
+    write_bytes(out, &[from.0, to.0, a, b, c, d]);
+}
+
 /// Appends the spelling of the packet of this number and letter, for which there is room. Takes no memory.
 #[tactic(auto, using(std::proofs::Common::append_assoc, crate::proofs::Room::longest_is), unfolding(zeus_model::specs::PacketSpelling::packet_bytes, zeus_packet::specs::Fits::fits))]
 pub fn encode_letter_into(number: u32, letter: &Letter, version: u8, out: &mut Vec<u8>)
@@ -43,11 +65,8 @@ pub fn encode_letter_into(number: u32, letter: &Letter, version: u8, out: &mut V
     ensures room { room out.old ≤ room out.new + longest version }
     ensures packet { IsPacket (record { number = number; letter = letter.now }) }
 {
-    write_u8(out, version);
-    write_u32(out, number);
-    write_u8(out, letter.from.0);
-    write_u8(out, letter.to.0);
-    write_u32(out, letter.epoch);
+    write_number(out, version, number);
+    write_ends(out, letter.from, letter.to, letter.epoch);
     write_body(out, version, &letter.body);
 }
 

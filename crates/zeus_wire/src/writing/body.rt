@@ -5,13 +5,24 @@ ghost use Rattle.zeus_wire.specs.Ranges.{IsBody, IsCause, IsInv, largest, longes
 ghost use Rattle.zeus_model.specs.PacketSpelling.{body_bytes, cause_bytes, inv_bytes, state_byte, stream_bytes, u32_bytes, wish_bytes, wish_tag};
 
 use crate::writing::fields::{
-    write_place, write_proposal, write_set, write_stamp, write_stream, write_u8, write_u16,
-    write_u32,
+    byte_of, write_bytes, write_object, write_place, write_proposal, write_stamp, write_u8,
 };
 use crate::writing::values::{write_content, write_writes};
 use zeus_packet::{Body, Cause, Content, ObjId, Place, Proposal, RInv, Stamp, State, Stream, Want};
 
-#[tactic(auto, using(std::proofs::Common::append_assoc, crate::proofs::Room::few_writes, crate::proofs::Room::longest_is), unfolding(zeus_model::specs::PacketSpelling::inv_bytes, zeus_packet::specs::Fits::inv_fits, zeus_packet::specs::Fits::writes_fit))]
+/// Appends the stream of an entry, its number, and what has passed.
+#[tactic(auto, using(std::proofs::Common::append_assoc, crate::proofs::Numbers::four_bytes, crate::proofs::Numbers::four_alone), unfolding(zeus_model::specs::PacketSpelling::stream_bytes))]
+fn write_entry(out: &mut Vec<u8>, stream: &Stream, number: u32, done: u32)
+    requires { 10 ≤ room out.old }
+    ensures bytes { out.new.items ≡ out.old.items ++ (stream_bytes stream.now ++ (u32_bytes number ++ u32_bytes done)) }
+    ensures room { room out.old ≤ room out.new + 10 }
+{
+    let [a, b, c, d] = number.to_be_bytes();
+    let [e, f, g, h] = done.to_be_bytes();
+    write_bytes(out, &[stream.node.0, stream.slot.0, a, b, c, d, e, f, g, h]);
+}
+
+#[tactic(auto, using(std::proofs::Common::append_assoc, crate::proofs::Room::few_writes, crate::proofs::Room::longest_is), unfolding(zeus_model::specs::PacketSpelling::inv_bytes, zeus_model::specs::PacketSpelling::set_bytes, zeus_packet::specs::Fits::inv_fits, zeus_packet::specs::Fits::writes_fit))]
 fn write_inv(out: &mut Vec<u8>, version: u8, r: &RInv)
     requires fits { inv_fits (largest version) r.now ≡ true }
     requires room { longest version ≤ room out.old + 12 }
@@ -19,11 +30,8 @@ fn write_inv(out: &mut Vec<u8>, version: u8, r: &RInv)
     ensures room { room out.old + 12 ≤ room out.new + longest version }
     ensures inv { IsInv r.now }
 {
-    write_stream(out, &r.stream);
-    write_u32(out, r.number);
-    write_u32(out, r.done);
-    write_set(out, r.followers);
-    write_u8(out, r.writes.len() as u8);
+    write_entry(out, &r.stream, r.number, r.done);
+    write_bytes(out, &[byte_of(r.followers), r.writes.len() as u8]);
     write_writes(out, version, r.writes.as_slice());
 }
 
@@ -81,18 +89,9 @@ fn write_cause(out: &mut Vec<u8>, cause: &Cause)
         Cause::NoSource => write_u8(out, 5),
         Cause::WornOut => write_u8(out, 6),
         Cause::NoCopy => write_u8(out, 7),
-        Cause::Held(slot) => {
-            write_u8(out, 8);
-            write_u8(out, slot.0);
-        }
-        Cause::NotValid(state) => {
-            write_u8(out, 9);
-            write_u8(out, state_byte(*state));
-        }
-        Cause::Kept(slot) => {
-            write_u8(out, 10);
-            write_u8(out, slot.0);
-        }
+        Cause::Held(slot) => write_bytes(out, &[8, slot.0]),
+        Cause::NotValid(state) => write_bytes(out, &[9, state_byte(*state)]),
+        Cause::Kept(slot) => write_bytes(out, &[10, slot.0]),
         Cause::NotArbiter => write_u8(out, 11),
         Cause::NotCollector => write_u8(out, 12),
         Cause::OwnPlace => write_u8(out, 13),
@@ -109,8 +108,7 @@ fn write_oreq(out: &mut Vec<u8>, version: u8, obj: ObjId, want: Want)
     ensures bytes { out.new.items ≡ out.old.items ++ body_bytes version (Body.OReq obj want) }
     ensures room { room out.old ≤ room out.new + 4 }
 {
-    write_u8(out, wish_tag(4, want));
-    write_u16(out, obj.0);
+    write_object(out, wish_tag(4, want), obj);
     write_wish(out, want);
 }
 
@@ -121,8 +119,7 @@ fn write_oinv(out: &mut Vec<u8>, version: u8, obj: ObjId, p: &Proposal)
     ensures room { room out.old ≤ room out.new + 25 }
     ensures body { IsBody (Body.OInv obj p.now) }
 {
-    write_u8(out, wish_tag(5, p.want));
-    write_u16(out, obj.0);
+    write_object(out, wish_tag(5, p.want), obj);
     write_wish(out, p.want);
     write_proposal(out, p);
 }
@@ -135,8 +132,7 @@ fn write_oack(out: &mut Vec<u8>, version: u8, obj: ObjId, p: &Proposal, content:
     ensures room { room out.old ≤ room out.new + (34 + longest_value version) }
     ensures body { IsBody (Body.OAck obj p.now content.now) }
 {
-    write_u8(out, wish_tag(6, p.want));
-    write_u16(out, obj.0);
+    write_object(out, wish_tag(6, p.want), obj);
     write_wish(out, p.want);
     write_proposal(out, p);
     write_content(out, version, content);
@@ -149,8 +145,7 @@ fn write_onack(out: &mut Vec<u8>, version: u8, obj: ObjId, stamp: &Stamp, cause:
     ensures room { room out.old ≤ room out.new + 22 }
     ensures body { IsBody (Body.ONack obj stamp.now cause.now) }
 {
-    write_u8(out, 7);
-    write_u16(out, obj.0);
+    write_object(out, 7, obj);
     write_stamp(out, stamp);
     write_cause(out, cause);
 }
@@ -162,24 +157,23 @@ fn write_oval(out: &mut Vec<u8>, version: u8, obj: ObjId, stamp: &Stamp, place: 
     ensures room { room out.old ≤ room out.new + 14 }
     ensures body { IsBody (Body.OVal obj stamp.now place.now) }
 {
-    write_u8(out, 8);
-    write_u16(out, obj.0);
+    write_object(out, 8, obj);
     write_stamp(out, stamp);
     write_place(out, place);
 }
 
-#[tactic(auto, using(std::proofs::Common::append_assoc), unfolding(zeus_model::specs::PacketSpelling::body_bytes))]
+/// Appends a tag, the stream and a number of it.
+#[tactic(auto, using(crate::proofs::Numbers::four_alone), unfolding(zeus_model::specs::PacketSpelling::stream_bytes))]
 fn write_ack(out: &mut Vec<u8>, tag: u8, stream: &Stream, number: u32)
     requires { 7 ≤ room out.old }
-    ensures bytes { out.new.items ≡ out.old.items ++ tag ∷ stream_bytes stream.now ++ u32_bytes number }
+    ensures bytes { out.new.items ≡ out.old.items ++ (tag ∷ stream_bytes stream.now ++ u32_bytes number) }
     ensures room { room out.old ≤ room out.new + 7 }
 {
-    write_u8(out, tag);
-    write_stream(out, stream);
-    write_u32(out, number);
+    let [a, b, c, d] = number.to_be_bytes();
+    write_bytes(out, &[tag, stream.node.0, stream.slot.0, a, b, c, d]);
 }
 
-/// Appends a letter's body: the byte of its kind, then the fields of that kind.
+/// Appends the tag of what a letter says, and its fields.
 #[tactic(auto, using(std::proofs::Common::append_assoc, crate::proofs::Room::longest_is), unfolding(zeus_model::specs::PacketSpelling::body_bytes, crate::specs::Ranges::IsBody, zeus_packet::specs::Fits::body_fits))]
 pub fn write_body(out: &mut Vec<u8>, version: u8, body: &Body)
     requires fits { body_fits (largest version) body.now ≡ true }

@@ -1,11 +1,12 @@
 //! Numbers, sets, streams, stamps, placements and proposals as bytes, for which there is room.
 ghost use Rattle.std.specs.Prelude.{◌≡◌, ◌≤◌, ◌+◌, ◌++◌, ◌∷◌, [], length};
+ghost use Rattle.zeus_base.specs.Bits.{bits_of};
 ghost use Rattle.zeus_wire.specs.Ranges.{IsProposal, IsSet, IsStamp, room};
-ghost use Rattle.zeus_model.specs.PacketSpelling.{place_bytes, proposal_bytes, set_bytes, stamp_bytes, stream_bytes, u16_bytes, u32_bytes, u64_bytes};
+ghost use Rattle.zeus_model.specs.PacketSpelling.{place_bytes, proposal_bytes, stamp_bytes, u16_bytes};
 
-use zeus_packet::{NodeSet, Place, Proposal, Stamp, Stream};
+use zeus_packet::{NodeSet, ObjId, Place, Proposal, Stamp};
 
-/// Appends the bytes as they are.
+/// Appends the bytes.
 pub fn write_bytes(out: &mut Vec<u8>, bytes: &[u8])
     requires { length bytes.now ≤ room out.old }
     ensures bytes { out.new.items ≡ out.old.items ++ bytes.now }
@@ -23,83 +24,50 @@ pub fn write_u8(out: &mut Vec<u8>, byte: u8)
     out.push_reserved(byte);
 }
 
-/// Appends the two bytes, most significant first.
-#[tactic(auto, unfolding(zeus_model::specs::PacketSpelling::u16_bytes))]
-pub fn write_u16(out: &mut Vec<u8>, number: u16)
-    requires { 2 ≤ room out.old }
-    ensures bytes { out.new.items ≡ out.old.items ++ u16_bytes number }
-    ensures room { room out.old ≤ room out.new + 2 }
+/// Appends a tag and the object, its more significant byte first.
+#[tactic(auto, using(crate::proofs::Numbers::two_alone))]
+pub fn write_object(out: &mut Vec<u8>, tag: u8, obj: ObjId)
+    requires { 3 ≤ room out.old }
+    ensures bytes { out.new.items ≡ out.old.items ++ tag ∷ u16_bytes obj }
+    ensures room { room out.old ≤ room out.new + 3 }
 {
-    write_bytes(out, &number.to_be_bytes());
+    let [high, low] = obj.0.to_be_bytes();
+    write_bytes(out, &[tag, high, low]);
 }
 
-/// Appends the four bytes, most significant first.
-#[tactic(auto, unfolding(zeus_model::specs::PacketSpelling::u32_bytes))]
-pub fn write_u32(out: &mut Vec<u8>, number: u32)
-    requires { 4 ≤ room out.old }
-    ensures bytes { out.new.items ≡ out.old.items ++ u32_bytes number }
-    ensures room { room out.old ≤ room out.new + 4 }
-{
-    write_bytes(out, &number.to_be_bytes());
-}
-
-/// Appends the eight bytes, most significant first.
-#[tactic(auto, unfolding(zeus_model::specs::PacketSpelling::u64_bytes))]
-pub fn write_u64(out: &mut Vec<u8>, number: u64)
-    requires { 8 ≤ room out.old }
-    ensures bytes { out.new.items ≡ out.old.items ++ u64_bytes number }
-    ensures room { room out.old ≤ room out.new + 8 }
-{
-    write_bytes(out, &number.to_be_bytes());
-}
-
-/// Appends a byte with a bit for each of the nodes.
-#[tactic(auto, using(crate::proofs::Sets::set_of_byte), unfolding(zeus_model::specs::PacketSpelling::set_bytes))]
-pub fn write_set(out: &mut Vec<u8>, nodes: NodeSet)
-    requires { 1 ≤ room out.old }
-    ensures bytes { out.new.items ≡ out.old.items ++ set_bytes nodes }
-    ensures room { room out.old ≤ room out.new + 1 }
+/// The byte of a set of nodes: a bit for each node, the lowest for node 0.
+#[tactic(auto, using(crate::proofs::Sets::set_of_byte))]
+pub fn byte_of(nodes: NodeSet) -> u8
+    ensures byte { result ≡ bits_of nodes }
     ensures set { IsSet nodes }
 {
-    out.push_reserved(nodes.bits);
+    nodes.bits
 }
 
-/// Appends a stream: its node, then its slot.
-#[tactic(auto, using(std::proofs::Common::append_assoc), unfolding(zeus_model::specs::PacketSpelling::stream_bytes))]
-pub fn write_stream(out: &mut Vec<u8>, stream: &Stream)
-    requires { 2 ≤ room out.old }
-    ensures bytes { out.new.items ≡ out.old.items ++ stream_bytes stream.now }
-    ensures room { room out.old ≤ room out.new + 2 }
-{
-    write_u8(out, stream.node.0);
-    write_u8(out, stream.slot.0);
-}
-
-/// Appends a stamp: its version, then its driver.
-#[tactic(auto, using(std::proofs::Common::append_assoc), unfolding(zeus_model::specs::PacketSpelling::stamp_bytes))]
+/// Appends the version of the stamp, the most significant byte first, and its driver.
+#[tactic(auto, using(crate::proofs::Numbers::eight_bytes), unfolding(zeus_model::specs::PacketSpelling::stamp_bytes))]
 pub fn write_stamp(out: &mut Vec<u8>, stamp: &Stamp)
     requires { 9 ≤ room out.old }
     ensures bytes { out.new.items ≡ out.old.items ++ stamp_bytes stamp.now }
     ensures room { room out.old ≤ room out.new + 9 }
     ensures stamp { IsStamp stamp.now }
 {
-    write_u64(out, stamp.ver);
-    write_u8(out, stamp.driver.0);
+    let [a, b, c, d, e, f, g, h] = stamp.ver.to_be_bytes();
+    write_bytes(out, &[a, b, c, d, e, f, g, h, stamp.driver.0]);
 }
 
-/// Appends a placement: its owner, then its replicas.
-#[tactic(auto, using(std::proofs::Common::append_assoc), unfolding(zeus_model::specs::PacketSpelling::place_bytes))]
+/// Appends the owner and the byte of the replicas.
+#[tactic(auto, unfolding(zeus_model::specs::PacketSpelling::place_bytes, zeus_model::specs::PacketSpelling::set_bytes))]
 pub fn write_place(out: &mut Vec<u8>, place: &Place)
     requires { 2 ≤ room out.old }
     ensures bytes { out.new.items ≡ out.old.items ++ place_bytes place.now }
     ensures room { room out.old ≤ room out.new + 2 }
     ensures set { IsSet place.now.replicas }
 {
-    write_u8(out, place.owner.0);
-    write_set(out, place.replicas);
+    write_bytes(out, &[place.owner.0, byte_of(place.replicas)]);
 }
 
-/// Appends a proposal without its wish: stamp, requester, base stamp and base placement.
+/// Appends the stamp, the requester, the stamp of the base and its placement.
 #[tactic(auto, using(std::proofs::Common::append_assoc), unfolding(zeus_model::specs::PacketSpelling::proposal_bytes))]
 pub fn write_proposal(out: &mut Vec<u8>, p: &Proposal)
     requires { 21 ≤ room out.old }

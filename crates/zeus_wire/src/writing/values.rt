@@ -3,22 +3,24 @@ ghost use Rattle.std.specs.Prelude.{◌≡◌, ◌≤◌, ◌+◌, ◌++◌, tru
 ghost use Rattle.std.specs.List.{list_all};
 ghost use Rattle.zeus_packet.specs.Fits.{content_fits, value_fits, write_fits};
 ghost use Rattle.zeus_wire.specs.Ranges.{AreWrites, IsContent, IsValue, IsWrite, largest, longest_value, longest_writes, room};
-ghost use Rattle.zeus_model.specs.PacketSpelling.{content_bytes, value_bytes, write_bytes as spelled, writes_bytes};
+ghost use Rattle.zeus_model.specs.PacketSpelling.{content_bytes, u16_bytes, u64_bytes, value_bytes, write_bytes as spelled, writes_bytes};
 
-use crate::writing::fields::{write_bytes, write_u8, write_u16, write_u64};
+use crate::writing::fields::{write_bytes, write_u8};
 use zeus_base::Text;
-use zeus_packet::{Content, Value, Write};
+use zeus_packet::{Content, ObjId, Value, Write};
 
-#[tactic(auto, using(std::proofs::Common::append_assoc), unfolding(zeus_model::specs::PacketSpelling::value_bytes, crate::specs::Ranges::longest_value, crate::specs::Ranges::IsValue))]
+#[tactic(auto, using(crate::proofs::Numbers::eight_alone), unfolding(zeus_model::specs::PacketSpelling::value_bytes, crate::specs::Ranges::longest_value))]
 fn write_num(out: &mut Vec<u8>, version: u8, number: u64)
     requires { longest_value version ≤ room out.old }
     ensures bytes { out.new.items ≡ out.old.items ++ value_bytes version (Value.Num number) }
     ensures room { room out.old ≤ room out.new + longest_value version }
 {
+    let [a, b, c, d, e, f, g, h] = number.to_be_bytes();
     if version == 2 {
-        write_u8(out, 0);
+        write_bytes(out, &[0, a, b, c, d, e, f, g, h]);
+    } else {
+        write_bytes(out, &[a, b, c, d, e, f, g, h]);
     }
-    write_u64(out, number);
 }
 
 #[tactic(auto, using(std::proofs::Common::append_assoc), unfolding(zeus_model::specs::PacketSpelling::value_bytes, crate::specs::Ranges::IsValue))]
@@ -47,6 +49,18 @@ fn write_value(out: &mut Vec<u8>, version: u8, value: &Value)
     }
 }
 
+/// Appends the object of a write, and its version.
+#[tactic(auto, using(crate::proofs::Numbers::two_bytes, crate::proofs::Numbers::eight_alone))]
+fn write_version(out: &mut Vec<u8>, obj: ObjId, ver: u64)
+    requires { 10 ≤ room out.old }
+    ensures bytes { out.new.items ≡ out.old.items ++ (u16_bytes obj ++ u64_bytes ver) }
+    ensures room { room out.old ≤ room out.new + 10 }
+{
+    let [high, low] = obj.0.to_be_bytes();
+    let [a, b, c, d, e, f, g, h] = ver.to_be_bytes();
+    write_bytes(out, &[high, low, a, b, c, d, e, f, g, h]);
+}
+
 #[tactic(auto, using(std::proofs::Common::append_assoc), unfolding(zeus_model::specs::PacketSpelling::write_bytes, zeus_packet::specs::Fits::write_fits))]
 fn write_write(out: &mut Vec<u8>, version: u8, write: &Write)
     requires fits { write_fits (largest version) write.now ≡ true }
@@ -55,12 +69,11 @@ fn write_write(out: &mut Vec<u8>, version: u8, write: &Write)
     ensures room { room out.old ≤ room out.new + (10 + longest_value version) }
     ensures write { IsWrite write.now }
 {
-    write_u16(out, write.obj.0);
-    write_u64(out, write.ver);
+    write_version(out, write.obj, write.ver);
     write_value(out, version, &write.value);
 }
 
-/// Appends the writes one after another.
+/// Appends the writes, one behind the other.
 pub fn write_writes(out: &mut Vec<u8>, version: u8, writes: &[Write])
     requires fits { list_all (write_fits (largest version)) writes.now ≡ true }
     requires room { longest_writes version writes.now ≤ room out.old }
@@ -73,8 +86,8 @@ pub fn write_writes(out: &mut Vec<u8>, version: u8, writes: &[Write])
     }
 }
 
-/// Appends a byte that says whether there is a content, and the content if there is one.
-#[tactic(auto, using(std::proofs::Common::append_assoc), unfolding(zeus_model::specs::PacketSpelling::content_bytes, crate::specs::Ranges::IsContent, zeus_packet::specs::Fits::content_fits))]
+/// Appends the byte 0 if there is no content; else the byte 1, its version and its value.
+#[tactic(auto, using(std::proofs::Common::append_assoc, crate::proofs::Numbers::eight_alone), unfolding(zeus_model::specs::PacketSpelling::content_bytes, crate::specs::Ranges::IsContent, zeus_packet::specs::Fits::content_fits))]
 pub fn write_content(out: &mut Vec<u8>, version: u8, content: &Option<Content>)
     requires fits { content_fits (largest version) content.now ≡ true }
     requires room { 9 + longest_value version ≤ room out.old }
@@ -85,8 +98,8 @@ pub fn write_content(out: &mut Vec<u8>, version: u8, content: &Option<Content>)
     match content {
         None => write_u8(out, 0),
         Some(content) => {
-            write_u8(out, 1);
-            write_u64(out, content.ver);
+            let [a, b, c, d, e, f, g, h] = content.ver.to_be_bytes();
+            write_bytes(out, &[1, a, b, c, d, e, f, g, h]);
             write_value(out, version, &content.value);
         }
     }
