@@ -9,3 +9,4 @@ pub mod Settling
 pub mod Stepping
 pub mod Viewing
 pub mod Sorting
+pub mod Numbering
