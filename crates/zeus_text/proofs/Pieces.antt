@@ -1,7 +1,7 @@
 -- One piece of a text after another: what is written, with the text of what is left, stays the whole text.
-use Rattle.std.proofs.Common.{ℕ, suc, ◌≡◌, ◌<◌, ◌≤◌, ◌+◌, ◌-◌, List, [], ◌∷◌, ◌++◌, length, get_or, drop, append_assoc, arith, refl, ap}
+use Rattle.std.proofs.Common.{ℕ, suc, ◌≡◌, ◌<◌, ◌≤◌, ◌+◌, ◌-◌, List, [], ◌∷◌, ◌++◌, length, get_or, drop, set, append_assoc, arith, refl, ap}
 use Rattle.std.proofs.Math.ListN.{drop_of_length-le}
-use Rattle.std.proofs.lemmas.List.{drop_more, append-nil}
+use Rattle.std.proofs.lemmas.List.{drop_more, drop-set, append-nil}
 use Rattle.zeus_model.specs.Tables.{numbers_from}
 
 -- the next of the pieces that are left
@@ -39,3 +39,11 @@ count_done F nil i n out whole h kept =
     let t : numbers_from i (n - i) ≡ [] = rw s refl in
     let e = append-nil out in
     cc (t, e, nil)
+
+-- a byte that is put before digits at the end of a text
+pub behind : (text digits : List ℕ) (at byte : ℕ) → 0 < at → at ≤ length text → drop at text ≡ digits ++ [] → drop (at - 1) (set text (at - 1) byte) ≡ byte ∷ digits
+behind text digits at byte h short written =
+    let e = drop-set text (at - 1) byte (omega arith) in
+    let f : at - 1 + 1 ≡ at = omega arith in
+    let s = append-nil digits in
+    cc (e, f, s, written)
