@@ -1,5 +1,5 @@
 //! Streams pass, and their followers are told.
-ghost use Rattle.std.specs.Prelude.{◌≡◌, ◌<◌, ◌≤◌, true, length};
+ghost use Rattle.std.specs.Prelude.{◌≡◌, ◌<◌, ◌≤◌, [], true, length};
 ghost use Rattle.zeus_model.specs.Act.{to_each};
 ghost use Rattle.zeus_model.specs.Commit.{advance_kept, advance_own};
 ghost use Rattle.zeus_packet.specs.Fits.{stream_fits};
@@ -11,7 +11,7 @@ ghost use Rattle.node_state.specs.Done.{Adds, IsActed};
 use crate::effect::Effect;
 use crate::state::NodeState;
 use reliable_commit::Advance;
-use zeus_base::{Passed, SlotId, Stream};
+use zeus_base::{NodeSet, Passed, SlotId, Stream};
 use zeus_packet::Body;
 
 impl NodeState {
@@ -50,8 +50,7 @@ impl NodeState {
         requires passed { length out.old.passed < 72 }
         ensures { Adds (to_each self.now advance.now.tell (RVal stream.now advance.now.after)) (passed_by stream.now advance.now) out.old out.new }
     {
-        let body = Body::RVal(*stream, advance.after);
-        self.send_each(advance.tell, &body, out);
+        self.tell_done(advance.tell, stream, advance.after, out);
         if advance.first != advance.after {
             out.passed.push(Passed {
                 stream: *stream,
@@ -59,5 +58,17 @@ impl NodeState {
                 after: advance.after,
             });
         }
+    }
+
+    // Tells each of the nodes how many entries of the stream have passed. For nobody no letter is made.
+    fn tell_done(&self, receivers: NodeSet, stream: &Stream, done: u32, out: &mut Effect)
+        requires { length out.old.sent ≤ 64 }
+        ensures { Adds (to_each self.now receivers (RVal stream.now done)) [] out.old out.new }
+    {
+        if receivers.is_empty() {
+            return;
+        }
+        let body = Body::RVal(*stream, done);
+        self.send_each(receivers, &body, out);
     }
 }

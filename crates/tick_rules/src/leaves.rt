@@ -10,11 +10,14 @@ use node_state::{Effect, NodeState};
 use zeus_base::{NodeId, NodeSet, ObjId};
 use zeus_packet::Want;
 
-/// Asks to leave the replicas of each object of which the node leaves.
+/// Asks to leave the replicas of each object of which the node leaves. Where there is no degree, it leaves none.
 pub(crate) fn repeat_leaves(node: &NodeState, out: &mut Effect)
     requires { length out.old.sent ≤ 64 }
     ensures { Adds (letters_of (repeat_leave node.now) (below (length node.now.entries))) [] out.old out.new }
 {
+    if node.degree().is_none() {
+        return;
+    }
     for obj in 0..node.object_count() {
         repeat_leave(node, ObjId(obj), out);
     }

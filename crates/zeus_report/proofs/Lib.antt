@@ -1,3 +1,4 @@
 pub mod Copies
+pub mod Numbered
 pub mod RunSteps
 pub mod Whole

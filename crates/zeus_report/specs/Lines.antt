@@ -1,6 +1,6 @@
 -- The single lines of a report.
 use Rattle.std.specs.Prelude.{ℕ, List, [], ◌++◌, codes, decimal, if◌then◌else◌}
-use Rattle.zeus_packet.specs.declared.letter.Packet.{Packet}
+use Rattle.zeus_packet.specs.declared.letter.Letter.{Letter}
 use Rattle.zeus_packet.specs.declared.write.Write.{Write}
 use Rattle.zeus_txn.specs.declared.reply.Reply.{Reply}
 use Rattle.zeus_base.specs.declared.step.Step.{Step}
@@ -15,10 +15,8 @@ use Rattle.zeus_model.specs.World.{World, node}
 use Rattle.zeus_model.specs.Spelling.{word, value_text}
 
 -- `> SENDER RECEIVER NUMBER EPOCH BODY`
-abbrev pub packet_line : List (List ℕ) → Packet → List ℕ
-packet_line names p =
-    codes ">" ++ number p.letter.from ++ number p.letter.to ++ number p.number ++ number p.letter.epoch
-    ++ word (body_text names p.letter.body) ++ line_end
+abbrev pub packet_line : List (List ℕ) → ℕ → Letter → List ℕ
+packet_line names n l = codes ">" ++ number l.from ++ number l.to ++ number n ++ number l.epoch ++ word (body_text names l.body) ++ line_end
 
 -- `* K REPLY`
 abbrev pub point_line : ℕ → Reply → List ℕ

@@ -8,10 +8,11 @@ ghost use Rattle.zeus_report.specs.Lines.{packet_line, write_text};
 use crate::words::{state_text, write_nodes, write_stamp, write_stamped, write_stream};
 use zeus_base::{NoMemory, Stream};
 use zeus_model::Name;
-use zeus_packet::{Body, Cause, Content, Packet, Place, Proposal, RInv, Want, Write};
+use zeus_packet::{Body, Cause, Content, Letter, Place, Proposal, RInv, Want, Write};
 use zeus_text::{
     append, write_counted, write_line_end, write_number, write_object, write_value, write_word,
 };
+use zeus_world::Sent;
 
 /// Writes a space and why a letter was refused.
 #[tactic(auto, unfolding(zeus_model::specs::ReportWords::cause_text))]
@@ -164,28 +165,30 @@ pub(crate) fn write_body(out: &mut Vec<u8>, names: &[Name], body: &Body) -> Resu
     }
 }
 
-fn write_packet(out: &mut Vec<u8>, names: &[Name], packet: &Packet) -> Result<(), NoMemory>
-    ensures { OnOk result (out.new.items ≡ out.old.items ++ packet_line names.now packet.now) }
+fn write_packet(
+    out: &mut Vec<u8>,
+    names: &[Name],
+    number: u32,
+    letter: &Letter,
+) -> Result<(), NoMemory>
+    ensures { OnOk result (out.new.items ≡ out.old.items ++ packet_line names.now number letter.now) }
 {
-    let letter = &packet.letter;
     write_counted(out, b">", u64::from(letter.from.0))?;
     write_number(out, u64::from(letter.to.0))?;
-    write_number(out, u64::from(packet.number))?;
+    write_number(out, u64::from(number))?;
     write_number(out, u64::from(letter.epoch))?;
     write_body(out, names, &letter.body)?;
     write_line_end(out)
 }
 
 /// Writes a line for each packet.
-pub(crate) fn write_packets(
-    out: &mut Vec<u8>,
-    names: &[Name],
-    packets: &[Packet],
-) -> Result<(), NoMemory>
-    ensures { OnOk result (out.new.items ≡ out.old.items ++ packet_lines names.now packets.now) }
+pub(crate) fn write_packets(out: &mut Vec<u8>, names: &[Name], sent: &Sent) -> Result<(), NoMemory>
+    ensures { OnOk result (out.new.items ≡ out.old.items ++ packet_lines names.now sent.now) }
 {
-    for packet in packets {
-        write_packet(out, names, packet)?;
+    let numbers = sent.numbers();
+    let letters = sent.letters();
+    for place in 0..sent.len() {
+        write_packet(out, names, numbers[place], &letters[place])?;
     }
     Ok(())
 }

@@ -17,9 +17,11 @@ use soundness::every_run_keeps_its_promise;
 use std::alloc::Global;
 use zeus_base::{NoMemory, Step, TxId};
 use zeus_model::{Answer, Name, Script};
-use zeus_text::{append, write_counted, write_decimal, write_line_end, write_reply, write_step};
+use zeus_text::{
+    append, append_byte, write_counted, write_decimal, write_line_end, write_reply, write_step,
+};
 use zeus_txn::Reply;
-use zeus_world::{Report, World};
+use zeus_world::{StepEvent, World};
 
 fn write_answer_line(
     out: &mut Vec<u8>,
@@ -31,7 +33,7 @@ fn write_answer_line(
     ensures { OnOk result (out.new.items ≡ out.old.items ++ step_answer names.now place step.now answer.now) }
 {
     write_decimal(out, place)?;
-    append(out, b" ")?;
+    append_byte(out, b' ')?;
     write_step(out, step)?;
     append(out, b" = ")?;
     write_answer(out, names, answer)?;
@@ -66,25 +68,25 @@ fn write_event(
     names: &[Name],
     place: u64,
     world: &mut World,
-    event: &mut Report,
+    event: &mut StepEvent,
     step: &Step,
 ) -> Result<(), NoMemory>
     requires { FitsStep world.old.config (length world.old.txs) step.now }
     ensures text { OnOk result (out.new.items ≡ out.old.items ++ event_text names.now place step.now (happens world.old step.now)) }
     ensures world { OnOk result (world.new ≡ stepped world.old step.now) }
 {
-    world.step_into(step, event)?;
+    world.step_event(step, event)?;
     write_answer_line(out, names, place, step, &event.answer)?;
     write_points(out, world, event.points.as_slice())?;
     write_acked(out, event.acked.as_slice())?;
-    write_packets(out, names, event.sent.as_slice())
+    write_packets(out, names, &event.sent)
 }
 
 fn write_events(
     out: &mut Vec<u8>,
     names: &[Name],
     world: &mut World,
-    event: &mut Report,
+    event: &mut StepEvent,
     steps: &[Step],
 ) -> Result<(), NoMemory>
     requires { All (FitsStep world.old.config (length world.old.txs)) steps.now }
@@ -112,7 +114,7 @@ fn write_report(alloc: Global, script: &Script, world: &mut World) -> Result<Vec
     ensures world { OnOk result (world.new ≡ run (start_of script.now) script.now.steps) }
 {
     let names = script.names.as_slice();
-    let mut event = Report::new(alloc);
+    let mut event = StepEvent::new(alloc)?;
     let mut out = Vec::new(alloc);
     write_head(&mut out, script.config.version)?;
     write_events(&mut out, names, world, &mut event, script.steps.as_slice())?;

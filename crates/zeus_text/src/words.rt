@@ -4,8 +4,12 @@ ghost use Rattle.zeus_model.specs.ReportText.{line_end};
 ghost use Rattle.zeus_model.specs.ReportWords.{number, named_object};
 ghost use Rattle.zeus_model.specs.Spelling.{word, value_text, name_of};
 
+use itoa::{Buffer, write_digits};
 use zeus_base::{NoMemory, ObjId, Value};
 use zeus_model::Name;
+
+/// How many digits a number has at most.
+const MOST_DIGITS: usize = 20;
 
 /// Adds the bytes at the end.
 ///
@@ -34,16 +38,25 @@ pub fn append_byte(out: &mut Vec<u8>, byte: u8) -> Result<(), NoMemory>
 /// # Errors
 ///
 /// Memory ran out.
-#[tactic(auto, using(std::proofs::Common::append_assoc, std::proofs::lemmas::Fmt::decimal_step, std::proofs::lemmas::Fmt::decimal_digit))]
 pub fn write_decimal(out: &mut Vec<u8>, n: u64) -> Result<(), NoMemory>
     ensures { OnOk result (out.new.items ≡ out.old.items ++ decimal n) }
 {
-    // Digit by digit, because most numbers of a report are short.
-    if n < 10 {
-        return append_byte(out, b'0' + n as u8);
-    }
-    write_decimal(out, n / 10)?;
-    append_byte(out, b'0' + (n % 10) as u8)
+    let mut digits = Buffer::new();
+    append(out, digits.format(n).as_bytes())
+}
+
+/// Writes the byte, and then the digits of the number.
+///
+/// # Errors
+///
+/// Memory ran out.
+pub fn write_behind(out: &mut Vec<u8>, byte: u8, n: u64) -> Result<(), NoMemory>
+    ensures { OnOk result (out.new.items ≡ out.old.items ++ byte ∷ decimal n) }
+{
+    let mut text = [0; MOST_DIGITS + 1];
+    let digits = write_digits(n, &mut text, MOST_DIGITS + 1);
+    text[digits - 1] = byte;
+    append(out, &text[digits - 1..])
 }
 
 /// Writes a space and the number.
@@ -54,8 +67,7 @@ pub fn write_decimal(out: &mut Vec<u8>, n: u64) -> Result<(), NoMemory>
 pub fn write_number(out: &mut Vec<u8>, n: u64) -> Result<(), NoMemory>
     ensures { OnOk result (out.new.items ≡ out.old.items ++ number n) }
 {
-    append_byte(out, b' ')?;
-    write_decimal(out, n)
+    write_behind(out, b' ', n)
 }
 
 /// Ends a line.

@@ -7,10 +7,10 @@ use Rattle.zeus_packet.specs.Fits.{fits}
 use Rattle.zeus_packet.specs.declared.letter.Letter.{Letter}
 use Rattle.zeus_packet.specs.declared.letter.Packet.{Packet}
 use Rattle.zeus_model.specs.Tables.{nth}
-use Rattle.zeus_model.specs.World.{all_posted, link, packets, posted}
+use Rattle.zeus_model.specs.World.{all_posted, link, posted}
 use Rattle.zeus_wire.specs.Ranges.{largest}
 use Rattle.lossy_fabric.specs.Links.{LinkState, letters, numbered, room, row_letters, HasRoom, IsLink}
-use Rattle.zeus_world.specs.Posting.{AreFrom, CanPost}
+use Rattle.zeus_world.specs.Posting.{AreFrom, CanPost, link_numbers}
 use Rattle.lossy_fabric.proofs.Sending.{letters-nth}
 
 -- there are as many rows of letters as rows of links
@@ -105,14 +105,14 @@ pub posted_none : (links : List (List (List Letter))) → links ≡ all_posted l
 unfolding all_posted
 posted_none links = refl
 
--- the packets of a batch with that of its first letter noted
-pub noted_first : (before : List Packet) (links : List (List (List Letter))) (l : Letter) (ls : List Letter) (n : ℕ) → n ≡ length (link links l.from l.to) → before ++ record { number = n; letter = l } ∷ [] ++ packets (posted links l) ls ≡ before ++ packets links (l ∷ ls)
-unfolding packets
+-- the numbers of a batch with that of its first letter noted
+pub noted_first : (before : List ℕ) (links : List (List (List Letter))) (l : Letter) (ls : List Letter) (n : ℕ) → n ≡ length (link links l.from l.to) → (before ++ n ∷ []) ++ link_numbers (posted links l) ls ≡ before ++ link_numbers links (l ∷ ls)
+unfolding link_numbers
 noted_first before links l ls n e = rw (append_assoc, e) refl
 
 -- a batch without a letter notes no packet
-pub noted_none : (before : List Packet) (links : List (List (List Letter))) → before ≡ before ++ packets links []
-unfolding packets
+pub noted_none : (before : List ℕ) (links : List (List (List Letter))) → before ≡ before ++ link_numbers links []
+unfolding link_numbers
 noted_none before links = sym (append-nil before)
 
 -- the letter of a packet that a link gives

@@ -19,7 +19,7 @@ use Rattle.std.specs.Prelude.{Result, Ok, Err, IfOk, OnErr}
 use Rattle.zeus_base.specs.declared.step.NoMemory.{NoMemory}
 use Rattle.zeus_world.specs.Shown.{IsKept}
 use Rattle.zeus_world.specs.Taken.{IsTaken}
-use Rattle.zeus_world.specs.declared.report.Report.{Report}
+use Rattle.zeus_world.specs.declared.event.StepEvent.{StepEvent}
 
 -- if some steps lead to the world and the book is of its configuration, then the world is known
 pub known : (w : World) (b : BookState) → IsKept w b → IsKnown w
@@ -104,10 +104,10 @@ promised_stepped w v s t r f promise is e =
     rw after (reached_promised (stepped w s) (reached_step w s r f) promise)
 
 -- if every run keeps its promise, then so does the world after a call, whether the step was taken or memory was wanting
-pub promised_after : (w v : World) (s t : Step) (report : Report) (r : Result (Unit {0}) NoMemory) → IsReached w → FitsStep w.config (length w.txs) s → EveryRunKeepsItsPromise → s ≡ t
-    → IfOk r (λ u. IsTaken report v (happens w t)) → OnErr r (v ≡ w) → HasPromise v
-promised_after w v s t report (Ok u) r f promise is ok err = promised_stepped w v s t r f promise is ok.becomes
-promised_after w v s t report (Err e) r f promise is ok err = rw err (reached_promised w r promise)
+pub promised_after : (w v : World) (s t : Step) (told : StepEvent) (r : Result (Unit {0}) NoMemory) → IsReached w → FitsStep w.config (length w.txs) s → EveryRunKeepsItsPromise → s ≡ t
+    → IfOk r (λ u. IsTaken told v (happens w t)) → OnErr r (v ≡ w) → HasPromise v
+promised_after w v s t told (Ok u) r f promise is ok err = promised_stepped w v s t r f promise is ok.becomes
+promised_after w v s t told (Err e) r f promise is ok err = rw err (reached_promised w r promise)
 
 -- the world at the start is kept
 pub kept_start : (c : Config) (txs : List TxDecl) (w : World) (b : BookState) → KeepsLimits c → FitsTxs c txs → w ≡ start c txs → (book : Book) → b ≡ record { book = book; nodes = c.nodes; slots = c.slots } → IsKept w b

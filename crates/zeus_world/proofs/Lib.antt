@@ -8,3 +8,4 @@ pub mod Settling
 pub mod Stepping
 pub mod Viewing
 pub mod Sorting
+pub mod Numbering

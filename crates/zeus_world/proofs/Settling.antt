@@ -29,10 +29,10 @@ use Rattle.lossy_fabric.proofs.Largest.{fits_largest}
 use Rattle.zeus_wire.specs.Ranges.{AreLimits}
 use Rattle.lossy_fabric.specs.Links.{LinkState, HasRoom, IsLink, letters}
 use Rattle.zeus_world.specs.Posting.{AreFrom, CanPost}
-use Rattle.zeus_world.specs.Reports.{HasSpace, Reports}
+use Rattle.zeus_world.specs.Reports.{Tells}
 use Rattle.zeus_world.specs.Settling.{CanSettle, IsSettled}
 use Rattle.zeus_world.specs.Taken.{IsAlone, IsTaken}
-use Rattle.zeus_world.specs.declared.report.Report.{Report}
+use Rattle.zeus_world.specs.declared.event.StepEvent.{StepEvent}
 use Rattle.zeus_world.proofs.Batches.{length-letters, length-row}
 
 -- ---- the passes and the count
@@ -102,7 +102,7 @@ sender_there w n L r h e = let size : length L ≡ w.config.nodes = sym (length-
 pub few_letters : (said all : List Letter) → said ≡ take 64 all → length said ≤ 64
 few_letters said all e = rw e (length-take-most 64 all)
 
--- ---- the lists of a report
+-- ---- the lists of an event
 
 -- if both lists have room for as many ids as there are records, then the book's lists have theirs
 pub has_lists : (b : Book) (count : ℕ) (points acked : IdsState) → count ≡ length b.records → count ≤ points.room → count ≤ acked.room → HasLists b points acked
@@ -118,10 +118,10 @@ abbrev pub world_with : World → List Node → List (List (List Letter)) → Bo
 world_with w nodes links book = record { config = w.config; txs = w.txs; nodes = nodes; links = links; views = w.views; book = book }
 
 -- a node has acted, behind what was noted before
-pub settled_taken : (w : World) (n : ℕ) (after : Node) (a : Answer) (said : List Letter) (passed : List Passed) (c : BookChange) (b b' : BookState) (L L' : List (List LinkState)) (r s : Report)
-    → n < length w.nodes → letters L ≡ w.links → IsMade c b r.points r.acked → r.sent.packets ≡ [] → r.answer ≡ a → IsSettled n said passed b b' L L' r s
+pub settled_taken : (w : World) (n : ℕ) (after : Node) (a : Answer) (said : List Letter) (passed : List Passed) (c : BookChange) (b b' : BookState) (L L' : List (List LinkState)) (r s : StepEvent)
+    → n < length w.nodes → letters L ≡ w.links → IsMade c b r.points r.acked → r.answer ≡ a → IsSettled n said passed b b' L L' r s
     → IsTaken s (world_with w (set w.nodes n after) (letters L') b'.book) (acted w n after a said (change_then c (λ d. book_passes d n (in_stream_order passed))))
-settled_taken w n after a said passed c b b' L L' r s h e m none says settled =
+settled_taken w n after a said passed c b b' L L' r s h e m says settled =
     let change : BookChange = change_then c (λ d. book_passes d n (in_stream_order passed)) in
     let passes : BookChange = book_passes c.book n (in_stream_order passed) in
     let same : book_passes b.book n (in_stream_order passed) ≡ passes = ap (λ (d : Book). book_passes d n (in_stream_order passed)) m.book in
@@ -129,11 +129,11 @@ settled_taken w n after a said passed c b b' L L' r s h e m none says settled =
     let links : letters L' ≡ all_posted w.links said = settled.links ∙ ap (λ (x : List (List (List Letter))). all_posted x said) e in
     let nodes : set w.nodes n after ≡ put no_node w.nodes n after = sym (put-set no_node w.nodes n after h) in
     record {
-      reports = record {
+      tells = record {
         answer = settled.answer ∙ says;
         points = settled.points ∙ ap (λ (xs : List ℕ). xs ++ (book_passes b.book n (in_stream_order passed)).points) m.points ∙ ap (λ (d : BookChange). c.points ++ d.points) same;
         acked = settled.acked ∙ ap (λ (xs : List ℕ). xs ++ (book_passes b.book n (in_stream_order passed)).acked) m.acks ∙ ap (λ (d : BookChange). c.acked ++ d.acked) same;
-        sent = settled.sent ∙ ap (λ (xs : List Packet). xs ++ packets (letters L) said) none ∙ ap (λ (x : List (List (List Letter))). packets x said) e;
+        sent = settled.sent ∙ ap (λ (x : List (List (List Letter))). packets x said) e;
       };
       becomes =
           ap (λ (ns : List Node). world_with w ns (letters L') b'.book) nodes
@@ -142,19 +142,19 @@ settled_taken w n after a said passed c b b' L L' r s h e m none says settled =
     }
 
 -- a step that the world answers alone
-pub alone_taken : (w v : World) (a : Answer) (r : Report) (e : Event) → e ≡ refuse_step w a → v ≡ record w { book = counted w.book } → IsAlone a r → IsTaken r v e
+pub alone_taken : (w v : World) (a : Answer) (r : StepEvent) (e : Event) → e ≡ refuse_step w a → v ≡ record w { book = counted w.book } → IsAlone a r → IsTaken r v e
 alone_taken w v a r e is f alone =
-    rw is (record { reports = record { answer = alone.says; points = alone.points; acked = alone.acked; sent = alone.sent }; becomes = f })
+    rw is (record { tells = record { answer = alone.says; points = alone.points; acked = alone.acked; sent = alone.sent }; becomes = f })
 
 -- a node has acted, and nothing was sent and nothing has passed
-pub quiet_taken : (w : World) (n : ℕ) (after : Node) (a : Answer) (c : BookChange) (links : List (List (List Letter))) (b : Book) (r : Report)
+pub quiet_taken : (w : World) (n : ℕ) (after : Node) (a : Answer) (c : BookChange) (links : List (List (List Letter))) (b : Book) (r : StepEvent)
     → n < length w.nodes → links ≡ w.links → b ≡ counted c.book → c.points ≡ [] → c.acked ≡ [] → IsAlone a r
     → IsTaken r (world_with w (set w.nodes n after) links b) (acted w n after a [] c)
 unfolding all_posted packets
 quiet_taken w n after a c links b r h e f p q alone =
     let nodes : set w.nodes n after ≡ put no_node w.nodes n after = sym (put-set no_node w.nodes n after h) in
     record {
-      reports = record { answer = alone.says; points = alone.points ∙ sym p; acked = alone.acked ∙ sym q; sent = alone.sent };
+      tells = record { answer = alone.says; points = alone.points ∙ sym p; acked = alone.acked ∙ sym q; sent = alone.sent };
       becomes =
           ap (λ (ns : List Node). world_with w ns links b) nodes
           ∙ ap (λ (x : List (List (List Letter))). world_with w (put no_node w.nodes n after) x b) e
@@ -171,7 +171,7 @@ link_there w from to L r h k e =
     record { from = rw size h; to = rw row k }
 
 -- if a step is refused with an answer, and the report tells it alone, then the report tells what happens
-pub alone_as : (w : World) (a : Answer) (r : Report) (e : Event) (links : List (List (List Letter))) (b : Book) → e ≡ refuse_step w a → links ≡ w.links → b ≡ counted w.book → IsAlone a r → IsTaken r (world_with w w.nodes links b) e
+pub alone_as : (w : World) (a : Answer) (r : StepEvent) (e : Event) (links : List (List (List Letter))) (b : Book) → e ≡ refuse_step w a → links ≡ w.links → b ≡ counted w.book → IsAlone a r → IsTaken r (world_with w w.nodes links b) e
 alone_as w a r e links b is f g alone =
     alone_taken w (world_with w w.nodes links b) a r e is
     (ap (λ (x : List (List (List Letter))). world_with w w.nodes x b) f ∙ ap (λ (d : Book). world_with w w.nodes w.links d) g) alone

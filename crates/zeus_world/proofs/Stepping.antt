@@ -48,7 +48,7 @@ use Rattle.reached_worlds.proofs.Signed.{AreBy, tick-passed}
 use Rattle.lossy_fabric.specs.Links.{LinkState, HasRoom, letters}
 use Rattle.zeus_world.specs.Settling.{CanSettle, IsSettled}
 use Rattle.zeus_world.specs.Taken.{IsAlone, IsTaken}
-use Rattle.zeus_world.specs.declared.report.Report.{Report}
+use Rattle.zeus_world.specs.declared.event.StepEvent.{StepEvent}
 use Rattle.zeus_world.proofs.Settling.{IsMade, can_post, few_letters, quiet_taken, settled_taken, world_with}
 
 -- ---- a node of the world
@@ -88,18 +88,18 @@ pub record HasActed {A : Type 0} (d : Did A) (answer : A) (after : Node) (said :
   pub passes : passed ≡ d.passed
 
 -- if the letters of a node's act fit, the links have room for 64, and book and lists have theirs, then it can be settled
-pub can_settle : (w : World) (n : ℕ) (all said : List Letter) (b : BookState) (L : List (List LinkState)) (r : Report) → said ≡ take 64 all → IsRanged w → n < w.config.nodes → letters L ≡ w.links
-    → AreBy n all → AllFit (limits_of w.config) all → HasRoom 64 (nth [] L n) → b.book.steps + 1 < 2 ^ 64 → HasLists b.book r.points r.acked → 64 ≤ r.sent.room → CanSettle b L said r
-can_settle w n all said b L r is ranged h e by fit room steps lists most =
+pub can_settle : (w : World) (n : ℕ) (all said : List Letter) (b : BookState) (L : List (List LinkState)) (r : StepEvent) → said ≡ take 64 all → IsRanged w → n < w.config.nodes → letters L ≡ w.links
+    → AreBy n all → AllFit (limits_of w.config) all → HasRoom 64 (nth [] L n) → b.book.steps + 1 < 2 ^ 64 → HasLists b.book r.points r.acked → CanSettle b L said r
+can_settle w n all said b L r is ranged h e by fit room steps lists =
     let few = few_letters said all is in
-    record { counts = steps; post = can_post w n all said L is ranged h e by fit room; lists = lists; packets = omega arith }
+    record { counts = steps; post = can_post w n all said L is ranged h e by fit room; lists = lists; few = few }
 
 -- if a node has acted and its act was settled, then the report tells it, and the world is the one after it
-pub settled_as : {A : Type 0} (w : World) (n : ℕ) (wrap : A → Answer) (d : Did A) (answer : A) (after : Node) (said : List Letter) (passed : List Passed) (c : BookChange) (b b' : BookState) (L L' : List (List LinkState)) (r s : Report)
-    → HasActed d answer after said passed → n < length w.nodes → letters L ≡ w.links → IsMade c b r.points r.acked → r.sent.packets ≡ [] → r.answer ≡ wrap answer → IsSettled n said passed b b' L L' r s
+pub settled_as : {A : Type 0} (w : World) (n : ℕ) (wrap : A → Answer) (d : Did A) (answer : A) (after : Node) (said : List Letter) (passed : List Passed) (c : BookChange) (b b' : BookState) (L L' : List (List LinkState)) (r s : StepEvent)
+    → HasActed d answer after said passed → n < length w.nodes → letters L ≡ w.links → IsMade c b r.points r.acked → r.answer ≡ wrap answer → IsSettled n said passed b b' L L' r s
     → IsTaken s (world_with w (set w.nodes n after) (letters L') b'.book) (acted w n d.node (wrap d.answer) (take 64 d.sent) (change_then c (λ e. book_passes e n (in_stream_order d.passed))))
-settled_as w n wrap d answer after said passed c b b' L L' r s did h e m none says settled =
-    rw (← did.says, ← did.becomes, ← did.sends, ← did.passes) (settled_taken w n after (wrap answer) said passed c b b' L L' r s h e m none says settled)
+settled_as w n wrap d answer after said passed c b b' L L' r s did h e m says settled =
+    rw (← did.says, ← did.becomes, ← did.sends, ← did.passes) (settled_taken w n after (wrap answer) said passed c b b' L L' r s h e m says settled)
 
 -- ---- what happens
 
@@ -221,7 +221,7 @@ install_fits c txs n e h = record { node = h.0; first = h.1 }
 -- ---- what is taken
 
 -- if a node stopped and nothing else is told, then the report and the world are those of the stop
-pub stop_taken : (w : World) (n : ℕ) (k after : Node) (t : Stopping) (links : List (List (List Letter))) (b : Book) (r : Report) → IsNodeAt w n k → t ≡ (stop k).answer → after ≡ (stop k).node
+pub stop_taken : (w : World) (n : ℕ) (k after : Node) (t : Stopping) (links : List (List (List Letter))) (b : Book) (r : StepEvent) → IsNodeAt w n k → t ≡ (stop k).answer → after ≡ (stop k).node
     → links ≡ w.links → b ≡ counted w.book → IsAlone (StopAnswer t) r → IsTaken r (world_with w (set w.nodes n after) links b) (happens w (Stop n))
 stop_taken w n k after t links b r at says becomes e f alone =
     rw (stop_happens w n k at, ← says, ← becomes) (quiet_taken w n after (StopAnswer t) (book_only w.book) links b r at.place e f refl refl alone)
@@ -238,7 +238,7 @@ begun_quiet b k (Busy id) = record { points = refl; acks = refl }
 begun_quiet b k BeginStopped = record { points = refl; acks = refl }
 
 -- if a node began a transaction and nothing else is told, then the report and the world are those of the begin
-pub begin_taken : (w : World) (k : ℕ) (n after : Node) (t : BeginOutcome) (links : List (List (List Letter))) (b : Book) (r : Report) → IsNodeAt w (tx_decl w k).node n → None ≡ begin_refused w k
+pub begin_taken : (w : World) (k : ℕ) (n after : Node) (t : BeginOutcome) (links : List (List (List Letter))) (b : Book) (r : StepEvent) → IsNodeAt w (tx_decl w k).node n → None ≡ begin_refused w k
     → t ≡ (begin n (tx_decl w k).slot k (tx_decl w k).tx).answer → after ≡ (begin n (tx_decl w k).slot k (tx_decl w k).tx).node
     → links ≡ w.links → b ≡ counted (book_begun w.book k t).book → IsAlone (BeginAnswer t) r → IsTaken r (world_with w (set w.nodes (tx_decl w k).node after) links b) (happens w (Begin k))
 begin_taken w k n after t links b r at is says becomes e f alone =
@@ -247,39 +247,39 @@ begin_taken w k n after t links b r at is says becomes e f alone =
     (quiet_taken w (tx_decl w k).node after (BeginAnswer t) (book_begun w.book k t) links b r at.place e f quiet.points quiet.acks alone)
 
 -- if a node ticked and its act was settled, then the report and the world are those of the tick
-pub tick_taken : (w : World) (n : ℕ) (k after : Node) (t : Ticking) (said : List Letter) (passed : List Passed) (b b' : BookState) (L L' : List (List LinkState)) (r s : Report) → IsNodeAt w n k
+pub tick_taken : (w : World) (n : ℕ) (k after : Node) (t : Ticking) (said : List Letter) (passed : List Passed) (b b' : BookState) (L L' : List (List LinkState)) (r s : StepEvent) → IsNodeAt w n k
     → HasActed (tick k) t after said passed → letters L ≡ w.links → b.book ≡ w.book → IsAlone (TickAnswer t) r → IsSettled n said passed b b' L L' r s
     → IsTaken s (world_with w (set w.nodes n after) (letters L') b'.book) (happens w (Tick n))
 tick_taken w n k after t said passed b b' L L' r s at did e f alone settled =
     rw (tick_happens w n k at)
-    (settled_as w n TickAnswer (tick k) t after said passed (book_only w.book) b b' L L' r s did at.place e (record { book = f; points = alone.points; acks = alone.acked }) alone.sent alone.says settled)
+    (settled_as w n TickAnswer (tick k) t after said passed (book_only w.book) b b' L L' r s did at.place e (record { book = f; points = alone.points; acks = alone.acked }) alone.says settled)
 
 -- if a node received a packet's letter and its act was settled, then the report and the world are those of the delivery
-pub deliver_taken : (w : World) (from to i : ℕ) (l : Letter) (k after : Node) (t : Receiving) (said : List Letter) (passed : List Passed) (b b' : BookState) (L L' : List (List LinkState)) (r s : Report) → IsNodeAt w to k
+pub deliver_taken : (w : World) (from to i : ℕ) (l : Letter) (k after : Node) (t : Receiving) (said : List Letter) (passed : List Passed) (b b' : BookState) (L L' : List (List LinkState)) (r s : StepEvent) → IsNodeAt w to k
     → nth_letter (link w.links from to) i ≡ Some l
     → HasActed (receive k l) t after said passed → letters L ≡ w.links → b.book ≡ w.book → IsAlone (ReceiveAnswer t) r → IsSettled to said passed b b' L L' r s
     → IsTaken s (world_with w (set w.nodes to after) (letters L') b'.book) (happens w (Deliver from to i))
 deliver_taken w from to i l k after t said passed b b' L L' r s at is did e f alone settled =
     rw (deliver_happens w from to i l k at is)
-    (settled_as w to ReceiveAnswer (receive k l) t after said passed (book_only w.book) b b' L L' r s did at.place e (record { book = f; points = alone.points; acks = alone.acked }) alone.sent alone.says settled)
+    (settled_as w to ReceiveAnswer (receive k l) t after said passed (book_only w.book) b b' L L' r s did at.place e (record { book = f; points = alone.points; acks = alone.acked }) alone.says settled)
 
 -- if a node installed a view and its act was settled, then the report and the world are those of the install
-pub install_taken : (w : World) (n e : ℕ) (v : ViewOf) (k after : Node) (t : Installing) (said : List Letter) (passed : List Passed) (b b' : BookState) (L L' : List (List LinkState)) (r s : Report) → IsNodeAt w n k
+pub install_taken : (w : World) (n e : ℕ) (v : ViewOf) (k after : Node) (t : Installing) (said : List Letter) (passed : List Passed) (b b' : BookState) (L L' : List (List LinkState)) (r s : StepEvent) → IsNodeAt w n k
     → e ≤ length w.views → v ≡ record { epoch = e; members = nth [] w.views (e - 1) }
     → HasActed (install k v) t after said passed → letters L ≡ w.links → b.book ≡ w.book → IsAlone (InstallAnswer t) r → IsSettled n said passed b b' L L' r s
     → IsTaken s (world_with w (set w.nodes n after) (letters L') b'.book) (happens w (Install n e))
 install_taken w n e v k after t said passed b b' L L' r s at less is did f g alone settled =
     rw (install_happens w n e v k at less is)
-    (settled_as w n InstallAnswer (install k v) t after said passed (book_only w.book) b b' L L' r s did at.place f (record { book = g; points = alone.points; acks = alone.acked }) alone.sent alone.says settled)
+    (settled_as w n InstallAnswer (install k v) t after said passed (book_only w.book) b b' L L' r s did at.place f (record { book = g; points = alone.points; acks = alone.acked }) alone.says settled)
 
 -- if a slot was tried and its act was settled, then the report and the world are those of the try
-pub try_taken : (w : World) (n slot : ℕ) (k after : Node) (t : Tried) (said : List Letter) (passed : List Passed) (b b' : BookState) (L L' : List (List LinkState)) (r s : Report) → IsNodeAt w n k
-    → HasActed (try_slot k slot) t after said passed → letters L ≡ w.links → IsMade (book_tried w.book record { node = n; slot = slot } w.config.degree t) b r.points r.acked → r.sent.packets ≡ [] → r.answer ≡ TryAnswer t
+pub try_taken : (w : World) (n slot : ℕ) (k after : Node) (t : Tried) (said : List Letter) (passed : List Passed) (b b' : BookState) (L L' : List (List LinkState)) (r s : StepEvent) → IsNodeAt w n k
+    → HasActed (try_slot k slot) t after said passed → letters L ≡ w.links → IsMade (book_tried w.book record { node = n; slot = slot } w.config.degree t) b r.points r.acked → r.answer ≡ TryAnswer t
     → IsSettled n said passed b b' L L' r s
     → IsTaken s (world_with w (set w.nodes n after) (letters L') b'.book) (happens w (Try n slot))
-try_taken w n slot k after t said passed b b' L L' r s at did e m none says settled =
+try_taken w n slot k after t said passed b b' L L' r s at did e m says settled =
     rw (try_happens w n slot k at, ← did.says)
-    (rw (← did.says) at (settled_as w n TryAnswer (try_slot k slot) t after said passed (book_tried w.book record { node = n; slot = slot } w.config.degree t) b b' L L' r s did at.place e m none says settled))
+    (rw (← did.says) at (settled_as w n TryAnswer (try_slot k slot) t after said passed (book_tried w.book record { node = n; slot = slot } w.config.degree t) b b' L L' r s did at.place e m says settled))
 
 -- ---- what the nodes' calls and the book ask
 

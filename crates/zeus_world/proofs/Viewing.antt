@@ -19,7 +19,7 @@ use Rattle.node_ranges.specs.NodeSets.{nodes_fit-has, nodes_fit-none}
 use Rattle.reached_worlds.specs.Ranged.{IsRanged}
 use Rattle.reached_worlds.proofs.Ranging.{tx_fits}
 use Rattle.zeus_world.specs.Taken.{IsAlone, IsTaken}
-use Rattle.zeus_world.specs.declared.report.Report.{Report}
+use Rattle.zeus_world.specs.declared.event.StepEvent.{StepEvent}
 
 -- an event that changes the views alone, and tells its answer alone
 record IsPlain (w : World) (e : Event) : Type 0 where
@@ -42,12 +42,12 @@ abbrev pub world_seen : World → List (List ℕ) → Book → World
 world_seen w views book = record w { views = views; book = book }
 
 -- if a view was made or refused and nothing else is told, then the report and the world are those of the step
-pub view_taken : (w : World) (set : List ℕ) (m : Made) (views : List (List ℕ)) (b : Book) (r : Report) → ViewAnswer m ≡ (happens w (View set)).answer → views ≡ (stepped w (View set)).views → b ≡ counted w.book
+pub view_taken : (w : World) (set : List ℕ) (m : Made) (views : List (List ℕ)) (b : Book) (r : StepEvent) → ViewAnswer m ≡ (happens w (View set)).answer → views ≡ (stepped w (View set)).views → b ≡ counted w.book
     → IsAlone (ViewAnswer m) r → IsTaken r (world_seen w views b) (happens w (View set))
 view_taken w set m views b r says seen book alone =
     let plain = plain_happens w set in
     record {
-      reports = record { answer = alone.says ∙ says; points = alone.points ∙ sym plain.points; acked = alone.acked ∙ sym plain.acks; sent = alone.sent ∙ sym plain.sent };
+      tells = record { answer = alone.says ∙ says; points = alone.points ∙ sym plain.points; acked = alone.acked ∙ sym plain.acks; sent = alone.sent ∙ sym plain.sent };
       becomes = ap (λ (v : List (List ℕ)). world_seen w v b) seen ∙ ap (λ (d : Book). world_seen w (stepped w (View set)).views d) book ∙ sym plain.world;
     }
 

@@ -2,17 +2,17 @@
 use Rattle.std.specs.Prelude.{◌≡◌, []}
 use Rattle.zeus_model.specs.World.{Event, World}
 use Rattle.zeus_model.specs.declared.answer.Answer.{Answer}
-use Rattle.zeus_world.specs.Reports.{Reports}
-use Rattle.zeus_world.specs.declared.report.Report.{Report}
+use Rattle.zeus_world.specs.Reports.{Tells}
+use Rattle.zeus_world.specs.declared.event.StepEvent.{StepEvent}
 
--- the report tells what happens in the step, and the world is the one after it
-pub record IsTaken (r : Report) (after : World) (e : Event) : Type 0 where
-  pub reports : Reports r e
+-- what is told is what happens in the step, and the world is the one after it
+pub record IsTaken (s : StepEvent) (after : World) (e : Event) : Type 0 where
+  pub tells : Tells s e
   pub becomes : after ≡ e.world
 
--- the report tells this answer, and nothing else
-pub record IsAlone (answer : Answer) (r : Report) : Type 0 where
-  pub says : r.answer ≡ answer
-  pub points : r.points.ids ≡ []
-  pub acked : r.acked.ids ≡ []
-  pub sent : r.sent.packets ≡ []
+-- this answer is told, and nothing else
+pub record IsAlone (answer : Answer) (s : StepEvent) : Type 0 where
+  pub says : s.answer ≡ answer
+  pub points : s.points.ids ≡ []
+  pub acked : s.acked.ids ≡ []
+  pub sent : s.sent ≡ []

@@ -3,12 +3,12 @@ ghost use Rattle.std.specs.Prelude.{◌≡◌, ◌<◌, ◌≤◌, ◌+◌, ◌^
 ghost use Rattle.zeus_base.specs.declared.step.Step.TheVariants.{Deliver as DeliverStep, Install as InstallStep, Tick as TickStep, Try as TryStep};
 ghost use Rattle.zeus_model.specs.Scripts.{FitsStep};
 ghost use Rattle.zeus_model.specs.World.{happens};
-ghost use Rattle.zeus_world.specs.Reports.{SaysSame};
+ghost use Rattle.zeus_world.specs.Reports.{TellsSame};
 ghost use Rattle.zeus_world.specs.Taken.{IsTaken};
 
 use crate::alone::answer_alone;
+use crate::event::StepEvent;
 use crate::posting::settle;
-use crate::report::Report;
 use crate::world::World;
 use zeus_base::{NoMemory, NodeId, SlotId, Stream};
 use zeus_model::Answer;
@@ -22,17 +22,17 @@ impl<'a> World<'a> {
         &mut self,
         at: NodeId,
         slot: SlotId,
-        report: &mut Report,
+        event: &mut StepEvent,
     ) -> Result<(), NoMemory>
         requires fits { FitsStep self.old.config (length self.old.txs) (TryStep at slot) }
         requires counted { self.old.book.steps + 1 < 2 ^ 64 }
-        ensures ok { IfOk result (λ _. IsTaken report.new self.new (happens self.old (TryStep at slot))) }
+        ensures ok { IfOk result (λ _. IsTaken event.new self.new (happens self.old (TryStep at slot))) }
         ensures err { OnErr result (self.new ≡ self.old) }
-        ensures same { OnErr result (SaysSame report.old report.new) }
+        ensures same { OnErr result (TellsSame event.old event.new) }
     {
-        report.reserve(self.book.txs() as usize)?;
+        event.reserve(self.book.txs() as usize)?;
         self.links.reserve(at)?;
-        report.clear();
+        event.clear();
         self.effect.clear();
         let stream = Stream { node: at, slot };
         let node = &mut self.nodes[at.place()];
@@ -41,17 +41,17 @@ impl<'a> World<'a> {
             stream,
             self.config.degree,
             &tried,
-            &mut report.points,
-            &mut report.acked,
+            &mut event.points,
+            &mut event.acked,
         );
-        report.answer = Answer::Try(tried);
+        event.answer = Answer::Try(tried);
         settle(
             at,
-            &self.effect,
+            &mut self.effect,
             &mut self.passes,
             &mut self.book,
             &mut self.links,
-            report,
+            event,
         );
         Ok(())
     }
@@ -65,32 +65,32 @@ impl<'a> World<'a> {
         from: NodeId,
         to: NodeId,
         number: u32,
-        report: &mut Report,
+        event: &mut StepEvent,
     ) -> Result<(), NoMemory>
         requires fits { FitsStep self.old.config (length self.old.txs) (DeliverStep from to number) }
         requires counted { self.old.book.steps + 1 < 2 ^ 64 }
-        ensures ok { IfOk result (λ _. IsTaken report.new self.new (happens self.old (DeliverStep from to number))) }
+        ensures ok { IfOk result (λ _. IsTaken event.new self.new (happens self.old (DeliverStep from to number))) }
         ensures err { OnErr result (self.new ≡ self.old) }
-        ensures same { OnErr result (SaysSame report.old report.new) }
+        ensures same { OnErr result (TellsSame event.old event.new) }
     {
-        report.reserve(self.book.txs() as usize)?;
+        event.reserve(self.book.txs() as usize)?;
         self.links.reserve(to)?;
         let Some(packet) = self.links.get(from, to, number) else {
             let count = self.links.count(from, to);
-            answer_alone(&mut self.book, Answer::NoPacket(count), report);
+            answer_alone(&mut self.book, Answer::NoPacket(count), event);
             return Ok(());
         };
-        report.clear();
+        event.clear();
         self.effect.clear();
         let node = &mut self.nodes[to.place()];
-        report.answer = Answer::Receive(node.receive(&packet.letter, &mut self.effect));
+        event.answer = Answer::Receive(node.receive(&packet.letter, &mut self.effect));
         settle(
             to,
-            &self.effect,
+            &mut self.effect,
             &mut self.passes,
             &mut self.book,
             &mut self.links,
-            report,
+            event,
         );
         Ok(())
     }
@@ -99,26 +99,26 @@ impl<'a> World<'a> {
     ///
     /// # Errors
     /// `NoMemory` if the room for what a step makes is not there; nothing has changed then.
-    pub(crate) fn tick(&mut self, at: NodeId, report: &mut Report) -> Result<(), NoMemory>
+    pub(crate) fn tick(&mut self, at: NodeId, event: &mut StepEvent) -> Result<(), NoMemory>
         requires fits { FitsStep self.old.config (length self.old.txs) (TickStep at) }
         requires counted { self.old.book.steps + 1 < 2 ^ 64 }
-        ensures ok { IfOk result (λ _. IsTaken report.new self.new (happens self.old (TickStep at))) }
+        ensures ok { IfOk result (λ _. IsTaken event.new self.new (happens self.old (TickStep at))) }
         ensures err { OnErr result (self.new ≡ self.old) }
-        ensures same { OnErr result (SaysSame report.old report.new) }
+        ensures same { OnErr result (TellsSame event.old event.new) }
     {
-        report.reserve(self.book.txs() as usize)?;
+        event.reserve(self.book.txs() as usize)?;
         self.links.reserve(at)?;
-        report.clear();
+        event.clear();
         self.effect.clear();
         let node = &mut self.nodes[at.place()];
-        report.answer = Answer::Tick(node.tick(&mut self.effect));
+        event.answer = Answer::Tick(node.tick(&mut self.effect));
         settle(
             at,
-            &self.effect,
+            &mut self.effect,
             &mut self.passes,
             &mut self.book,
             &mut self.links,
-            report,
+            event,
         );
         Ok(())
     }
@@ -131,32 +131,32 @@ impl<'a> World<'a> {
         &mut self,
         at: NodeId,
         epoch: u32,
-        report: &mut Report,
+        event: &mut StepEvent,
     ) -> Result<(), NoMemory>
         requires fits { FitsStep self.old.config (length self.old.txs) (InstallStep at epoch) }
         requires counted { self.old.book.steps + 1 < 2 ^ 64 }
-        ensures ok { IfOk result (λ _. IsTaken report.new self.new (happens self.old (InstallStep at epoch))) }
+        ensures ok { IfOk result (λ _. IsTaken event.new self.new (happens self.old (InstallStep at epoch))) }
         ensures err { OnErr result (self.new ≡ self.old) }
-        ensures same { OnErr result (SaysSame report.old report.new) }
+        ensures same { OnErr result (TellsSame event.old event.new) }
     {
         let Some(view) = self.views.get(epoch) else {
             let count = self.views.count();
-            answer_alone(&mut self.book, Answer::NoView(count), report);
+            answer_alone(&mut self.book, Answer::NoView(count), event);
             return Ok(());
         };
-        report.reserve(self.book.txs() as usize)?;
+        event.reserve(self.book.txs() as usize)?;
         self.links.reserve(at)?;
-        report.clear();
+        event.clear();
         self.effect.clear();
         let node = &mut self.nodes[at.place()];
-        report.answer = Answer::Install(node.install(&view, &mut self.effect));
+        event.answer = Answer::Install(node.install(&view, &mut self.effect));
         settle(
             at,
-            &self.effect,
+            &mut self.effect,
             &mut self.passes,
             &mut self.book,
             &mut self.links,
-            report,
+            event,
         );
         Ok(())
     }

@@ -6,10 +6,10 @@ ghost use Rattle.zeus_model.specs.Book.{counted};
 ghost use Rattle.zeus_model.specs.Scripts.{FitsStep};
 ghost use Rattle.zeus_model.specs.World.{begin_refused, happens, node, tx_decl, waits_for};
 ghost use Rattle.history_book.specs.Books.{with_book};
-ghost use Rattle.zeus_world.specs.Reports.{SaysSame};
+ghost use Rattle.zeus_world.specs.Reports.{TellsSame};
 ghost use Rattle.zeus_world.specs.Taken.{IsAlone, IsTaken};
 
-use crate::report::Report;
+use crate::event::StepEvent;
 use crate::world::World;
 use history_book::Book;
 use zeus_base::{NoMemory, NodeId, NodeSet, TxId};
@@ -17,13 +17,13 @@ use zeus_model::{Answer, Begin};
 use zeus_txn::TxDecl;
 
 /// The step is over: there is this answer, and nothing else to tell.
-pub(crate) fn answer_alone(book: &mut Book, answer: Answer, report: &mut Report)
+pub(crate) fn answer_alone(book: &mut Book, answer: Answer, event: &mut StepEvent)
     requires { book.old.book.steps + 1 < 2 ^ 64 }
     ensures book { book.new ≡ with_book book.old (counted book.old.book) }
-    ensures report { IsAlone answer report.new }
+    ensures event { IsAlone answer event.new }
 {
-    report.clear();
-    report.answer = answer;
+    event.clear();
+    event.answer = answer;
     book.count();
 }
 
@@ -64,31 +64,31 @@ impl<'a> World<'a> {
     }
 
     /// A transaction is to begin: it goes to its slot.
-    pub(crate) fn begin(&mut self, id: TxId, report: &mut Report)
+    pub(crate) fn begin(&mut self, id: TxId, event: &mut StepEvent)
         requires there { id < length self.old.txs }
         requires counted { self.old.book.steps + 1 < 2 ^ 64 }
-        ensures { IsTaken report.new self.new (happens self.old (BeginStep id)) }
+        ensures { IsTaken event.new self.new (happens self.old (BeginStep id)) }
     {
         if let Some(answer) = self.begin_refused(id) {
-            answer_alone(&mut self.book, answer, report);
+            answer_alone(&mut self.book, answer, event);
             return;
         }
         let tx = &self.txs.as_slice()[id.place()];
         let node = &mut self.nodes[tx.node.place()];
         let begun = node.begin(tx.slot, id, &tx.tx);
         self.book.note_begun(id, &begun);
-        answer_alone(&mut self.book, Answer::Begin(begun), report);
+        answer_alone(&mut self.book, Answer::Begin(begun), event);
     }
 
     /// A node stops.
-    pub(crate) fn stop(&mut self, at: NodeId, report: &mut Report)
+    pub(crate) fn stop(&mut self, at: NodeId, event: &mut StepEvent)
         requires node { at < self.old.config.nodes }
         requires counted { self.old.book.steps + 1 < 2 ^ 64 }
-        ensures { IsTaken report.new self.new (happens self.old (StopStep at)) }
+        ensures { IsTaken event.new self.new (happens self.old (StopStep at)) }
     {
         let node = &mut self.nodes[at.place()];
         let stopped = node.stop();
-        answer_alone(&mut self.book, Answer::Stop(stopped), report);
+        answer_alone(&mut self.book, Answer::Stop(stopped), event);
     }
 
     /// The set with the node, if it has stopped.
@@ -118,19 +118,19 @@ impl<'a> World<'a> {
     /// # Errors
     /// `NoMemory` if the view would be made and there is no memory for it, or if no more views can be counted; nothing
     /// has changed then.
-    pub(crate) fn view(&mut self, members: NodeSet, report: &mut Report) -> Result<(), NoMemory>
+    pub(crate) fn view(&mut self, members: NodeSet, event: &mut StepEvent) -> Result<(), NoMemory>
         requires fits { FitsStep self.old.config (length self.old.txs) (ViewStep members) }
         requires counted { self.old.book.steps + 1 < 2 ^ 64 }
-        ensures ok { IfOk result (λ _. IsTaken report.new self.new (happens self.old (ViewStep members))) }
+        ensures ok { IfOk result (λ _. IsTaken event.new self.new (happens self.old (ViewStep members))) }
         ensures err { OnErr result (self.new ≡ self.old) }
-        ensures same { OnErr result (SaysSame report.old report.new) }
+        ensures same { OnErr result (TellsSame event.old event.new) }
     {
         if self.views.count() == u32::MAX {
             return Err(NoMemory);
         }
         let stopped = self.stopped();
         let made = self.views.view(members, stopped)?;
-        answer_alone(&mut self.book, Answer::View(made), report);
+        answer_alone(&mut self.book, Answer::View(made), event);
         Ok(())
     }
 }

@@ -3,6 +3,7 @@
 
 mod acts;
 mod alone;
+mod event;
 mod order;
 mod posting;
 mod readers;
@@ -11,6 +12,7 @@ mod serial;
 mod steps;
 mod world;
 
+pub use event::{Sent, StepEvent};
 pub use history_book::{Book, TxIds};
 pub use lossy_fabric::Links;
 pub use membership::Service;

@@ -1,16 +1,14 @@
 //! What a step reports: its answer, the points and acknowledgements in it, and the packets that it sends.
-ghost use Rattle.std.specs.Prelude.{◌≡◌, ◌≤◌, ◌<◌, ◌+◌, ◌++◌, ◌∷◌, [], IfOk, OnOk, length};
-ghost use Rattle.zeus_world.specs.Reports.{HasSpace, SaysSame};
+ghost use Rattle.std.specs.Prelude.{◌≡◌, ◌≤◌, ◌<◌, ◌+◌, ◌++◌, ◌∷◌, [], OnOk, length};
+ghost use Rattle.zeus_world.specs.Reports.{IsOf, SaysSame};
 
+use crate::event::{MOST_PACKETS, Sent, StepEvent};
 use history_book::TxIds;
 use std::alloc::Global;
 use std::marker::Model;
 use zeus_base::{NoMemory, push_copy};
 use zeus_model::Answer;
 use zeus_packet::Packet;
-
-/// How many packets a step sends at most.
-pub(crate) const MOST_PACKETS: usize = 64;
 
 /// Packets in order, seen as their list and the room for more.
 #[derive(Debug, Drop)]
@@ -69,8 +67,23 @@ impl Packets {
         self.items.clear();
     }
 
+    /// Has these packets, for which there is room.
+    fn fill(&mut self, sent: &Sent)
+        requires { 64 ≤ self.old.room }
+        ensures { self.new.packets ≡ sent.now }
+    {
+        self.clear();
+        for place in 0..sent.len() {
+            let letter = sent.letters()[place].duplicate();
+            self.push(Packet {
+                number: sent.numbers()[place],
+                letter,
+            });
+        }
+    }
+
     /// Adds a packet, for which there is room.
-    pub(crate) fn push(&mut self, packet: Packet)
+    fn push(&mut self, packet: Packet)
         requires { 0 < self.old.room }
         ensures packets { self.new.packets ≡ self.old.packets ++ packet ∷ [] }
         ensures room { self.new.room + 1 ≡ self.old.room }
@@ -104,30 +117,31 @@ impl Report {
         }
     }
 
-    /// Room for so many transactions more in each list, and for the packets of a step; what the report says stays.
+    /// Room for the packets of a step; what the report says stays.
     ///
     /// # Errors
     /// `NoMemory` if the room is not there.
-    pub(crate) fn reserve(&mut self, count: usize) -> Result<(), NoMemory>
+    pub(crate) fn reserve(&mut self) -> Result<(), NoMemory>
         ensures same { SaysSame self.old self.new }
-        ensures space { OnOk result (HasSpace count self.new) }
+        ensures room { OnOk result (64 ≤ self.new.sent.room) }
     {
-        self.points.reserve(count)?;
-        self.acked.reserve(count)?;
         self.sent.reserve(MOST_PACKETS)
     }
 
-    /// The lists are empty, and keep their room.
-    pub(crate) fn clear(&mut self)
-        ensures points { self.new.points.ids ≡ [] }
-        ensures acked { self.new.acked.ids ≡ [] }
-        ensures sent { self.new.sent.packets ≡ [] }
-        ensures points_room { self.old.points.room ≤ self.new.points.room }
-        ensures acked_room { self.old.acked.room ≤ self.new.acked.room }
-        ensures sent_room { self.old.sent.room ≤ self.new.sent.room }
+    /// Says what the event tells.
+    pub(crate) fn fill(&mut self, event: StepEvent)
+        requires { 64 ≤ self.old.sent.room }
+        ensures { IsOf self.new event }
     {
-        self.points.clear();
-        self.acked.clear();
-        self.sent.clear();
+        let StepEvent {
+            answer,
+            points,
+            acked,
+            sent,
+        } = event;
+        self.answer = answer;
+        self.points = points;
+        self.acked = acked;
+        self.sent.fill(&sent);
     }
 }

@@ -1,17 +1,28 @@
-use Rattle.std.proofs.Common.{refl}
+use Rattle.std.proofs.Common.{get_or, refl, ap, arith}
+use Rattle.zeus_packet.specs.declared.letter.Packet.{Packet}
 use Rattle.zeus_base.specs.LoopLaws.{one_more, all_done}
 use Rattle.zeus_model.specs.ReportText.{packet_lines}
 use Rattle.zeus_report.specs.Lines.{packet_line}
+use Rattle.zeus_report.proofs.Numbered.{packet_there, place_there}
 use Rattle.zeus_report.proofs.letters.write_packets.Goals as goal
 
-pub loop-packet-preserved : goal.loop-packet-preserved
+pub index-numbers-place-requires : goal.index-numbers-place-requires
+index-numbers-place-requires c = place_there (λ (p : Packet). p.number) c.args.sent.now _ c.loop-place.place c.len.result c.numbers.ensures c.len.ensures.count c.loop-place-test.true
+
+pub index-letters-place-requires : goal.index-letters-place-requires
+index-letters-place-requires c = place_there (λ (p : Packet). p.letter) c.args.sent.now _ c.loop-place.place c.len.result c.letters.ensures c.len.ensures.count c.loop-place-test.true
+
+pub loop-place-preserved : goal.loop-place-preserved
 unfolding packet_lines
-loop-packet-preserved c =
+loop-place-preserved c =
     let names = c.args.names.now in
-    one_more (packet_lines names) (packet_line names) (λ p ps. refl)
-    c.args.packets.now c.loop-packet.packet-index c.packet-item.result c.loop-packet.out.items c.write_packet.new.out.items _
-    c.loop-packet-test.true c.packet-item.is c.loop-packet.invariant (c.in_ok-write_packet.ensures)
+    let number = ap (λ numbers. get_or numbers c.loop-place.place 0) c.numbers.ensures in
+    let letter = rw c.letters.ensures at c.index-letters-place.is in
+    let there = packet_there c.args.sent.now c.loop-place.place _ _ (omega arith) number letter in
+    one_more (packet_lines names) (λ (p : Packet). packet_line names p.number p.letter) (λ p ps. refl)
+    c.args.sent.now c.loop-place.place _ c.loop-place.out.items c.write_packet.new.out.items _
+    (omega arith) there c.loop-place.invariant (c.in_ok-write_packet.ensures)
 
 pub returns : goal.returns
 unfolding packet_lines
-returns c = all_done (packet_lines c.args.names.now) refl c.args.packets.now c.loop-packet.packet-index c.loop-packet.out.items _ c.loop-packet-test.false c.loop-packet.invariant
+returns c = all_done (packet_lines c.args.names.now) refl c.args.sent.now c.loop-place.place c.loop-place.out.items _ (omega arith) c.loop-place.invariant

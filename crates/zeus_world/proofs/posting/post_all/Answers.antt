@@ -30,12 +30,13 @@ loop-letter-preserved c =
     record {
       can = later_post _ _ _ _ (rw rest at c.loop-letter.invariant.can) sent c.send-number.ensures.room;
       room = omega arith;
+      grows = omega arith;
       links =
           ap (λ links. all_posted links left) sent ∙ posted_first (letters c.loop-letter.links) c.letter-item.result left
           ∙ (rw rest at c.loop-letter.invariant.links);
-      packets =
-          rw (c.push.ensures.packets, c.duplicate.ensures, sent)
-          (noted_first c.loop-letter.sent.packets (letters c.loop-letter.links) c.letter-item.result left _ number ∙ (rw rest at c.loop-letter.invariant.packets));
+      numbers =
+          rw (c.push_reserved.ensures.items, sent)
+          (noted_first c.loop-letter.numbers.items (letters c.loop-letter.links) c.letter-item.result left _ number ∙ (rw rest at c.loop-letter.invariant.numbers));
     }
 
 pub returns-clause-links : goal.returns-clause-links
@@ -43,7 +44,7 @@ returns-clause-links c =
     let none = drop-end c.args.batch.now c.loop-letter.letter-index (omega arith) in
     posted_none (letters c.loop-letter.links) ∙ (rw none at c.loop-letter.invariant.links)
 
-pub returns-clause-packets : goal.returns-clause-packets
-returns-clause-packets c =
+pub returns-clause-numbers : goal.returns-clause-numbers
+returns-clause-numbers c =
     let none = drop-end c.args.batch.now c.loop-letter.letter-index (omega arith) in
-    noted_none c.loop-letter.sent.packets (letters c.loop-letter.links) ∙ (rw none at c.loop-letter.invariant.packets)
+    noted_none c.loop-letter.numbers.items (letters c.loop-letter.links) ∙ (rw none at c.loop-letter.invariant.numbers)

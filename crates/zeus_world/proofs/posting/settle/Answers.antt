@@ -7,4 +7,4 @@ use Rattle.zeus_world.proofs.posting.settle.Goals as goal
 
 pub count-requires : goal.count-requires
 count-requires c =
-    passes_counted c.args.book.now c.pass_each.new.self c.args.at _ (so_far c.args.book.now c.args.report.now.points c.args.report.now.acked) c.pass_each.new.points c.pass_each.new.acked refl c.pass_each.ensures.change c.requires.counts
+    passes_counted c.args.book.now c.pass_each.new.self c.args.at _ (so_far c.args.book.now c.args.event.now.points c.args.event.now.acked) c.pass_each.new.points c.pass_each.new.acked refl c.pass_each.ensures.change c.requires.counts

@@ -38,9 +38,8 @@ settle-requires c =
     let space = c.in_ok-reserve.ensures.space in
     let points = c.clear.ensures.points_room in
     let acked = c.clear.ensures.acked_room in
-    let sent = c.clear.ensures.sent_room in
     can_settle w c.args.at _ c.tick.new.out.sent c.self.inside.book c.reserve-2.new.self _ c.tick.ensures.sent (known _ _ c.self.invariant).ranged here c.reserve-2.ensures.letters by.by keeps.sent c.in_ok-reserve-2.ensures.room counted
-    (has_lists c.self.inside.book.book c.txs.result c.clear.new.self.points c.clear.new.self.acked c.txs.ensures (omega arith) (omega arith)) (omega arith)
+    (has_lists c.self.inside.book.book c.txs.result c.clear.new.self.points c.clear.new.self.acked c.txs.ensures (omega arith) (omega arith))
 
 pub invariant_of-self-2 : goal.invariant_of-self-2
 invariant_of-self-2 c =
@@ -50,7 +49,7 @@ invariant_of-self-2 c =
     let k = rw c.place.ensures at c.index_mut-node.ensures.value in
     let at = node_at w c.args.at _ (known _ _ c.self.invariant).ranged here k in
     let taken =
-    (tick_taken w c.args.at _ c.tick.new.self c.tick.result c.tick.new.out.sent c.tick.new.out.passed c.self.inside.book c.settle.new.book c.reserve-2.new.self c.settle.new.links _ c.settle.new.report at
+    (tick_taken w c.args.at _ c.tick.new.self c.tick.result c.tick.new.out.sent c.tick.new.out.passed c.self.inside.book c.settle.new.book c.reserve-2.new.self c.settle.new.links _ c.settle.new.event at
     (record { says = c.tick.ensures.answer; becomes = c.tick.ensures.after; sends = c.tick.ensures.sent; passes = c.tick.ensures.passed }) c.reserve-2.ensures.letters refl
     (record { says = refl; points = c.clear.ensures.points; acked = c.clear.ensures.acked; sent = c.clear.ensures.sent }) c.settle.ensures) in
     rw c.place.ensures
@@ -64,6 +63,6 @@ returns-clause-ok c =
     let k = rw c.place.ensures at c.index_mut-node.ensures.value in
     let at = node_at w c.args.at _ (known _ _ c.self.invariant).ranged here k in
     rw (← c.self.view_is, c.place.ensures)
-    (tick_taken w c.args.at _ c.tick.new.self c.tick.result c.tick.new.out.sent c.tick.new.out.passed c.self.inside.book c.settle.new.book c.reserve-2.new.self c.settle.new.links _ c.settle.new.report at
+    (tick_taken w c.args.at _ c.tick.new.self c.tick.result c.tick.new.out.sent c.tick.new.out.passed c.self.inside.book c.settle.new.book c.reserve-2.new.self c.settle.new.links _ c.settle.new.event at
     (record { says = c.tick.ensures.answer; becomes = c.tick.ensures.after; sends = c.tick.ensures.sent; passes = c.tick.ensures.passed }) c.reserve-2.ensures.letters refl
     (record { says = refl; points = c.clear.ensures.points; acked = c.clear.ensures.acked; sent = c.clear.ensures.sent }) c.settle.ensures)

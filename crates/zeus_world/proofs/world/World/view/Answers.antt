@@ -14,8 +14,8 @@ invariant_of-self-2 c =
     let fits = rw (← c.self.view_is) at c.requires.fits in
     let stopped = rw (← c.self.view_is) at c.stopped-stopped.ensures in
     let with = is_world_with w c.stopped-stopped.result (known _ _ c.self.invariant).ranged stopped in
-    let taken = view_taken w c.args.members c.in_ok-made.made c.view.new.self c.answer_alone.new.book.book c.answer_alone.new.report (c.in_ok-made.ensures.answer w with) (c.in_ok-made.ensures.after w with)
-    (ap (λ (b : BookState). b.book) c.answer_alone.ensures.book) c.answer_alone.ensures.report in
+    let taken = view_taken w c.args.members c.in_ok-made.made c.view.new.self c.answer_alone.new.book.book c.answer_alone.new.event (c.in_ok-made.ensures.answer w with) (c.in_ok-made.ensures.after w with)
+    (ap (λ (b : BookState). b.book) c.answer_alone.ensures.book) c.answer_alone.ensures.event in
     kept_after w _ _ c.self.inside.book c.answer_alone.new.book c.self.invariant fits taken.becomes (ap (λ (b : BookState). b.nodes) c.answer_alone.ensures.book) (ap (λ (b : BookState). b.slots) c.answer_alone.ensures.book)
 
 pub returns-clause-ok : goal.returns-clause-ok
@@ -24,5 +24,5 @@ returns-clause-ok c =
     let stopped = rw (← c.self.view_is) at c.stopped-stopped.ensures in
     let with = is_world_with w c.stopped-stopped.result (known _ _ c.self.invariant).ranged stopped in
     rw (← c.self.view_is)
-    (view_taken w c.args.members c.in_ok-made.made c.view.new.self c.answer_alone.new.book.book c.answer_alone.new.report (c.in_ok-made.ensures.answer w with) (c.in_ok-made.ensures.after w with)
-    (ap (λ (b : BookState). b.book) c.answer_alone.ensures.book) c.answer_alone.ensures.report)
+    (view_taken w c.args.members c.in_ok-made.made c.view.new.self c.answer_alone.new.book.book c.answer_alone.new.event (c.in_ok-made.ensures.answer w with) (c.in_ok-made.ensures.after w with)
+    (ap (λ (b : BookState). b.book) c.answer_alone.ensures.book) c.answer_alone.ensures.event)
