@@ -1,6 +1,7 @@
-use super::*;
+//! Tests of typical calls.
 use std::alloc::Global;
-use zeus_base::Text;
+use zeus_base::{ObjId, Text, Value};
+use zeus_txn::{Op, Ran, Tx, TxFault, run_ops};
 
 const X: ObjId = ObjId(0);
 

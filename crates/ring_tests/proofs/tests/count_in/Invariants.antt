@@ -1,5 +1,5 @@
 use Rattle.std.proofs.Common.{◌≡◌, length}
-use Rattle.link_rings.proofs.tests.count_in.Given as goal
+use Rattle.ring_tests.proofs.tests.count_in.Given as goal
 
 abbrev pub invariant-loop : goal.invariant-loop
 invariant-loop g l = l.next ≡ length l.out.put

@@ -1,6 +1,11 @@
-use super::*;
+//! Tests of typical calls.
 use std::alloc::Global;
 use std::test::Fail;
+use zeus_base::{Limits, NodeId, NodeSet, ObjId, SlotId, Stamp, Stream, Value};
+use zeus_packet::{
+    Body, Letter, NewWindow, Place, PlainWindow, Proposal, RInv, RingWindow, Want, Window, Write,
+    Writes, arbiters, fits, new_place, source,
+};
 
 // The nodes whose bits are set, the lowest bit being that of node 0.
 fn set(bits: u8) -> NodeSet {

@@ -1,7 +1,11 @@
-use super::*;
+//! Tests of typical calls.
 use std::io;
 use std::io::{Read, Write};
 use std::test::Fail;
+use zeus_io::{
+    MemSink, MemSource, ReadEnd, SafeSink, SafeSource, Status, StdSink, StdSource, WriteFault,
+    read_all, write_all,
+};
 
 // A reader that gives three bytes, and then fails.
 #[derive(Drop)]

@@ -1,6 +1,7 @@
+//! Tests of typical calls.
 ghost use Rattle.std.specs.Prelude.{◌≡◌, ◌<◌, ◌≤◌, [], IfOk, IfSome, length};
 
-use super::*;
+use link_rings::{Full, RingIn, RingOut, Rule, ring};
 use std::alloc::{AllocError, Global};
 use std::sync::Wait;
 use std::test::Fail;
