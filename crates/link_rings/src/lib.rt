@@ -6,8 +6,6 @@ mod ring_in;
 mod ring_out;
 mod rings;
 mod rule;
-#[cfg(test)]
-mod tests;
 
 pub use ring_in::RingIn;
 pub use ring_out::{Full, RingOut};

@@ -1,4 +1,4 @@
-//! Tests of the rules at a whole node, of the node, and of the links: typical calls with their answers.
+//! Tests of the node and of the links: typical calls with their answers.
 #![tactic(auto)]
 
 #[cfg(test)]

@@ -57,24 +57,3 @@ impl Config {
         }
     }
 }
-
-#[cfg(test)]
-mod tests {
-    use super::*;
-    use std::test::Fail;
-
-    #[test]
-    fn counts_its_objects(rt: HostRuntime) -> Result<(), Fail> {
-        let nodes = NodeSet::empty().insert(NodeId(1));
-        let declared = ObjectDecl {
-            value: Value::Num(9),
-            owner: NodeId(1),
-            replicas: nodes,
-        };
-        let objects = ObjectList::from_vec(vec![in rt.alloc(); declared, declared]?);
-        assert_eq!(rt; objects.len(), 2);
-        assert_eq!(rt; objects.get(1), Some(&declared));
-        assert_eq!(rt; objects.get(2), None);
-        Ok(())
-    }
-}

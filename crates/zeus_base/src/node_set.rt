@@ -1,5 +1,5 @@
 //! Sets of nodes.
-ghost use Rattle.std.specs.Prelude.{◌≡◌, ◌≤◌, ◌↔◌, IsTrue, IfOk, [], length};
+ghost use Rattle.std.specs.Prelude.{◌≡◌, ◌≤◌, ◌↔◌, IsTrue, [], length};
 ghost use Rattle.std.specs.Iterator.{YieldsFirst, item_count};
 ghost use Rattle.zeus_base.specs.NodeLaws.{IsNodeSet};
 ghost use Rattle.zeus_base.specs.Nodes.{has, with_node, without, meet, join, is_subset, least};
@@ -189,41 +189,5 @@ impl IntoIterator for NodeSet {
 
     fn into_iter(self) -> Nodes {
         Nodes { left: self }
-    }
-}
-
-#[cfg(test)]
-mod tests {
-    use super::*;
-    use std::alloc::{AllocError, Global};
-    use std::test::Fail;
-
-    fn chained(alloc: Global, set: NodeSet) -> Result<Vec<NodeId>, AllocError>
-        ensures { IfOk result (λ v. v.items ≡ set) }
-    {
-        set.nodes().collect(alloc)
-    }
-
-    fn looped(alloc: Global, set: NodeSet) -> Result<Vec<NodeId>, AllocError>
-        ensures { IfOk result (λ v. v.items ≡ set) }
-    {
-        let mut all = Vec::new(alloc);
-        for node in set {
-            all.push(node)?;
-        }
-        Ok(all)
-    }
-
-    #[test]
-    fn goes_over_its_nodes_in_order(rt: HostRuntime) -> Result<(), Fail> {
-        let set = NodeSet::empty()
-            .insert(NodeId(5))
-            .insert(NodeId(7))
-            .insert(NodeId(0));
-        assert_eq!(rt; set.bits, 0b1010_0001);
-        let wanted = [NodeId(0), NodeId(5), NodeId(7)];
-        assert_eq!(rt; chained(rt.alloc(), set)?.as_slice(), wanted.as_slice());
-        assert_eq!(rt; looped(rt.alloc(), set)?.as_slice(), wanted.as_slice());
-        Ok(())
     }
 }

@@ -36,24 +36,3 @@ impl Stamp {
         self < other
     }
 }
-
-#[cfg(test)]
-mod tests {
-    use super::*;
-
-    #[test]
-    fn orders_by_version_before_driver(rt: HostRuntime) {
-        let first = Stamp {
-            ver: 1,
-            driver: NodeId(7),
-        };
-        let second = Stamp {
-            ver: 2,
-            driver: NodeId(0),
-        };
-        assert!(rt; first < second);
-        assert!(rt; first.is_below(second));
-        assert!(rt; !second.is_below(first));
-        assert!(rt; !first.is_below(first));
-    }
-}

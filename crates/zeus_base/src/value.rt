@@ -82,21 +82,3 @@ impl Default for Value {
         Value::Num(0)
     }
 }
-
-#[cfg(test)]
-mod tests {
-    use super::*;
-
-    #[test]
-    fn takes_short_printable_texts_alone(rt: HostRuntime) {
-        let long = [b'a'; 33];
-        assert!(rt; Text::new(&long).is_none());
-        assert!(rt; Text::new(&long[..32]).is_some());
-        for refused in [b"".as_slice(), b"a b", b"\x7f", b"\xc3\xa9"] {
-            assert!(rt; Text::new(refused).is_none(), "{refused:?}");
-        }
-        let text = Text::new(b"!~").expect(&rt, "a text");
-        assert_eq!(rt; text.as_bytes(), b"!~".as_slice());
-        assert_ne!(rt; Value::Text(text), Value::Num(2));
-    }
-}

@@ -20,6 +20,3 @@ pub use source::{Failed, Source};
 pub use standard::{StdSink, StdSource};
 pub use status::Status;
 pub use transfer::{ReadEnd, WriteFault, read_all, write_all};
-
-#[cfg(test)]
-mod tests;

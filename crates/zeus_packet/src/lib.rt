@@ -4,8 +4,6 @@
 mod letter;
 mod place;
 mod ranges;
-#[cfg(test)]
-mod tests;
 mod window;
 mod write;
 

@@ -6,8 +6,6 @@ mod map;
 mod ops;
 mod reply;
 mod run;
-#[cfg(test)]
-mod tests;
 mod tx;
 
 pub use lists::{Named, NewValues, Values};

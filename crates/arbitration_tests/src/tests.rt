@@ -1,0 +1,1 @@
+mod arbitration_calls;

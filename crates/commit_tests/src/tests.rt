@@ -1,0 +1,1 @@
+mod reliable_commit_calls;

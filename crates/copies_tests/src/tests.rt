@@ -1,0 +1,2 @@
+mod object_table_calls;
+mod replica_reads_calls;

@@ -1,0 +1,2 @@
+mod directory_calls;
+mod owner_entry_calls;

@@ -1,0 +1,1 @@
+mod follower_log_calls;

@@ -1,0 +1,2 @@
+mod command_words_calls;
+mod zeus_io_calls;

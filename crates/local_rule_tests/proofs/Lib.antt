@@ -1,0 +1,2 @@
+pub mod LocalStart
+pub mod StartSizes

@@ -1,0 +1,1 @@
+mod local_rules_calls;

@@ -1,0 +1,1 @@
+mod local_txn_calls;

@@ -1,8 +1,0 @@
-use Rattle.zeus_base.specs.Nodes.{with_node}
-use Rattle.node_tests.proofs.CommitStart.{two_nodes-limits}
-use Rattle.node_tests.proofs.tests.commit_rules_calls.config.Goals as goal
-
-pub returns-clause-limits : goal.returns-clause-limits
-unfolding with_node
-returns-clause-limits c =
-    rw (c.from_vec.ensures, c.in_ok-vec.ensures.items, c.insert.ensures, c.insert-zero.ensures, c.empty.ensures) two_nodes-limits

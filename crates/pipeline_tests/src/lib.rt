@@ -1,0 +1,5 @@
+//! Tests of the pipeline of commits: typical calls with their answers.
+#![tactic(auto)]
+
+#[cfg(test)]
+mod tests;

@@ -1,0 +1,2 @@
+mod crash_replay_calls;
+mod membership_calls;

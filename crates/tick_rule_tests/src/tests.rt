@@ -1,0 +1,1 @@
+mod tick_rules_calls;
