@@ -34,10 +34,6 @@ pub stream-reported : (s : SystemState) (t : Stream) (m : ℕ) → (stream_state
 unfolding stream_state
 stream-reported s t m = refl
 
-pub stream-epoch : (s : SystemState) (t : Stream) (m : ℕ) → (stream_state s t).epoch m ≡ (s.node m).epoch
-unfolding stream_state
-stream-epoch s t m = refl
-
 pub stream-stopped : (s : SystemState) (t : Stream) (m : ℕ) → (stream_state s t).stopped m ≡ (s.node m).stopped
 unfolding stream_state
 stream-stopped s t m = refl
