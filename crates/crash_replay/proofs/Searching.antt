@@ -2,7 +2,7 @@
 use Rattle.std.proofs.Common.{ℕ, ◌≡◌, ◌∙◌, ◌<◌, ◌≤◌, ◌+◌, ◌-◌, Bool, true, false, not, ◌&&◌, ◌==◌, List, [], ◌∷◌, ◌++◌, Option, Some, None, is_none, is_some, length, refl, sym, ap, arith}
 use Rattle.zeus_base.specs.Nodes.{has}
 use Rattle.zeus_base.specs.declared.order.Stream.{Stream}
-use Rattle.zeus_base.specs.LoopLaws.{numbers-next, numbers-none, numbers-all}
+use Rattle.zeus_base.specs.LoopLaws.{numbers-next, numbers-none}
 use Rattle.zeus_model.specs.Commit.{none_stored, outside, streams_of, streams_outside}
 use Rattle.zeus_model.specs.State.{Node, StreamLog}
 use Rattle.zeus_model.specs.Tables.{below, first_of, numbers_from, or_else, where_true}
@@ -38,9 +38,6 @@ module _ (logs : List (List StreamLog)) (after : Option Stream) where
     abbrev pub from_slot : ℕ → Option Stream
     from_slot i = next_in logs after (streams_of node (numbers_from i (slots - i)))
 
-    pub from_slot-all : from_slot 0 ≡ next_in logs after (streams_of node (below slots))
-    from_slot-all = ap (λ l. next_in logs after (streams_of node l)) (numbers-all slots)
-
     pub from_slot-none : (i : ℕ) → slots ≤ i → from_slot i ≡ None
     unfolding next_in first_of streams_of
     from_slot-none i h = rw (numbers-none i slots h) refl
@@ -61,9 +58,6 @@ module _ (logs : List (List StreamLog)) (after : Option Stream) where
     -- what is found from a node on
     abbrev pub from_node : ℕ → Option Stream
     from_node i = next_in logs after (streams_outside members slots (numbers_from i (nodes - i)))
-
-    pub from_node-all : from_node 0 ≡ next_in logs after (streams_outside members slots (below nodes))
-    from_node-all = ap (λ l. next_in logs after (streams_outside members slots l)) (numbers-all nodes)
 
     pub from_node-none : (i : ℕ) → nodes ≤ i → from_node i ≡ None
     unfolding next_in first_of streams_outside

@@ -118,9 +118,6 @@ some_same a b e = cc
 
 -- ---- a begin
 
-begun_record : RunState → ℕ → TxRecord
-begun_record y id = record (record_of y.book id) { begun = Some y.book.steps }
-
 begin_others : (y : RunState) (id j : ℕ) → j ≢ id → record_of (book_begin y.book id) j ≡ record_of y.book j
 begin_others y id j other = nth-put_other no_record y.book.records id j (record (record_of y.book id) { begun = Some y.book.steps }) other
 

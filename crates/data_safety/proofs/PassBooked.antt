@@ -268,9 +268,6 @@ module _ (y z : RunState) (u v : Witness) (f : DataInvariant y u) (s : EntriesSh
           ]
     ]
 
-    done_in : RunState → Stream → ℕ
-    done_in w t = (slot (w.system.node t.node) t.slot).done
-
     acked-kept : own ≡ false → (j : ℕ) (e : EntryId) → (record_of z.book j).entry ≡ Some e → (is_some (record_of z.book j).acked ≡ true) ↔ (e.number < (slot (z.system.node e.stream.node) e.stream.slot).done)
     acked-kept foreign j e is =
         let b = f.booked.acked j e (has_entry j e is) in

@@ -57,9 +57,6 @@ module _ (y z : RunState) (u : Witness) (f : DataInvariant y u) (n s : ℕ) (som
   own : Stream
   own = record { node = n; slot = s }
 
-  old_slot : Slot
-  old_slot = slot (y.system.node n) s
-
   numbered : IsNumbered y.system
   numbered = IsNumbered-steady y.system f.steady
 

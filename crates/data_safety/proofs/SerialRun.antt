@@ -60,10 +60,6 @@ times-append id (q ∷ ps) p = let rest = times-append id ps p in grind arith
 abbrev pub map_of : RunState → List Versioned
 map_of y = serial_map (start_map y.system.config) (txs_of y y.book.points)
 
-pub left-is : (y : RunState) (x : ℕ) → left y x ≡ content_in (map_of y) x
-unfolding left
-left-is y x = refl
-
 -- a run with the same transactions and the same history leaves the same
 pub left-same : (y z : RunState) (x : ℕ) → z.system.config ≡ y.system.config → z.txs ≡ y.txs → z.book.points ≡ y.book.points → left z x ≡ left y x
 unfolding left

@@ -37,9 +37,6 @@ pub record IsMark (k r : TxRecord) : Type 0 where
   pub reply : r.reply ≡ k.reply
   pub point : r.point ≡ k.point
 
-pointed_as : (k r : TxRecord) → IsMark k r → IsPointed k → IsPointed r
-pointed_as k r m p = record { point = rw m.point p.point; reply = rw m.reply p.reply }
-
 kept_put : (rs : List TxRecord) (i : ℕ) (r : TxRecord) (points : IdsState) (nodes slots : ℕ) (es : List (List IdsState)) → IsKept rs points nodes slots es → i < length rs
     → IsMark (nth no_record rs i) r → IsKept (put no_record rs i r) points nodes slots es
 kept_put rs i r points nodes slots es kept h m =

@@ -68,10 +68,6 @@ none_from : (o : Option ℕ) → is_some o ≡ false → is_none o ≡ true
 none_from None h = refl
 none_from (Some x) h = cc
 
-pub no_from : (o : Option ℕ) → is_some o ≡ false → o ≡ None
-no_from None h = refl
-no_from (Some x) h = cc
-
 -- a point leaves one less without a point
 pub points_left : (b : Book) (id : ℕ) → id < length b.records → is_some (record_of b id).point ≡ false → how_many has_no_point (book_point b id).records + one true ≡ how_many has_no_point b.records
 unfolding one

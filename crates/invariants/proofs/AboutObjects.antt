@@ -4,8 +4,7 @@ use Rattle.std.proofs.Common.{arith, refl, inl, inr, subst}
 use Rattle.std.proofs.lemmas.Bool.{lt-ltb, eq-eqb, cases_Bool}
 use Rattle.std.proofs.lemmas.Bool.Decides.{nat_tests}
 use Rattle.zeus_base.specs.declared.order.Stamp.{Stamp}
-use Rattle.zeus_packet.specs.declared.letter.Body.{Body}
-use Rattle.zeus_packet.specs.declared.letter.Body.TheVariants.{RInv, RAck, RVal, OReq, OInv, OAck, ONack, OVal, Recovered}
+use Rattle.zeus_packet.specs.declared.letter.Body.TheVariants.{OInv, OAck, OVal}
 use Rattle.zeus_packet.specs.declared.letter.Letter.{Letter}
 use Rattle.zeus_packet.specs.declared.place.Place.{Place}
 use Rattle.zeus_packet.specs.declared.place.Proposal.{Proposal}
@@ -74,59 +73,6 @@ only_about-from x y m l i =
       | inl same ↦ let e : y ≡ x = grind (arith, nat_tests) in (e, In-one m l (rw same at i))
       | inr other ↦ let none : In m [] = rw other at i in elim none [ ]
     ]
-
--- a letter with what it says of the object, and how it says it
-pub data Says (x : ℕ) : Letter → Said → Type 0 where
-  by_oinv : (from to e : ℕ) (p : Proposal) → Says x record { from = from; to = to; epoch = e; body = OInv x p } (Invalidates from to e p)
-  by_oack : (from to e : ℕ) (p : Proposal) (c : Option Content) → Says x record { from = from; to = to; epoch = e; body = OAck x p c } (Acknowledges from to e p c)
-  by_oval : (from to e : ℕ) (t : Stamp) (p : Place) → Says x record { from = from; to = to; epoch = e; body = OVal x t p } (Validates t p)
-
-letter_of : ℕ → ℕ → ℕ → Body → Letter
-letter_of from to e b = record { from = from; to = to; epoch = e; body = b }
-
--- what a letter's body says of an object, it says in one of the three ways
-pub says-body : (x from to e : ℕ) (b : Body) (m : Said) → In m (said_of x from to e b) → Says x (record { from = from; to = to; epoch = e; body = b }) m
-unfolding said_of
-says-body x from to e (RInv r) m i = elim i [ ]
-says-body x from to e (RAck s k) m i = elim i [ ]
-says-body x from to e (RVal s d) m i = elim i [ ]
-says-body x from to e (OReq y w) m i = elim i [ ]
-says-body x from to e (OInv y p) m i =
-    let found : (y ≡ x) × (m ≡ Invalidates from to e p) = only_about-from x y m (Invalidates from to e p) i in
-    rw (found.0, found.1) (by_oinv from to e p)
-says-body x from to e (OAck y p c) m i =
-    let found : (y ≡ x) × (m ≡ Acknowledges from to e p c) = only_about-from x y m (Acknowledges from to e p c) i in
-    rw (found.0, found.1) (by_oack from to e p c)
-says-body x from to e (ONack y t c) m i = elim i [ ]
-says-body x from to e (OVal y t p) m i =
-    let found : (y ≡ x) × (m ≡ Validates t p) = only_about-from x y m (Validates t p) i in
-    rw (found.0, found.1) (by_oval from to e t p)
-says-body x from to e Recovered m i = elim i [ ]
-
--- what a letter says of an object, it says in one of the three ways
-pub says-from : (x : ℕ) (l : Letter) (m : Said) → In m (says x l) → Says x l m
-says-from x l m i = says-body x l.from l.to l.epoch l.body m i
-
-is-oinv : (x from to e : ℕ) (p : Proposal) (l : Letter) (ls : List Letter) → Says x l (Invalidates from to e p) → In l ls
-    → In record { from = from; to = to; epoch = e; body = OInv x p } ls
-is-oinv x from to e p l ls (by_oinv _ _ _ _) i = i
-
-is-oack : (x from to e : ℕ) (p : Proposal) (c : Option Content) (l : Letter) (ls : List Letter) → Says x l (Acknowledges from to e p c) → In l ls
-    → In record { from = from; to = to; epoch = e; body = OAck x p c } ls
-is-oack x from to e p c l ls (by_oack _ _ _ _ _) i = i
-
--- what stands about the object was said by a letter
-pub about-oinv : (x from to e : ℕ) (p : Proposal) (ls : List Letter) → In (Invalidates from to e p) (about x ls)
-    → In record { from = from; to = to; epoch = e; body = OInv x p } ls
-about-oinv x from to e p ls i =
-    let found : (l : Letter) × In l ls × In (Invalidates from to e p) (says x l) = about-from x (Invalidates from to e p) ls i in
-    is-oinv x from to e p found.0 ls (says-from x found.0 (Invalidates from to e p) found.2) found.1
-
-pub about-oack : (x from to e : ℕ) (p : Proposal) (c : Option Content) (ls : List Letter) → In (Acknowledges from to e p c) (about x ls)
-    → In record { from = from; to = to; epoch = e; body = OAck x p c } ls
-about-oack x from to e p c ls i =
-    let found : (l : Letter) × In l ls × In (Acknowledges from to e p c) (says x l) = about-from x (Acknowledges from to e p c) ls i in
-    is-oack x from to e p c found.0 ls (says-from x found.0 (Acknowledges from to e p c) found.2) found.1
 
 -- ---- how a change of a system looks to an object
 

@@ -45,14 +45,6 @@ same_setting old new x c v = record {
   views = v;
 }
 
-object-stopped : (s : SystemState) (x m : ℕ) → (object s x).stopped m ≡ (s.node m).stopped
-unfolding object
-object-stopped s x m = refl
-
-object-epoch : (s : SystemState) (x m : ℕ) → (object s x).epoch m ≡ (s.node m).epoch
-unfolding object
-object-epoch s x m = refl
-
 -- if a node is stopped as before, then the object sees it so
 pub same_stopped : (old new : SystemState) (x m : ℕ) → (new.node m).stopped ≡ (old.node m).stopped → (object new x).stopped m ≡ (object old x).stopped m
 unfolding object

@@ -38,10 +38,6 @@ pub stream-reported : (s : SystemState) (t : Stream) (m : ℕ) → (stream_state
 unfolding stream_state
 stream-reported s t m = refl
 
-pub stream-epoch : (s : SystemState) (t : Stream) (m : ℕ) → (stream_state s t).epoch m ≡ (s.node m).epoch
-unfolding stream_state
-stream-epoch s t m = refl
-
 -- whether a node is stopped, as the stream has it, is what the node has
 pub stream-stopped : (s : SystemState) (t : Stream) (m : ℕ) → (stream_state s t).stopped m ≡ (s.node m).stopped
 unfolding stream_state

@@ -4,11 +4,10 @@ use Rattle.std.proofs.lemmas.List.{length-append}
 use mathlib.Core.List.{IsPrefix, head-eq_of_cons-eq, tail-eq_of_cons-eq}
 use Rattle.rtrb.specs.Ends.{SameRing}
 use Rattle.rtrb.specs.declared.end.End.{End}
-use Rattle.rtrb.specs.Ring.{ConsumerLooked, ProducerLooked, known_items}
+use Rattle.rtrb.specs.Ring.{ConsumerLooked, known_items}
 use Rattle.rtrb.specs.declared.consumer.Consumer.{Consumer}
-use Rattle.rtrb.specs.declared.producer.Producer.{Producer}
-use Rattle.link_rings.specs.Ends.{LookedIn, LookedOut}
-use Rattle.link_rings.specs.Views.{in_view, out_view, ring_of}
+use Rattle.link_rings.specs.Ends.{LookedIn}
+use Rattle.link_rings.specs.Views.{in_view, ring_of}
 use Rattle.link_rings.specs.Items.{AllowedBy, IsHeaded, carried, front}
 use Rattle.link_rings.specs.declared.item.Item.{Item}
 use Rattle.link_rings.specs.declared.item.Item.TheVariants.{Head, Carried}
@@ -161,11 +160,4 @@ module _ {H T A P : Type 0} where
     same = record { ring = same_name a.end b.end l.0.0; head = refl; room = l.0.1 };
     taken = ap carried l.1;
     known = front_prefix (known_items a) (known_items b) l.2;
-  }
-
-  pub looked_out : (a b : Producer (Item H T) A P) (h : H) → ProducerLooked a b → LookedOut (out_view a h) (out_view b h)
-  looked_out a b h l = record {
-    same = record { ring = same_name a.end b.end l.0.0; head = refl; room = l.0.1 };
-    put = ap carried l.1;
-    free = l.2;
   }

@@ -53,10 +53,6 @@ cell-step_of Ticked txs core n me fresh = refl
 cell-step_of Halted txs core n me fresh = refl
 cell-step_of (Saw v) txs core n me fresh = refl
 
-service-step_of : (txs : List TxDecl) (n : ℕ) (e : ServiceEvent) → is_step_of txs n (turn_step (service_turn e)) ≡ false
-unfolding is_step_of entry_of
-service-step_of txs n e = refl
-
 -- it is a stop just where the event is
 halt-stop : (d : Deed) (me : ℕ) → is_stop (step_of me d) ≡ is_halt d
 unfolding is_stop step_of is_halt

@@ -1,10 +1,8 @@
 -- Versions and numbers that are at their end.
-use Rattle.std.proofs.Common.{ℕ, suc, ◌≡◌, ◌≢◌, ◌<◌, ◌≤◌, ◌+◌, ◌-◌, ◌^◌, Bool, true, false, List, [], ◌∷◌, ◌++◌, Option, Some, None, length, drop, refl, sym, ap, ◌∙◌, add-one, drop-cons}
+use Rattle.std.proofs.Common.{ℕ, suc, ◌≡◌, ◌≢◌, ◌+◌, ◌-◌, ◌^◌, Bool, true, false, List, [], ◌∷◌, ◌++◌, Option, Some, None, refl, sym, ap, ◌∙◌}
 use Rattle.std.specs.Prelude.{◌&&◌, ◌||◌, ◌==◌, if◌then◌else◌}
 use Rattle.std.specs.List.{list_any}
-use Rattle.std.proofs.Math.ListN.{get_or}
 use Rattle.std.proofs.lemmas.Bool.{eqb-false, eqb-true}
-use Rattle.std.proofs.lemmas.List.{drop_all}
 use Rattle.zeus_base.specs.declared.value.Value.{Value}
 use Rattle.zeus_base.specs.declared.value.Value.TheVariants.{Num, Text}
 use Rattle.zeus_base.specs.Values.{same_value}
@@ -104,27 +102,6 @@ worn_is n s tx b e =
       | true ↦ unfold or_else where_true in refl
       | false ↦ unfold or_else where_true in refl
     ])
-
-any_at : (cs : List (Option Copy)) (tx : List Op) (i : ℕ) (op : Op) → i < length tx → op ≡ get_or tx i op → list_any (worn_at cs) (drop i tx) ≡ worn_at cs op || list_any (worn_at cs) (drop (i + 1) tx)
-any_at cs tx i op h e = rw (add-one, drop-cons tx i op h, ← e) refl
-
-pub any_here : (cs : List (Option Copy)) (tx : List Op) (i : ℕ) (op : Op) → i < length tx → op ≡ get_or tx i op → worn_at cs op ≡ true → list_any (worn_at cs) (drop i tx) ≡ true
-any_here cs tx i op h e w = rw (any_at cs tx i op h e, w) refl
-
-pub any_not_here : (cs : List (Option Copy)) (tx : List Op) (i : ℕ) (op : Op) → i < length tx → op ≡ get_or tx i op → worn_at cs op ≡ false → list_any (worn_at cs) (drop (i + 1) tx) ≡ list_any (worn_at cs) (drop i tx)
-any_not_here cs tx i op h e w = rw (any_at cs tx i op h e, w) refl
-
-pub any_end : (cs : List (Option Copy)) (tx : List Op) (i : ℕ) → length tx ≤ i → list_any (worn_at cs) (drop i tx) ≡ false
-any_end cs tx i h = rw (drop_all i tx h) refl
-
-pub or_here : (a b : Bool) → a ≡ true → true ≡ (a || b)
-or_here a b e = rw e refl
-
-pub or_there : (a b : Bool) → b ≡ true → true ≡ (a || b)
-or_there a b e = sym (or_right a b e)
-
-pub or_neither : (a b : Bool) → a ≡ false → b ≡ false → false ≡ (a || b)
-or_neither a b e f = rw (e, f) refl
 
 -- if "or" of two tests is false, then both are false
 pub or_false : (a b : Bool) → (a || b) ≡ false → (a ≡ false) × (b ≡ false)

@@ -40,11 +40,6 @@ place_fits-from limits place p =
     and_from (nat_lt place.owner limits.nodes && nodes_fit limits place.replicas) (has place.owner place.replicas)
     (and_from (nat_lt place.owner limits.nodes) (nodes_fit limits place.replicas) (lt-ltb place.owner limits.nodes p.owner) p.replicas) p.own_copy
 
--- the driver of a stamp that fits is a node
-pub stamp_fits-driver : (limits : Limits) (stamp : Stamp) → stamp_fits limits stamp ≡ true → stamp.driver < limits.nodes
-unfolding stamp_fits
-stamp_fits-driver limits stamp h = ltb-true stamp.driver limits.nodes h
-
 -- and a stamp of a node fits
 pub stamp_fits-from : (limits : Limits) (stamp : Stamp) → stamp.driver < limits.nodes → stamp_fits limits stamp ≡ true
 unfolding stamp_fits

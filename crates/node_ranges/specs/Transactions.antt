@@ -8,7 +8,6 @@ use Rattle.zeus_base.specs.declared.value.Value.{Value}
 use Rattle.zeus_base.specs.declared.value.Value.TheVariants.{Num, Text}
 use Rattle.zeus_packet.specs.Fits.{value_fits}
 use Rattle.zeus_txn.specs.Ops.{object_of, mentions, mentioned, named_after, named}
-use Rattle.zeus_txn.specs.Tx.{IsTx}
 use Rattle.zeus_txn.specs.declared.ops.Op.{Op}
 use Rattle.zeus_txn.specs.declared.ops.Op.TheVariants.{Get, Put, Add, Need, Same}
 use Rattle.zeus_txn.specs.declared.tx.TxDecl.{TxDecl}
@@ -74,7 +73,3 @@ shown_op n (Same x v) = shown_value n v
 shown_ops : (n : Node) (ops : List Op) → All (OpFits (limits_of n)) ops
 shown_ops n [] = All-nil (OpFits (limits_of n))
 shown_ops n (op ∷ ops) = All-cons (OpFits (limits_of n)) op ops (shown_op n op) (shown_ops n ops)
-
--- a transaction whose objects a node has fits the limits that the node shows
-pub FitsTx-shown : (n : Node) (tx : List Op) → IsTx tx → All (λ x. x < length n.entries) (named tx) → FitsTx (limits_of n) tx
-FitsTx-shown n tx made within = record { made = made; named = within; values = shown_ops n tx }

@@ -15,9 +15,6 @@ use Rattle.object_table.specs.Table.{CanHold, IsCounted, IsTable, held, unheld}
 pub set_changed : {A : Type 0} (d : A) (f : A → A) (xs : List A) (i : ℕ) (x : A) → i < length xs → x ≡ get_or xs i x → set xs i (f x) ≡ put d xs i (f (nth d xs i))
 set_changed d f xs i x h e = rw (nth_read d xs i x h e) (sym (put-set d xs i (f x) h))
 
-pub IsTable-copies : (copies : List (Option Copy)) (holds : List (Option Hold)) (i : ℕ) (c : Option Copy) → IsTable record { copies = copies; holds = holds } → IsTable record { copies = set copies i c; holds = holds }
-IsTable-copies copies holds i c t = record { places = t.places ∙ sym (length-set _ _ _); counted = t.counted }
-
 -- if a hold counts from 1 to 16, then a table with it at one object is still a table
 pub IsTable-holds : (copies : List (Option Copy)) (holds : List (Option Hold)) (i : ℕ) (h : Option Hold) → IsCounted h → IsTable record { copies = copies; holds = holds } → IsTable record { copies = copies; holds = set holds i h }
 IsTable-holds copies holds i h counted t =

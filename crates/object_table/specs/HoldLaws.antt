@@ -4,7 +4,7 @@ use Rattle.std.proofs.Common.{arith}
 use Rattle.std.proofs.lemmas.Bool.Decides.{nat_tests}
 use Rattle.object_table.specs.declared.hold.Hold.{Hold}
 use Rattle.object_table.specs.Holding.{IsFreeFor, IsPositive, held_times}
-use Rattle.object_table.specs.Table.{CanHold, hold_count, hold_slot, held, unheld}
+use Rattle.object_table.specs.Table.{hold_count, hold_slot, held, unheld}
 
 -- an object is held by who held it last, once more than before
 pub hold_slot-held : (s : ℕ) (h : Option Hold) → hold_slot (Some (held s h)) ≡ Some s
@@ -17,12 +17,6 @@ pub hold_count-held : (s : ℕ) (h : Option Hold) → hold_count (Some (held s h
 unfolding hold_count held
 hold_count-held s None = refl
 hold_count-held s (Some h) = refl
-
--- and once less after it is let go
-pub hold_count-unheld : (h : Option Hold) → hold_count (unheld h) ≡ hold_count h - 1
-unfolding hold_count unheld
-hold_count-unheld None = refl
-hold_count-unheld (Some h) = grind (arith, nat_tests)
 
 -- ---- by slot
 
@@ -55,9 +49,3 @@ pub positive-unheld : (h : Option Hold) → IsPositive h → IsPositive (unheld 
 unfolding IsPositive unheld
 positive-unheld None p = tt
 positive-unheld (Some h) p = grind (arith, nat_tests)
-
--- what can be held is held by no other slot
-pub free-can_hold : (s : ℕ) (h : Option Hold) → CanHold s h → IsFreeFor s h
-unfolding CanHold IsFreeFor
-free-can_hold s None can = tt
-free-can_hold s (Some h) can = can.0

@@ -25,11 +25,6 @@ module _ (f : Write → Option Copy → Option Copy) where
   each_write-append copies [] ws = refl
   each_write-append copies (v ∷ vs) ws = each_write-append (after_write f copies v) vs ws
 
-  -- one more write
-  pub each_write-more : (copies : List (Option Copy)) (ws : List Write) (w : Write) → each_write f copies (ws ++ w ∷ []) ≡ after_write f (each_write f copies ws) w
-  unfolding each_write
-  each_write-more copies ws w = each_write-append copies ws (w ∷ [])
-
   -- writes of objects that there are leave as many copies
   pub length-each_write : (copies : List (Option Copy)) (ws : List Write) (n : ℕ) → length copies ≡ n → AreWithin n ws → length (each_write f copies ws) ≡ n
   unfolding each_write AreWithin

@@ -89,20 +89,6 @@ pub source-least : (place : Place) (members : List ℕ) → has place.owner memb
 unfolding source
 source-least place members h = cond-false _ _ _ h
 
--- the source is a member
-pub source-member : (place : Place) (members : List ℕ) (n : ℕ) → source place members ≡ Some n → has n members ≡ true
-source-member place members n h =
-    elim (cases_Bool (has place.owner members)) [
-      | inl owner ↦
-          let is : Some place.owner ≡ Some n = sym (source-owner place members owner) ∙ h in
-          let same : place.owner ≡ n = cc in
-          rw (← same) owner
-      | inr none ↦
-          let is : least (meet place.replicas members) ≡ Some n = sym (source-least place members none) ∙ h in
-          let both = least-has n (meet place.replicas members) is in
-          grind (arith, has-meet n place.replicas members)
-    ]
-
 least-meet_stays : (replicas members fewer : List ℕ) (n : ℕ) → IsRising replicas → is_subset fewer members ≡ true → has n fewer ≡ true → least (meet replicas members) ≡ Some n → least (meet replicas fewer) ≡ Some n
 least-meet_stays replicas members fewer n rising subset member is =
     let both : has n (meet replicas members) ≡ true = least-has n (meet replicas members) is in
@@ -157,10 +143,6 @@ arbiters-either place members directory n h =
       | inl both ↦ inl (grind (arith, has-meet n directory members), grind (arith, has-meet n directory members))
       | inr is ↦ inr is
     ]
-
-pub arbiters-member : (place : Place) (members directory : List ℕ) (n : ℕ) → has n (arbiters place members directory) ≡ true → has n members ≡ true
-arbiters-member place members directory n h =
-    elim (arbiters-either place members directory n h) [ inl both ↦ both.1 | inr is ↦ source-member place members n is ]
 
 -- an arbiter stays an arbiter as long as it is a member, however few the members become
 pub arbiters-stay : (place : Place) (members fewer directory : List ℕ) (n : ℕ) → IsRising place.replicas → is_subset fewer members ≡ true → has n fewer ≡ true → has n (arbiters place members directory) ≡ true → has n (arbiters place fewer directory) ≡ true

@@ -12,7 +12,7 @@ use Rattle.zeus_packet.specs.declared.place.Place.{Place}
 use Rattle.zeus_packet.specs.declared.place.Proposal.{Proposal}
 use Rattle.zeus_packet.specs.declared.write.Content.{Content}
 use Rattle.zeus_model.specs.Tables.{nth}
-use Rattle.ownership_safety.specs.Object.{Object, Invalidates, Acknowledges, IsView, IsMember, IsSource, IsArbiter, IsSaid, HasAcked, HasAckedStamp, IsChosen, IsBlocked, rank, no_proposal, chain_stamp, chain_place, place_at}
+use Rattle.ownership_safety.specs.Object.{Object, Acknowledges, IsView, IsMember, IsSource, IsArbiter, HasAcked, HasAckedStamp, IsChosen, IsBlocked, rank, no_proposal, chain_stamp, chain_place, place_at}
 use Rattle.ownership_safety.specs.Moves.{SameOthers}
 use Rattle.ownership_safety.specs.OwnershipInvariant.{IsProposal, IsAck, IsLink, IsDecided}
 use Rattle.ownership_safety.specs.Kept.{Grows, Rises}
@@ -116,11 +116,6 @@ module _ (old new : Object) (grows : Grows old new) where
   pub acked-grows : (n : ℕ) (p : Proposal) (e : ℕ) → HasAcked old n p e → HasAcked new n p e
   acked-grows n p e a = (a.0, a.1, grows.letters (Acknowledges n a.0 e p a.1) a.2)
 
-  pub said-grows : (p : Proposal) (e : ℕ) → IsSaid old p e → IsSaid new p e
-  said-grows p e (inl i) = inl (i.0, i.1, grows.letters (Invalidates i.0 i.1 e p) i.2)
-  said-grows p e (inr (n, a)) = inr (n, acked-grows n p e a)
-
-  -- a proposal that is chosen in an epoch stays chosen there after a move
   pub chosen-grows : (p : Proposal) (e : ℕ) → IsChosen old p e → IsChosen new p e
   chosen-grows p e c =
       record {

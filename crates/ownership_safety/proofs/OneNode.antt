@@ -178,10 +178,6 @@ first_decides =
       sends = record { kept = λ l m. m; only = λ l m. inl m };
     }
 
-gathers_asked : all_acks.proposal ≡ asked
-unfolding gather_for
-gathers_asked = refl
-
 -- moves reach an object with one decided proposal
 pub one_decision : (o : Object) × (chain : List Proposal) × IsReached o chain × (length chain ≡ 1)
 unfolding gather_for

@@ -1,7 +1,7 @@
 -- Inside one state: an owner knows the latest placement, there is one owner, and who is named as owner of a decided placement.
 use Rattle.std.specs.Prelude.{ℕ, zero, suc, ◌≡◌, ◌≢◌, ◌<◌, ◌≤◌, true, false, List, length, Option, Some, None}
 use Rattle.std.proofs.Common.{arith, refl, sym, ap, subst, ◌∙◌, inl, inr, le_refl}
-use Rattle.std.proofs.lemmas.Bool.{cases_lt, true≢false, cases_Bool}
+use Rattle.std.proofs.lemmas.Bool.{cases_lt, true≢false}
 use Rattle.zeus_base.specs.Nodes.{has}
 use Rattle.zeus_base.specs.Order.{is_below}
 use Rattle.zeus_base.specs.declared.order.Stamp.{Stamp}
@@ -14,7 +14,7 @@ use Rattle.ownership_safety.specs.Object.{Object, IsLive, IsMember, IsSource, Is
 use Rattle.ownership_safety.specs.OwnershipInvariant.{OwnershipInvariant}
 use Rattle.ownership_safety.proofs.Basics.{not_below-ver}
 use Rattle.ownership_safety.proofs.Arbiters.{arbiters-source, source-owner, new_place-owner}
-use Rattle.ownership_safety.proofs.Chain.{chain_stamp-suc, chain_place-suc, entry_rank-none, stamp_at-ver, stamp_at-below, stamp_at-less, ack-rank, said-viewed, ack-said}
+use Rattle.ownership_safety.proofs.Chain.{chain_stamp-suc, chain_place-suc, entry_rank-none, stamp_at-ver, stamp_at-below, ack-rank, said-viewed, ack-said}
 
 -- a node that owns a placement and is a member is its source and an arbiter
 pub owner-source : (o : Object) (e : ℕ) (place : Place) (n : ℕ) → place.owner ≡ n → IsMember o e n → IsSource o e place n
@@ -58,22 +58,6 @@ module _ (o : Object) (chain : List Proposal) (ownership : OwnershipInvariant o 
   -- an owner's settled placement is the latest
   pub owner-latest : (n : ℕ) → IsOwner o n → (o.entry n).place ≡ latest o chain
   owner-latest n owns = (ownership.settled n).place ∙ ap (λ (v : ℕ). place_at o chain v) (owner-last n owns)
-
-  -- so no decided stamp is above it
-  pub owner-not_below : (n u : ℕ) → IsOwner o n → u ≤ length chain → is_below (o.entry n).stamp (chain_stamp chain u) ≡ false
-  owner-not_below n u owns inside =
-      elim (cases_Bool (is_below (o.entry n).stamp (chain_stamp chain u))) [
-        | inl below ↦
-            let under : is_below (chain_stamp chain (length chain)) (chain_stamp chain u) ≡ true = rw (owner-stamp n owns) at below in
-            let less = stamp_at-less o chain ownership (length chain) u (le_refl (length chain)) inside under in
-            absurd (omega arith)
-        | inr not_below ↦ not_below
-      ]
-
-  -- who has settled the last version has settled the latest placement
-  pub settled-latest : (n : ℕ) → (o.entry n).stamp.ver ≡ length chain → ((o.entry n).stamp ≡ chain_stamp chain (length chain)) × ((o.entry n).place ≡ latest o chain)
-  settled-latest n last =
-      ((ownership.settled n).stamp ∙ ap (λ (v : ℕ). chain_stamp chain v) last, (ownership.settled n).place ∙ ap (λ (v : ℕ). place_at o chain v) last)
 
   -- there is at most one owner
   pub one_owner : (n m : ℕ) → IsOwner o n → IsOwner o m → n ≡ m

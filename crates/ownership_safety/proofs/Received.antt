@@ -1,5 +1,5 @@
 -- What a node knows of a letter that it receives in its epoch: refusals that never come, and what it may settle.
-use Rattle.std.specs.Prelude.{ℕ, ◌≡◌, ◌≢◌, ◌≤◌, true, false, List, Option, ◌⊎◌}
+use Rattle.std.specs.Prelude.{ℕ, ◌≡◌, ◌≢◌, true, false, List, Option, ◌⊎◌}
 use Rattle.std.proofs.Common.{arith, sym, ap, subst, ◌∙◌, inl, inr}
 use Rattle.std.proofs.lemmas.Bool.{cases_Bool}
 use Rattle.zeus_base.specs.Nodes.{has}
@@ -10,12 +10,9 @@ use Rattle.zeus_packet.specs.Place.{new_place}
 use Rattle.zeus_packet.specs.declared.place.Place.{Place}
 use Rattle.zeus_packet.specs.declared.place.Proposal.{Proposal}
 use Rattle.zeus_packet.specs.declared.write.Content.{Content}
-use Rattle.zeus_model.specs.Ownership.{settled_entry, gather_above}
-use Rattle.ownership_safety.specs.Object.{Object, Invalidates, Acknowledges, Validates, In, IsLive, IsMember, IsSource, IsArbiter, IsSaid, view, chain_stamp, place_at}
-use Rattle.ownership_safety.specs.Moves.{Acts, Sends, nothing, Settles}
+use Rattle.ownership_safety.specs.Object.{Object, Invalidates, Acknowledges, Validates, In, IsLive, IsMember, IsSource, IsArbiter, IsSaid, view, chain_stamp}
 use Rattle.ownership_safety.specs.OwnershipInvariant.{OwnershipInvariant, IsDecided}
 use Rattle.ownership_safety.proofs.Arbiters.{arbiters-either, new_place-owner}
-use Rattle.ownership_safety.proofs.Chain.{stamp_at-less}
 use Rattle.ownership_safety.proofs.Choice.{settled-base}
 use Rattle.ownership_safety.proofs.Owner.{owner-arbiter, own_place}
 
@@ -41,29 +38,6 @@ module _ (o : Object) (chain : List Proposal) (ownership : OwnershipInvariant o 
   base-decided p e said =
       let is = ownership.proposals p e said in
       record { ver = is.decided; stamp = is.base; place = is.base_place }
-
-  -- a decided stamp above the settled one of a node is in the chain, and not its beginning
-  pub decided-first : (n : ℕ) (t : Stamp) (place : Place) → IsDecided o chain t place → is_below (o.entry n).stamp t ≡ true → 1 ≤ t.ver
-  decided-first n t place is above =
-      let settled = ownership.settled n in
-      let under : is_below (chain_stamp chain (o.entry n).stamp.ver) (chain_stamp chain t.ver) ≡ true = between (o.entry n).stamp t (chain_stamp chain (o.entry n).stamp.ver) (chain_stamp chain t.ver) settled.stamp is.stamp above in
-      omega (arith, stamp_at-less o chain ownership (o.entry n).stamp.ver t.ver settled.ver is.ver under)
-    where
-      between : (a b c d : Stamp) → a ≡ c → b ≡ d → is_below a b ≡ true → is_below c d ≡ true
-      between a b c d e f h = rw (e, f) at h
-
-  -- a node that settles a decided stamp and its placement, above its settled stamp, makes the move
-  pub decided-settles : (new : Object) (n : ℕ) (t : Stamp) (place : Place) → IsDecided o chain t place → is_below (o.entry n).stamp t ≡ true → Acts o new n → new.entry n ≡ settled_entry (o.entry n) t place → new.gather n ≡ gather_above t (o.gather n) → Sends o new nothing → Settles o new chain n t.ver
-  decided-settles new n t place is above acts entry gather sends =
-      record {
-        acts = acts;
-        first = decided-first n t place is above;
-        decided = is.ver;
-        above = subst (λ (s : Stamp). is_below (o.entry n).stamp s ≡ true) is.stamp above;
-        entry = subst (λ (s : Stamp). new.entry n ≡ settled_entry (o.entry n) s (place_at o chain t.ver)) is.stamp (subst (λ (x : Place). new.entry n ≡ settled_entry (o.entry n) t x) is.place entry);
-        gather = subst (λ (s : Stamp). new.gather n ≡ gather_above s (o.gather n)) is.stamp gather;
-        sends = sends;
-      }
 
   -- ---- who would become the owner
 

@@ -73,14 +73,6 @@ pub names-one_line : (names : List (List ℕ)) → All IsName names → All OneL
 names-one_line [] h = All-nil OneLineName
 names-one_line (n ∷ ns) h = All-cons OneLineName n ns (let first = All-head IsName n ns h in name_bytes n first.3) (names-one_line ns (All-tail IsName n ns h))
 
--- a word of a line
-pub word-is_line : (w : List ℕ) → is_line w ≡ true → is_line (word w) ≡ true
-unfolding lacks
-word-is_line w h = h
-
-pub number-is_line : (n : ℕ) → is_line (number n) ≡ true
-number-is_line n = word-is_line (decimal n) (decimal-is_line n)
-
 -- the name of an object
 pub named-is_line : (names : List (List ℕ)) (x : ℕ) → All OneLineName names → is_line (named_object names x) ≡ true
 unfolding lacks

@@ -9,16 +9,16 @@ use Rattle.zeus_base.specs.Order.{same_stream}
 use Rattle.zeus_base.specs.TableLaws.{nth-put_other, nth-set_same, put-set, nth-replicate}
 use Rattle.zeus_base.specs.declared.config.Config.{Config}
 use Rattle.zeus_base.specs.declared.order.Stream.{Stream}
-use Rattle.zeus_base.specs.LoopLaws.{one_more, all_done}
+use Rattle.zeus_base.specs.LoopLaws.{one_more}
 use Rattle.zeus_txn.specs.declared.tx.TxDecl.{TxDecl}
 use Rattle.zeus_model.specs.Book.{Book}
 use Rattle.zeus_model.specs.Readers.{is_live}
 use Rattle.zeus_model.specs.Tables.{nth}
 use Rattle.zeus_model.specs.World.{World}
 use Rattle.random_schedule.specs.Choices.{chosen, stream, streams, txs_from, own_txs, is_begun, first_new, has_current, ready_tx, ready_txs}
-use Rattle.random_schedule.specs.Ready.{IsSlot, IsQueue, AreQueues, AreBegun, AreAllBegun}
+use Rattle.random_schedule.specs.Ready.{IsSlot, AreQueues, AreBegun, AreAllBegun}
 use Rattle.random_schedule.specs.declared.queues.Queue.{Queue}
-use Rattle.random_schedule.proofs.Elements.{all_at, all_got, chosen_all, got, streams_slots}
+use Rattle.random_schedule.proofs.Elements.{all_got, chosen_all, got, streams_slots}
 use Rattle.random_schedule.specs.Lists.{if_there}
 use Rattle.random_schedule.proofs.Making.{filter_map-cons}
 
@@ -70,9 +70,6 @@ pub queue_slot : (w : World) (queues : List Queue) (i : ℕ) (q : Queue) → Are
 queue_slot w queues i q s h here =
     let there : slice_get (map (λ (p : Queue). p.slot) queues) i ≡ Some q.slot = slice_get-map (λ (p : Queue). p.slot) queues i ∙ ap (Rattle.std.specs.Prelude.option_map (λ (p : Queue). p.slot)) (got queues i q h here) in
     all_got (IsSlot w.config) (streams w.config) i q.slot (streams_slots w.config) (ap (λ (l : List Stream). slice_get l i) (sym s.slots) ∙ there)
-
-pub queue_is : (w : World) (queues : List Queue) (i : ℕ) (q : Queue) → AreQueues w queues → i < length queues → q ≡ get_or queues i q → IsQueue w.txs q
-queue_is w queues i q s h here = all_at (IsQueue w.txs) queues i q s.each h here
 
 -- if of each queue so many transactions are begun, then so many are of the queue at an index
 pub queue_begun : (b : Book) (queues : List Queue) (begun : List ℕ) (i : ℕ) (q : Queue) → AreAllBegun b queues begun → i < length queues → q ≡ get_or queues i q → AreBegun b q.txs.items (get_or begun i 0)
@@ -147,9 +144,6 @@ pub ready_more : (w : World) (queues : List Queue) (i : ℕ) (q : Queue) (out af
 ready_more w queues i q out after whole h here kept added =
     one_more (λ (ps : List Queue). filter_map (ready_tx w) (map (λ (p : Queue). p.slot) ps)) (λ (p : Queue). if_there (ready_tx w p.slot))
     (λ p ps. filter_map-cons (ready_tx w) p.slot (map (λ (r : Queue). r.slot) ps)) queues i q out after whole h here kept added
-
-pub ready_done : (w : World) (queues : List Queue) (i : ℕ) (out whole : List ℕ) → length queues ≤ i → out ++ filter_map (ready_tx w) (map (λ (p : Queue). p.slot) (drop i queues)) ≡ whole → out ≡ whole
-ready_done w queues i out whole h kept = all_done (λ (ps : List Queue). filter_map (ready_tx w) (map (λ (p : Queue). p.slot) ps)) refl queues i out whole h kept
 
 -- ---- the making of the queues
 

@@ -50,9 +50,6 @@ pub pass_none-holds : (holds : List (Option Hold)) (ps : List Pending) (n : ℕ)
 unfolding named_of
 pass_none-holds holds ps n e = rw e (unheld-nil holds)
 
-pub pass_none-rest : (ps : List Pending) (n : ℕ) → n ≡ 0 → drop n ps ≡ ps
-pass_none-rest ps n e = rw e refl
-
 -- if no entry stands in front, then there are none
 pub none_first : (ps : List Pending) → None ≡ slice_get ps 0 → length ps ≡ 0
 none_first [] h = refl

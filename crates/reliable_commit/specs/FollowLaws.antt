@@ -1,5 +1,5 @@
 -- Laws of what is followed: which objects entries write, and which streams there are.
-use Rattle.std.specs.Prelude.{ℕ, zero, suc, ◌≡◌, ◌<◌, ◌-◌, Bool, true, false, ◌&&◌, not, List, [], ◌∷◌, ◌++◌, length, drop, replicate, get_or, refl}
+use Rattle.std.specs.Prelude.{ℕ, zero, suc, ◌≡◌, ◌<◌, ◌-◌, List, [], ◌∷◌, ◌++◌, length, drop, replicate, get_or, refl}
 use Rattle.std.proofs.Common.{sym, ap, ◌∙◌, arith, inl, inr, append_assoc}
 use Rattle.std.proofs.lemmas.Bool.{cases_eq}
 use Rattle.zeus_base.specs.Nodes.{has}
@@ -8,8 +8,8 @@ use Rattle.zeus_base.specs.Tables.{nth, put}
 use Rattle.zeus_base.specs.declared.order.Stream.{Stream}
 use Rattle.zeus_packet.specs.declared.write.Write.{Write}
 use Rattle.zeus_model.specs.declared.state.Kept.{Kept}
-use Rattle.zeus_model.specs.Commit.{acked_kept, is_within, no_kept, on_kept_rack, writes_of}
-use Rattle.zeus_model.specs.State.{Node, StreamLog, log, no_log}
+use Rattle.zeus_model.specs.Commit.{acked_kept, no_kept, writes_of}
+use Rattle.zeus_model.specs.State.{StreamLog, no_log}
 use Rattle.object_table.specs.Table.{AreWithin}
 use Rattle.follower_log.specs.StreamLaws.{IsStreamOf-start, IsStreamOf-with_log_at}
 use Rattle.follower_log.specs.Streams.{IsStreamOf, log_at, with_log_at}
@@ -98,20 +98,6 @@ within_acked k [] (suc i) from h = within_acked k [] i from h
 within_acked k (e ∷ es) zero from h = h
 within_acked k (e ∷ es) (suc i) from h =
     AreWithin-append k e.writes (writes_of (put no_kept es i (acked_kept (nth no_kept es i) from))) (AreWithin-left k e.writes (writes_of es) h) (within_acked k es i from (AreWithin-right k e.writes (writes_of es) h))
-
-followed_acked : (k : ℕ) (n : Node) (from : ℕ) (s t : Stream) (number : ℕ) (b : Bool) → (is_within number (log n s).done (length (log n s).kept) && not (has from (nth no_kept (log n s).kept (number - (log n s).done)).acks)) ≡ b → IsFollowed k n.logs s → IsFollowed k n.logs t → IsFollowed k (on_kept_rack n from s number).node.logs t
-unfolding on_kept_rack
-followed_acked k n from s t number true e h g =
-    rw e
-    (IsFollowed-with_log_at k n.logs s t
-    record { done = (log n s).done; kept = put no_kept (log n s).kept (number - (log n s).done) (acked_kept (nth no_kept (log n s).kept (number - (log n s).done)) from) } h.stream
-    (within_acked k (log n s).kept (number - (log n s).done) from h.within) g)
-followed_acked k n from s t number false e h g = rw e g
-
--- what is followed stays so after an acknowledgement
-pub IsFollowed-on_kept_rack : (k : ℕ) (n : Node) (from : ℕ) (s t : Stream) (number : ℕ) → IsFollowed k n.logs s → IsFollowed k n.logs t → IsFollowed k (on_kept_rack n from s number).node.logs t
-IsFollowed-on_kept_rack k n from s t number h g =
-    followed_acked k n from s t number (is_within number (log n s).done (length (log n s).kept) && not (has from (nth no_kept (log n s).kept (number - (log n s).done)).acks)) refl h g
 
 -- at the start each stream that there is is followed
 pub IsFollowed-start : (k nodes slots : ℕ) (s : Stream) → s.node < nodes → s.slot < slots → IsFollowed k (replicate nodes (replicate slots no_log)) s

@@ -8,7 +8,7 @@ use Rattle.zeus_base.specs.declared.order.Stream.{Stream}
 use Rattle.zeus_packet.specs.declared.letter.RInv.{RInv}
 use Rattle.zeus_model.specs.declared.answer.Outcome.{Outcome}
 use Rattle.zeus_model.specs.Act.{Did}
-use Rattle.zeus_model.specs.Commit.{advance_kept, advance_kept_by, advance_own, advance_own_by, as_kept, is_within, next_kept, no_kept, no_pending, on_kept_rack, on_own_rack, on_rinv, on_rval, pass_own, passing, raise, stored_rinv}
+use Rattle.zeus_model.specs.Commit.{advance_kept, advance_kept_by, advance_own, advance_own_by, as_kept, is_within, next_kept, no_kept, on_kept_rack, on_rinv, on_rval, pass_own, passing, raise, stored_rinv}
 use Rattle.zeus_model.specs.State.{Node, Slot, log, no_slot, slot, with_slot}
 use Rattle.zeus_model.specs.Tables.{nth, put}
 
@@ -78,15 +78,6 @@ set_slot : (n m : Node) (s : ℕ) (l : Slot) → m.slots ≡ put no_slot n.slots
 set_slot n m s l is same =
     let there : slot m s ≡ l = ap (λ (ls : List Slot). nth no_slot ls s) is ∙ nth-put_same no_slot n.slots s l in
     rw (there, ← same) (sym is)
-
--- an own acknowledgement changes the pending entries of its slot alone
-pub on_own_rack-frame : (n : Node) (from s number : ℕ) → s < length n.slots → committing n s (on_own_rack n from s number).node ≡ (on_own_rack n from s number).node
-unfolding on_own_rack
-on_own_rack-frame n from s number h =
-    cond_both (is_within number (slot n s).done (length (slot n s).pending) && not (has from (nth no_pending (slot n s).pending (number - (slot n s).done)).acks)) _ _
-    (λ (d : Did Outcome). committing n s d.node ≡ d.node)
-    (λ _. ap (λ (ls : List Slot). record n { slots = ls }) (set_slot n (with_slot n s _) s _ refl refl))
-    (λ _. same_slot n s h)
 
 advance_own_by-frame : (n : Node) (s k : ℕ) → s < length n.slots → committing n s (advance_own_by n s k).node ≡ (advance_own_by n s k).node
 unfolding advance_own_by

@@ -1,10 +1,9 @@
 -- The letters that are sent, what a node keeps, and views that shrink.
-use Rattle.std.specs.Prelude.{ℕ, zero, suc, ◌≡◌, ◌≢◌, ◌+◌, ◌-◌, ◌<◌, ◌≤◌, true, List, ◌++◌, length}
-use Rattle.std.proofs.Common.{arith, sym, subst, inl, inr}
+use Rattle.std.specs.Prelude.{ℕ, zero, suc, ◌≡◌, ◌≢◌, ◌+◌, ◌-◌, ◌<◌, ◌≤◌, true, length}
+use Rattle.std.proofs.Common.{arith, inl, inr}
 use Rattle.std.proofs.lemmas.Bool.{cases_lt, cases_eq}
 use Rattle.zeus_base.specs.Nodes.{is_subset}
-use Rattle.zeus_base.specs.NodeLaws.{is_subset-refl, is_subset-trans, is_subset-has}
-use Rattle.zeus_model.specs.InLaws.{In-append_left, In-append}
+use Rattle.zeus_base.specs.NodeLaws.{is_subset-refl, is_subset-trans}
 use Rattle.replication_safety.specs.StreamState.{StreamState, Letter, In, IsView, IsLive, IsMember, IsOut, view, top}
 use Rattle.replication_safety.specs.Moves.{Sends, nothing}
 use Rattle.replication_safety.specs.ReplicationInvariant.{IsViewed, Holds}
@@ -14,22 +13,6 @@ use Rattle.replication_safety.specs.ReplicationInvariant.{IsViewed, Holds}
 -- who says nothing leaves the letters as they are
 pub silent-only : (old new : StreamState) (l : Letter) → Sends old new nothing → In l new.letters → In l old.letters
 silent-only old new l s m = elim (s.only l m) [ inl before ↦ before | inr none ↦ absurd none ]
-
--- letters that are added at the end, each of them allowed
-pub Sends-append : (old new : StreamState) (allowed : Letter → Type 0) (ls : List Letter)
-    → new.letters ≡ old.letters ++ ls → ((l : Letter) → In l ls → allowed l) → Sends old new allowed
-Sends-append old new allowed ls e h =
-    record {
-      stay = λ l m. subst (λ (xs : List Letter). In l xs) (sym e) (In-append_left l old.letters ls m);
-      only = λ l m. elim (In-append l old.letters ls (subst (λ (xs : List Letter). In l xs) e m)) [ inl before ↦ inl before | inr now ↦ inr (h l now) ];
-    }
-
-pub Sends-same : (old new : StreamState) → new.letters ≡ old.letters → Sends old new nothing
-Sends-same old new e =
-    record {
-      stay = λ l m. subst (λ (xs : List Letter). In l xs) (sym e) m;
-      only = λ l m. inl (subst (λ (xs : List Letter). In l xs) e m);
-    }
 
 -- ---- functions that agree
 
@@ -59,13 +42,6 @@ view-shrinks l e (suc d) v low high =
     let step : is_subset (view l (suc (e + d))) (view l (e + d)) ≡ true = v.shrinking (e + d) (omega arith, omega arith) (omega arith, omega arith) in
     let rest : is_subset (view l (e + d)) (view l e) ≡ true = view-shrinks l e d v low (omega arith) in
     rw next (is_subset-trans (view l (suc (e + d))) (view l (e + d)) (view l e) step rest)
-
--- a member of a view is a member of each earlier one
-pub IsMember-earlier : (l : StreamState) (e f n : ℕ) → IsViewed l → IsView l e → IsView l f → e ≤ f → IsMember l f n → IsMember l e n
-IsMember-earlier l e f n v is_e is_f le m =
-    let same : e + (f - e) ≡ f = omega arith in
-    let shrinks : is_subset (view l (e + (f - e))) (view l e) ≡ true = view-shrinks l e (f - e) v is_e.0 (omega arith) in
-    is_subset-has n (view l f) (view l e) (rw same at shrinks) m
 
 -- who is out of an epoch has stopped
 pub IsOut-stopped : (l : StreamState) (e n : ℕ) → IsViewed l → IsView l e → IsOut l e n → IsLive l n → ⊥

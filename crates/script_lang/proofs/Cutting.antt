@@ -51,11 +51,6 @@ unfoldable pub other_parts : List (List ℕ) → List (List ℕ)
 other_parts [] = []
 other_parts (p ∷ ps) = ps
 
-some_part : (b : ℕ) (ps : List (List ℕ)) → with_byte b ps ≡ (b ∷ first_part ps) ∷ other_parts ps
-unfolding with_byte first_part other_parts
-some_part b [] = refl
-some_part b (p ∷ ps) = refl
-
 -- a cut is its first part and its other parts
 pub cut_some : (d : ℕ) (bs : List ℕ) → cut d bs ≡ first_part (cut d bs) ∷ other_parts (cut d bs)
 unfolding cut first_part other_parts with_byte

@@ -116,10 +116,6 @@ heard_row m i a o nodes grants grant was expiry is member there was_is expiry_is
     ∙ ap (λ (w : Node). put no_node m.nodes a.node (record w { expiry = max w.expiry (m.service + wait m) })) (sym was_is) in
     rw (is, member, put_is, grants_is, grant_is) refl
 
-pub dropped_row : (m : Machine) (i : ℕ) (a : Ask) (o : Option Ask) → o ≡ Some a → has a.node (last_view m.views) ≡ false → just m answers.Dropped ≡ hear m i o
-unfolding hear
-dropped_row m i a o is stranger = rw (is, stranger) refl
-
 -- ---- leases
 
 -- the ask of a grant, and its ranges

@@ -13,11 +13,6 @@ module _ {A : Type 0} (f : ℕ → Option A) (n : ℕ) where
       let one : n - i ≡ suc (n - (i + 1)) = omega arith in
       rw one refl
 
-  pub first_from-all : first_from 0 ≡ first_of f (below n)
-  first_from-all =
-      let all : n - 0 ≡ n = omega arith in
-      rw all refl
-
   pub first_from-none : (i : ℕ) → n ≤ i → first_from i ≡ None
   unfolding first_of numbers_from
   first_from-none i h =

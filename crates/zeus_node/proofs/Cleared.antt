@@ -1,5 +1,5 @@
 -- What a rule leaves in an effect with nothing in it.
-use Rattle.std.proofs.Common.{◌≡◌, ◌<◌, ◌≤◌, length, take, arith}
+use Rattle.std.proofs.Common.{◌≡◌, ◌≤◌, length, take, arith}
 use Rattle.zeus_model.specs.Act.{Did}
 use Rattle.zeus_model.specs.State.{Node}
 use Rattle.node_state.specs.declared.effect.Effect.{Effect}
@@ -9,9 +9,6 @@ use Rattle.node_state.specs.Effect.{IsCleared}
 -- there is room for letters and passes
 pub cleared-room : (out : Effect) → IsCleared out → length out.sent ≤ 64
 cleared-room out h = rw h.unsent (omega arith)
-
-pub cleared-passes : (out : Effect) → IsCleared out → length out.passed < 64
-cleared-passes out h = rw h.unpassed (omega arith)
 
 module _ {A : Type 0} (d : Did A) (answer : A) (node : Node) (before after : Effect) (cleared : IsCleared before) (done : IsDone d answer node before after) where
   -- just its letters are there, the first 64 of them
