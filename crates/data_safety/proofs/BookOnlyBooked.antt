@@ -123,7 +123,7 @@ module _ (y : RunState) (u : Witness) (b : IsBooked y u) (nodes : ℕ → Node) 
       let r : record_of book p.id ≡ record_of y.book p.id = fixed p.id _ was.0 in
       rw ((q t.node).pending t.slot, (q t.node).done t.slot) (ap (λ (x : TxRecord). x.entry) r ∙ was.0, ap (λ (x : TxRecord). x.reply) r ∙ was.1, was.2)
 
-  -- if current transactions turn and no record with an entry changes, then what holds of the book still holds
+  -- if current transactions turn, records with an entry stay, and the book is a history, then what holds of the book still holds
   pub turned-booked : IsBooked (turned y nodes book) u
   turned-booked = record {
     objects = b.objects;

@@ -156,7 +156,7 @@ finish_passes m = joined (own_passes m) (kept_passes (own_passes m).node)
 not_me : (members : List ℕ) (a b : ℕ) → has b members ≡ true → has a members ≡ false → a ≢ b
 not_me members a b some none same = let other : has b members ≡ false = rw same at none in absurd cc
 
--- in a finish streams advance, none of them twice
+-- in the finish of a member streams advance, none of them twice
 pub finish_round : (m : Node) → has m.me m.members ≡ true → IsRound m (finish_passes m) IsAny
 finish_round m member =
     let first = own_round (length m.slots) 0 m in

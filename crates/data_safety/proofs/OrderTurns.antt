@@ -84,12 +84,12 @@ IsDue-before m p q ne = IsDue-agrees (advanced m p) m q (AgreesOn-sym m (advance
 
 -- ---- what is said of passes
 
--- the letter says how far a stream has passed at the node, and not more
+-- the letter says that entries of a stream have passed, and not more of them than have passed at the node
 pub data IsWord (m : Node) (l : Letter) : Type 0 where
   own_word : (to s d : ℕ) → d ≤ (slot m s).done → to ≢ m.me → l ≡ letter m to (RVal (own_stream m s) d) → IsWord m l
   kept_word : (to d : ℕ) (t : Stream) → t.node ≢ m.me → d ≤ (log m t).done → to ≢ t.node → l ≡ letter m to (RVal t d) → IsWord m l
 
--- a letter that says how far a stream has passed may be sent without a change of the node
+-- a letter that says which entries have passed may be sent without a change of the node
 pub IsWord-tellable : (m : Node) (l : Letter) → IsWord m l → IsTellable m l
 IsWord-tellable m l (own_word to s d le other is) = rw is (own_passed to s d le other)
 IsWord-tellable m l (kept_word to d t foreign le other is) = rw is (kept_passed to d t foreign le other)
@@ -267,7 +267,7 @@ still_round m Among =
       said = λ l i. In-nothing l i;
     }
 
--- if streams do not fall back, then what was said of them before is still so said of the node after
+-- if streams do not fall back, then what is said of them before and after may be said of the node after
 pub round_said : (m k : Node) (a b : List Letter) → Grown m k → ((l : Letter) → In l a → IsWord m l) → ((l : Letter) → In l b → IsWord k l) → (l : Letter) → In l (a ++ b) → IsWord k l
 round_said m k a b g first second l i =
     elim (In-append l a b i) [ inl left ↦ IsWord-grown m k l g (first l left) | inr right ↦ second l right ]

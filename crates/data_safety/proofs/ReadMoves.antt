@@ -134,7 +134,7 @@ module _ (y : RunState) (u : Witness) (b : IsBooked y u) (id : ℕ) (reply : Rep
     | inr other ↦ rw (others j other, times_other j other) (b.in_history j)
   ]
 
-  -- if the reply is what the history leaves, then the book with the read is a history
+  -- if the reply is what the operations make of what the history leaves, then the book with the read is a history
   pub read-history : (run (λ k. (left y k).value) (tx_ops y id)).reply ≡ reply → IsHistory (turned y nodes book)
   read-history same_reply = record {
     begun = λ j h. elim (same_or_not j id) [

@@ -125,7 +125,7 @@ first-left y z u t k x p h first id is =
     ∙ ap (λ (j : ℕ). overwritten (left y) (raised (left y) (run (λ i. (left y i).value) (tx_ops y j)).writes) x) id
     ∙ ap (λ (ws : List Write). overwritten (left y) ws x) writes
 
--- if an entry's point ends a serial history, with its transaction's reply, then the history is still serial
+-- if a serial history gets the point of a stream's first unpassed entry, with its reply, then it is still serial
 pub first-replies : (y z : RunState) (u : Witness) (t : Stream) (k : ℕ) (p : Point) → HasPointed y z p → k ≡ u.passed t → p.id ≡ (pending_at y t k).id
     → p.reply ≡ (pending_at y t k).reply → IsRun y u t k
     → replies_of y.book.points ≡ serial_replies (start_map y.system.config) (txs_of y y.book.points)

@@ -60,7 +60,7 @@ written_least (w ∷ ws) m =
     let rest = written_least ws (put no_content m w.0 v) in
     omega arith
 
--- if no version is past its count, then after a transaction that names at most 8 objects none is past one more
+-- if no version is above what k transactions can make, then one more that names at most 8 objects leaves none above what k + 1 can
 pub versions_after : (o k : ℕ) (m : List Versioned) (tx : List Op) → HasVersions o k m → length (named tx) ≤ 8 → HasVersions o (k + 1) (applied_map m tx)
 versions_after o k m tx h few =
     let writes = run-few (λ x. (content m x).value) tx in
