@@ -153,13 +153,13 @@ Keeps-advanced m p =
     ]
 
 -- no entry has passed, or some of the stream have, in one pass
-pub data Advance (m : Node) (a : Act) (t : Stream) : Type 0 where
-  no_pass : a.passed ≡ [] → a.node ≡ m → Advance m a t
-  one_pass : (p : Passed) → a.passed ≡ p ∷ [] → p.stream ≡ t → IsDue m p → a.node ≡ advanced m p → Advance m a t
+pub data StreamAdvance (m : Node) (a : Act) (t : Stream) : Type 0 where
+  no_pass : a.passed ≡ [] → a.node ≡ m → StreamAdvance m a t
+  one_pass : (p : Passed) → a.passed ≡ p ∷ [] → p.stream ≡ t → IsDue m p → a.node ≡ advanced m p → StreamAdvance m a t
 
 -- a stream has advanced, where it could
 pub record IsTurn (m : Node) (a : Act) (t : Stream) : Type 0 where
-  pub advance : Advance m a t
+  pub advance : StreamAdvance m a t
   pub grown : Grown m a.node
   pub keeps : Keeps m a.node
   pub said : (l : Letter) → In l a.sent → IsWord a.node l
@@ -278,7 +278,7 @@ pub turn_then : (Among Later : Stream → Type 0) (m : Node) (a b : Act) (t : St
 unfolding all_advanced Apart
 turn_then Among Later m a b t turn round first more other = by_advance turn.advance
   where
-    by_advance : Advance m a t → IsRound m (joined a b) Among
+    by_advance : StreamAdvance m a t → IsRound m (joined a b) Among
     by_advance (no_pass none same) =
         let at = round.node in
         let due = round.due in

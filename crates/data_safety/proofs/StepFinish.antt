@@ -18,7 +18,7 @@ use Rattle.data_safety.specs.RunState.{RunState}
 use Rattle.data_safety.proofs.StepReach.{told_as, Arrives, plain_arrives, then_arrives, tells_arrives}
 use Rattle.data_safety.proofs.OrderAdvance.{all_advanced}
 use Rattle.data_safety.proofs.OrderSorted.{Apart, sorted-In, sorted-Apart, sorted-advanced}
-use Rattle.data_safety.proofs.OrderTurns.{IsDue, IsWord-tellable, Advance, no_pass, one_pass, IsTurn, IsRound}
+use Rattle.data_safety.proofs.OrderTurns.{IsDue, IsWord-tellable, StreamAdvance, no_pass, one_pass, IsTurn, IsRound}
 use Rattle.data_safety.proofs.OrderFinish.{IsAny, finish_passes, own_passes, kept_passes, finish_round}
 use Rattle.data_safety.proofs.StepPasses.{passes_arrive}
 
@@ -42,7 +42,7 @@ turn_round m a t turn = by_advance turn.advance
     only p q due (here _ _ e) = rw e due
     only p q due (there _ _ i) = In-nothing q i
 
-    by_advance : Advance m a t → IsRound m a IsAny
+    by_advance : StreamAdvance m a t → IsRound m a IsAny
     by_advance (no_pass none same) =
         record {
           node = rw (none) same;
