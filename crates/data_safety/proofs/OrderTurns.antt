@@ -157,20 +157,20 @@ Keeps-advanced m p =
       | inr other ↦ rw (advanced-kept m p other) (Keeps-pass_kept m p.stream (p.after - p.first))
     ]
 
--- nothing has passed, or some entries of the stream
-pub data Turned (m : Node) (a : Act) (t : Stream) : Type 0 where
-  idles : a.passed ≡ [] → a.node ≡ m → Turned m a t
-  goes : (p : Passed) → a.passed ≡ p ∷ [] → p.stream ≡ t → IsDue m p → a.node ≡ advanced m p → Turned m a t
+-- no entry has passed, or some of the stream have, in one pass
+pub data StreamAdvance (m : Node) (a : Act) (t : Stream) : Type 0 where
+  no_pass : a.passed ≡ [] → a.node ≡ m → StreamAdvance m a t
+  one_pass : (p : Passed) → a.passed ≡ p ∷ [] → p.stream ≡ t → IsDue m p → a.node ≡ advanced m p → StreamAdvance m a t
 
 -- a stream has advanced, where it could
 pub record IsTurn (m : Node) (a : Act) (t : Stream) : Type 0 where
-  pub turned : Turned m a t
+  pub advance : StreamAdvance m a t
   pub grown : Grown m a.node
   pub keeps : Keeps m a.node
   pub said : (l : Letter) → In l a.sent → IsWord a.node l
 
 still_turn : (m : Node) (t : Stream) → IsTurn m (still m) t
-still_turn m t = record { turned = idles refl refl; grown = Grown-refl m; keeps = Keeps-refl m; said = λ l i. In-nothing l i }
+still_turn m t = record { advance = no_pass refl refl; grown = Grown-refl m; keeps = Keeps-refl m; said = λ l i. In-nothing l i }
 
 length-take : {A : Type 0} (k : ℕ) (xs : List A) → k ≤ length xs → length (take k xs) ≡ k
 length-take zero xs h = refl
@@ -196,7 +196,7 @@ own_turn_by m i (suc c) h =
     let p : Passed = record { stream = own_stream m i; first = (slot m i).done; after = (slot m i).done + length ks } in
     let span : suc c ≡ p.after - p.first = omega (arith, count) in
     record {
-      turned = goes p refl refl (own_due c refl refl (omega (arith, count)) h) (ap (λ (k : ℕ). pass_own m i k) span ∙ sym (advanced-own m p refl));
+      advance = one_pass p refl refl (own_due c refl refl (omega (arith, count)) h) (ap (λ (k : ℕ). pass_own m i k) span ∙ sym (advanced-own m p refl));
       grown = Grown-pass_own m i (suc c);
       keeps = Keeps-pass_own m i (suc c);
       said = own_words m i (suc c);
@@ -230,7 +230,7 @@ kept_turn_by m t (suc c) out foreign h =
     let p : Passed = record { stream = t; first = (log m t).done; after = (log m t).done + length ks } in
     let span : suc c ≡ p.after - p.first = omega (arith, count) in
     record {
-      turned = goes p refl refl (kept_due c foreign out refl (omega (arith, count)) h) (ap (λ (k : ℕ). pass_kept m t k) span ∙ sym (advanced-kept m p foreign));
+      advance = one_pass p refl refl (kept_due c foreign out refl (omega (arith, count)) h) (ap (λ (k : ℕ). pass_kept m t k) span ∙ sym (advanced-kept m p foreign));
       grown = Grown-pass_kept m t (suc c);
       keeps = Keeps-pass_kept m t (suc c);
       said = kept_words m t (suc c) out foreign;
@@ -284,10 +284,10 @@ first_or_later q p ps (there _ _ i) = inr i
 -- if a stream advances and then others do, none of them twice, then all of them have, none twice
 pub turn_then : (Among Later : Stream → Type 0) (m : Node) (a b : Act) (t : Stream) → IsTurn m a t → IsRound a.node b Later → Among t → ((u : Stream) → Later u → Among u) → ((u : Stream) → Later u → t ≢ u) → IsRound m (joined a b) Among
 unfolding all_advanced Apart
-turn_then Among Later m a b t turn round first more other = by_turn turn.turned
+turn_then Among Later m a b t turn round first more other = by_advance turn.advance
   where
-    by_turn : Turned m a t → IsRound m (joined a b) Among
-    by_turn (idles none same) =
+    by_advance : StreamAdvance m a t → IsRound m (joined a b) Among
+    by_advance (no_pass none same) =
         let at = round.node in
         let due = round.due in
         record {
@@ -299,7 +299,7 @@ turn_then Among Later m a b t turn round first more other = by_turn turn.turned
           keeps = rw (same) at round.keeps;
           said = round_said a.node b.node a.sent b.sent round.grown turn.said round.said;
         }
-    by_turn (goes p some stream due is) =
+    by_advance (one_pass p some stream due is) =
         let at = round.node in
         let later = round.due in
         let keeps = round.keeps in

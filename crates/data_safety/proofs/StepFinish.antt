@@ -18,7 +18,7 @@ use Rattle.data_safety.specs.RunState.{RunState}
 use Rattle.data_safety.proofs.StepReach.{told_as, Arrives, plain_arrives, then_arrives, tells_arrives}
 use Rattle.data_safety.proofs.OrderAdvance.{all_advanced}
 use Rattle.data_safety.proofs.OrderSorted.{Apart, sorted-In, sorted-Apart, sorted-advanced}
-use Rattle.data_safety.proofs.OrderTurns.{IsDue, IsWord-tellable, Turned, idles, goes, IsTurn, IsRound}
+use Rattle.data_safety.proofs.OrderTurns.{IsDue, IsWord-tellable, StreamAdvance, no_pass, one_pass, IsTurn, IsRound}
 use Rattle.data_safety.proofs.OrderFinish.{IsAny, finish_passes, own_passes, kept_passes, finish_round}
 use Rattle.data_safety.proofs.StepPasses.{passes_arrive}
 
@@ -36,14 +36,14 @@ round_arrives Among y n k a ready r =
 -- one stream alone is a round
 pub turn_round : (m : Node) (a : Act) (t : Stream) → IsTurn m a t → IsRound m a IsAny
 unfolding all_advanced Apart
-turn_round m a t turn = by_turn turn.turned
+turn_round m a t turn = by_advance turn.advance
   where
     only : (p q : Passed) → IsDue m p → In q (p ∷ []) → IsDue m q
     only p q due (here _ _ e) = rw e due
     only p q due (there _ _ i) = In-nothing q i
 
-    by_turn : Turned m a t → IsRound m a IsAny
-    by_turn (idles none same) =
+    by_advance : StreamAdvance m a t → IsRound m a IsAny
+    by_advance (no_pass none same) =
         record {
           node = rw (none) same;
           due = rw (none) (λ p i. In-nothing p i);
@@ -53,7 +53,7 @@ turn_round m a t turn = by_turn turn.turned
           keeps = turn.keeps;
           said = turn.said;
         }
-    by_turn (goes p some stream due is) =
+    by_advance (one_pass p some stream due is) =
         record {
           node = rw (some) is;
           due = rw (some) (λ q i. only p q due i);

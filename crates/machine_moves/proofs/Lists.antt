@@ -1,6 +1,6 @@
 -- Members of lists, cuts of lists, and tables by index.
 use Rattle.std.specs.Prelude.{ℕ, zero, suc, ◌≡◌, ◌≢◌, ◌+◌, ◌-◌, ◌<◌, ◌≤◌, true, List, [], ◌∷◌, ◌++◌, length, take, map, replicate, ◌⊎◌}
-use Rattle.std.proofs.Common.{arith, refl, ap, inl, inr}
+use Rattle.std.proofs.Common.{arith, refl, ap, sym, inl, inr}
 use Rattle.std.proofs.lemmas.Bool.{cases_eq}
 use Rattle.std.proofs.lemmas.Bool.Decides.{nat_tests}
 use Rattle.zeus_base.specs.Nodes.{has}
@@ -43,17 +43,9 @@ take-append {A = A} (suc k) (x ∷ xs) ys =
 
 -- ---- tables
 
--- each other index than the one written reads as before
+-- each other index than the one written reads as before (the law of zeus_base, with its premise turned)
 pub nth-put_other : {A : Type 0} (d : A) (xs : List A) (i j : ℕ) (v : A) → j ≢ i → nth d (put d xs i v) j ≡ nth d xs j
-unfolding nth put
-nth-put_other d [] zero zero v ne = absurd (ne refl)
-nth-put_other d [] zero (suc j) v ne = refl
-nth-put_other d [] (suc i) zero v ne = refl
-nth-put_other d [] (suc i) (suc j) v ne = nth-put_other d [] i j v (λ e. ne (ap suc e))
-nth-put_other d (x ∷ xs) zero zero v ne = absurd (ne refl)
-nth-put_other d (x ∷ xs) zero (suc j) v ne = refl
-nth-put_other d (x ∷ xs) (suc i) zero v ne = refl
-nth-put_other d (x ∷ xs) (suc i) (suc j) v ne = nth-put_other d xs i j v (λ e. ne (ap suc e))
+nth-put_other d xs i j v ne = Rattle.zeus_base.specs.TableLaws.nth-put_other d xs i j v (λ e. ne (sym e))
 
 -- of two writes at one index the second alone is seen
 pub put-put : {A : Type 0} (d : A) (xs : List A) (i : ℕ) (v w : A) → put d (put d xs i v) i w ≡ put d xs i w

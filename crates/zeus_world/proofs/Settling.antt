@@ -11,7 +11,7 @@ use Rattle.zeus_base.specs.declared.step.Step.{Step}
 use Rattle.zeus_packet.specs.declared.letter.Letter.{Letter}
 use Rattle.zeus_packet.specs.declared.letter.Packet.{Packet}
 use Rattle.zeus_model.specs.Act.{Did}
-use Rattle.zeus_model.specs.Book.{Book, BookChange, book_passes, change_then, counted, in_stream_order, book_only}
+use Rattle.zeus_model.specs.Book.{Book, BookChange, book_passes, change_then, counted, in_stream_order}
 use Rattle.zeus_model.specs.State.{Node}
 use Rattle.zeus_model.specs.Tables.{nth, put}
 use Rattle.zeus_model.specs.World.{World, Event, acted, all_posted, happens, no_node, node, packets, refuse_step}
