@@ -110,7 +110,7 @@ pub noted_first : (before : List Packet) (links : List (List (List Letter))) (l 
 unfolding packets
 noted_first before links l ls n e = rw (append_assoc, e) refl
 
--- a batch without a letter notes no packet
+-- a batch without a letter notes nothing
 pub noted_none : (before : List Packet) (links : List (List (List Letter))) → before ≡ before ++ packets links []
 unfolding packets
 noted_none before links = sym (append-nil before)
