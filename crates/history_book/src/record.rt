@@ -45,7 +45,6 @@ impl Model for Record {
 }
 
 impl Record {
-    /// A transaction that has not begun.
     pub(crate) fn new() -> Record
         ensures { result ≡ no_record }
     {
@@ -59,42 +58,36 @@ impl Record {
         }
     }
 
-    /// Whether the transaction is begun.
     pub(crate) fn is_begun(&self) -> bool
         ensures { result ≡ is_some self.now.begun }
     {
         self.begun.is_some()
     }
 
-    /// Whether the transaction has its point.
     pub(crate) fn has_point(&self) -> bool
         ensures { result ≡ is_some self.now.point }
     {
         self.point.is_some()
     }
 
-    /// Whether the transaction is acknowledged.
     pub(crate) fn is_acked(&self) -> bool
         ensures { result ≡ is_some self.now.acked }
     {
         self.acked.is_some()
     }
 
-    /// Whether the transaction is refused.
     pub(crate) fn is_refused(&self) -> bool
         ensures { result ≡ self.now.refused }
     {
         self.refused
     }
 
-    /// The transaction begins in this step.
     pub(crate) fn begin(&mut self, step: u64)
         ensures { self.new ≡ record self.old { begun = Some step } }
     {
         self.begun = Some(step);
     }
 
-    /// The transaction is committed as this entry of the stream, with this reply.
     pub(crate) fn commit(&mut self, stream: &Stream, number: u32, reply: Reply)
         ensures { self.new ≡ record self.old { entry = Some record { stream = stream.now; number = number }; reply = Some reply } }
     {
@@ -105,35 +98,30 @@ impl Record {
         self.reply = Some(reply);
     }
 
-    /// The transaction has this reply.
     pub(crate) fn set_reply(&mut self, reply: Reply)
         ensures { self.new ≡ record self.old { reply = Some reply } }
     {
         self.reply = Some(reply);
     }
 
-    /// The transaction has its point in this step.
     pub(crate) fn set_point(&mut self, step: u64)
         ensures { self.new ≡ record self.old { point = Some step } }
     {
         self.point = Some(step);
     }
 
-    /// The transaction is acknowledged in this step.
     pub(crate) fn ack(&mut self, step: u64)
         ensures { self.new ≡ record self.old { acked = Some step } }
     {
         self.acked = Some(step);
     }
 
-    /// The transaction is refused.
     pub(crate) fn refuse(&mut self)
         ensures { self.new ≡ record self.old { refused = true } }
     {
         self.refused = true;
     }
 
-    /// The reply of the transaction, if it has one.
     pub(crate) fn reply(&self) -> Option<&Reply>
         ensures { option_copied result ≡ self.now.reply }
     {
