@@ -54,7 +54,7 @@ sub-zero n = omega arith
 pub counts_none : (ps : List Pending) (place from : ℕ) → slice_get ps place ≡ None → counts record { done = 0; pending = ps } place from ≡ false
 counts_none ps place from e = counts_past record { done = 0; pending = ps } place from (omega arith) (rw (sub-zero place) e)
 
--- the same by the entry's place: it counts exactly if the sender has not acknowledged the entry yet
+-- by the place of its entry an acknowledgement counts exactly if its sender has not acknowledged that entry yet
 pub counts_some : (ps : List Pending) (place from : ℕ) (p : Pending) → slice_get ps place ≡ Some p → counts record { done = 0; pending = ps } place from ≡ not (has from p.acks)
 counts_some ps place from p e = counts_here record { done = 0; pending = ps } place from p (omega arith) (rw (sub-zero place) e)
 

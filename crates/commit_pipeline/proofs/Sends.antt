@@ -46,12 +46,12 @@ pub sends-lacking : (ds : List Due) (number n : ℕ) (ns all acks : List ℕ) �
 unfolding sends apart
 sends-lacking ds number n ns all acks is lacks = rw (is, lacks) (append_assoc ds (record { number = number; to = n } ∷ []) (sends number (apart ns acks)))
 
--- if the head node has acknowledged, then only sends to the nodes behind it are due
+-- if the head node has acknowledged, then the sends that are due are those to the nodes behind it
 pub sends-acked : (ds : List Due) (number n : ℕ) (ns all acks : List ℕ) → all ≡ n ∷ ns → has n acks ≡ true → ds ++ sends number (apart ns acks) ≡ ds ++ sends number (apart all acks)
 unfolding apart
 sends-acked ds number n ns all acks is acked = rw (is, acked) refl
 
--- if there are no nodes, then there are no sends
+-- if an entry has no follower, then no send is added
 pub sends-none : (ds : List Due) (number : ℕ) (all acks : List ℕ) → all ≡ [] → ds ++ sends number (apart all acks) ≡ ds
 unfolding sends apart
 sends-none ds number all acks is = rw is (append-nil ds)

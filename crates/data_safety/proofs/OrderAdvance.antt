@@ -147,7 +147,7 @@ advanced-kept m p other = rw (ne_eqb p.stream.node m.me other) refl
 pub two_streams : (t u : Stream) → t ≢ u → (t.node ≢ u.node) ⊎ (t.slot ≢ u.slot)
 two_streams t u ne = elim (stream_cases u t) [ inl same ↦ absurd (ne same) | inr other ↦ other ]
 
--- two streams that advance in either order make the same node
+-- two different streams that advance in either order make the same node
 pub advanced-swap : (m : Node) (p q : Passed) → p.stream ≢ q.stream → advanced (advanced m p) q ≡ advanced (advanced m q) p
 advanced-swap m p q ne =
     elim (cases_eq p.stream.node m.me) [

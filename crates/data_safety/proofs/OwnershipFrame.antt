@@ -191,6 +191,6 @@ module _ (y z : RunState) (u : Witness) (chain : ℕ → List Proposal) (f : Dat
           | inr renewed ↦ absurd (clean-none t n k w renewed.clean (s.live n live) had above i')
         ]
 
-    -- after a framed move, what holds of copies still holds
+    -- if each object stays or is renewed while clean, then after a framed move what holds of copies still holds
     pub framed-copied : IsCopied z (with_chains u chain)
     framed-copied = record { placed = framed-placed; content = framed-content; taken = framed-taken }

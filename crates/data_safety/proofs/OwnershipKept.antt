@@ -103,7 +103,7 @@ module _ (y z : RunState) (u : Witness) (chain : ℕ → List Proposal) (f : Dat
           let was = given n x e p c (framed-within y z u chain f s x within) g last in
           (framed-clean y z u chain f s x was.0, rw (framed-left y z u chain f s) was.1)
 
-      -- after a framed move, what holds of entries still holds
+      -- if also owners of pending objects stay so, and given contents are what the history leaves, then what holds of entries still holds
       pub framed-entered : IsEntered z (with_chains u chain)
       framed-entered = record {
         home = framed-home;

@@ -161,7 +161,7 @@ named-beside s t holds y ps other counts = λ x here.
           rw at (counts x (rw at at here))
     ] refl
 
--- if a slot holds objects, then what entries of another slot name covers that slot's holds as before
+-- if a slot holds more objects, then each other slot still holds none more often than its entries name it
 pub named-others : (s t : ℕ) (xs : List ℕ) (holds : List (Option Hold)) (ps : List Pending) → t ≢ s → AreNamed t holds ps → AreNamed t (each_held s holds xs) ps
 unfolding each_held
 named-others s t [] holds ps other counts = counts

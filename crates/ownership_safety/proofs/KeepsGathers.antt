@@ -118,7 +118,7 @@ module _ (old new : Object) (n : ℕ) (p : Proposal) (a : ℕ) (c : Option Conte
               (λ d k. subst (λ (q : Proposal). (b : ℕ) × In (Acknowledges b n (old.epoch n) q (Some d)) old.letters) one (was.content d k)))
         ]
 
-    -- the invariant holds after an acknowledgement is noted
+    -- if the invariant holds, then also after an acknowledgement is noted
     pub keeps_Notes : OwnershipInvariant new chain
     keeps_Notes =
         let entries : (m : ℕ) → new.entry m ≡ old.entry m = each_node (λ m. new.entry m ≡ old.entry m) n notes.entry notes.acts.others.entry in

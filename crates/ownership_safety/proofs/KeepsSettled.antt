@@ -175,7 +175,7 @@ module _ (old new : Object) (chain : List Proposal) (ownership : OwnershipInvari
       let fixes = settles-fixes u settles in
       fixes-grows old new n (nth no_proposal chain u) fixes.0 fixes.1 chain ownership
 
-  -- if a node settles a decided stamp, then the invariant holds after it
+  -- if the invariant holds, then also after a node settles a decided stamp
   pub keeps_Settles : (u : ℕ) → Settles old new chain n u → OwnershipInvariant new chain
   keeps_Settles zero settles = absurd (let first = settles.first in omega arith)
   keeps_Settles (suc u) settles =
@@ -345,7 +345,7 @@ module _ (old new : Object) (chain : List Proposal) (ownership : OwnershipInvari
               (n, fixes-stamp old new n g.proposal (old.epoch n) decides-fixes chain ownership ∙ sym first-stamp ∙ ap (λ (v : ℕ). chain_stamp longer v) (sym first-length));
         }
 
-  -- a decision is of what is decided already, or the first of its version; the invariant holds after it
+  -- if the invariant holds, then a decision is of what is decided already, or the first of its version, and it holds after it
   pub keeps_Decides : IsAgain old new chain n g.proposal ⊎ IsFirst old new chain n g.proposal
   keeps_Decides =
       elim (chosen-chain old chain ownership g.proposal (old.epoch n) decides-chosen) [

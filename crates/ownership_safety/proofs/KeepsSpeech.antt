@@ -104,7 +104,7 @@ module _ (old new : Object) (n : ℕ) (p : Proposal) (drives : Drives old new n 
         | inr both ↦ inr (rw (says-rank old new n p says_Drives) both.1)
       ])
 
-  -- the invariant holds after a node has driven a request
+  -- if the invariant holds, then also after a node has driven a request
   pub keeps_Drives : OwnershipInvariant new chain
   keeps_Drives =
       speaks-ownership old new n p says_Drives chain ownership record {

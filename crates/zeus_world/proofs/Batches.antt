@@ -110,7 +110,7 @@ pub noted_first : (before : List ℕ) (links : List (List (List Letter))) (l : L
 unfolding link_numbers
 noted_first before links l ls n e = rw (append_assoc, e) refl
 
--- a batch without a letter notes no packet
+-- a batch without a letter notes nothing
 pub noted_none : (before : List ℕ) (links : List (List (List Letter))) → before ≡ before ++ link_numbers links []
 unfolding link_numbers
 noted_none before links = sym (append-nil before)

@@ -170,7 +170,7 @@ link_there w from to L r h k e =
     let row : length (nth [] L from) ≡ w.config.nodes = length-row L from ∙ ap (λ (x : List (List (List Letter))). length (nth [] x from)) e ∙ r.receivers from h in
     record { from = rw size h; to = rw row k }
 
--- if a step is refused with an answer, and the report tells it alone, then the report tells what happens
+-- if a step is refused and its answer alone is told, then what is told is what happens
 pub alone_as : (w : World) (a : Answer) (r : StepEvent) (e : Event) (links : List (List (List Letter))) (b : Book) → e ≡ refuse_step w a → links ≡ w.links → b ≡ counted w.book → IsAlone a r → IsTaken r (world_with w w.nodes links b) e
 alone_as w a r e links b is f g alone =
     alone_taken w (world_with w w.nodes links b) a r e is

@@ -94,7 +94,7 @@ can_settle w n all said b L r is ranged h e by fit room steps lists =
     let few = few_letters said all is in
     record { counts = steps; post = can_post w n all said L is ranged h e by fit room; lists = lists; few = few }
 
--- if a node has acted and its act was settled, then the report tells it, and the world is the one after it
+-- if a node has acted and its act was settled, then what is told is what happened, and the world is the one after it
 pub settled_as : {A : Type 0} (w : World) (n : ℕ) (wrap : A → Answer) (d : Did A) (answer : A) (after : Node) (said : List Letter) (passed : List Passed) (c : BookChange) (b b' : BookState) (L L' : List (List LinkState)) (r s : StepEvent)
     → HasActed d answer after said passed → n < length w.nodes → letters L ≡ w.links → IsMade c b r.points r.acked → r.answer ≡ wrap answer → IsSettled n said passed b b' L L' r s
     → IsTaken s (world_with w (set w.nodes n after) (letters L') b'.book) (acted w n d.node (wrap d.answer) (take 64 d.sent) (change_then c (λ e. book_passes e n (in_stream_order d.passed))))
@@ -220,7 +220,7 @@ install_fits c txs n e h = record { node = h.0; first = h.1 }
 
 -- ---- what is taken
 
--- if a node stopped and nothing else is told, then the report and the world are those of the stop
+-- if a node stopped and nothing else is told, then what is told and the world are those of the stop
 pub stop_taken : (w : World) (n : ℕ) (k after : Node) (t : Stopping) (links : List (List (List Letter))) (b : Book) (r : StepEvent) → IsNodeAt w n k → t ≡ (stop k).answer → after ≡ (stop k).node
     → links ≡ w.links → b ≡ counted w.book → IsAlone (StopAnswer t) r → IsTaken r (world_with w (set w.nodes n after) links b) (happens w (Stop n))
 stop_taken w n k after t links b r at says becomes e f alone =
@@ -237,7 +237,7 @@ begun_quiet b k Begun = record { points = refl; acks = refl }
 begun_quiet b k (Busy id) = record { points = refl; acks = refl }
 begun_quiet b k BeginStopped = record { points = refl; acks = refl }
 
--- if a node began a transaction and nothing else is told, then the report and the world are those of the begin
+-- if a node began a transaction and nothing else is told, then what is told and the world are those of the begin
 pub begin_taken : (w : World) (k : ℕ) (n after : Node) (t : BeginOutcome) (links : List (List (List Letter))) (b : Book) (r : StepEvent) → IsNodeAt w (tx_decl w k).node n → None ≡ begin_refused w k
     → t ≡ (begin n (tx_decl w k).slot k (tx_decl w k).tx).answer → after ≡ (begin n (tx_decl w k).slot k (tx_decl w k).tx).node
     → links ≡ w.links → b ≡ counted (book_begun w.book k t).book → IsAlone (BeginAnswer t) r → IsTaken r (world_with w (set w.nodes (tx_decl w k).node after) links b) (happens w (Begin k))
@@ -246,7 +246,7 @@ begin_taken w k n after t links b r at is says becomes e f alone =
     rw (begin_happens w k n at is, ← says, ← becomes)
     (quiet_taken w (tx_decl w k).node after (BeginAnswer t) (book_begun w.book k t) links b r at.place e f quiet.points quiet.acks alone)
 
--- if a node ticked and its act was settled, then the report and the world are those of the tick
+-- if a node ticked and its act was settled, then what is told and the world are those of the tick
 pub tick_taken : (w : World) (n : ℕ) (k after : Node) (t : Ticking) (said : List Letter) (passed : List Passed) (b b' : BookState) (L L' : List (List LinkState)) (r s : StepEvent) → IsNodeAt w n k
     → HasActed (tick k) t after said passed → letters L ≡ w.links → b.book ≡ w.book → IsAlone (TickAnswer t) r → IsSettled n said passed b b' L L' r s
     → IsTaken s (world_with w (set w.nodes n after) (letters L') b'.book) (happens w (Tick n))
@@ -254,7 +254,7 @@ tick_taken w n k after t said passed b b' L L' r s at did e f alone settled =
     rw (tick_happens w n k at)
     (settled_as w n TickAnswer (tick k) t after said passed (book_only w.book) b b' L L' r s did at.place e (record { book = f; points = alone.points; acks = alone.acked }) alone.says settled)
 
--- if a node received a packet's letter and its act was settled, then the report and the world are those of the delivery
+-- if a node received a packet's letter and its act was settled, then what is told and the world are those of the delivery
 pub deliver_taken : (w : World) (from to i : ℕ) (l : Letter) (k after : Node) (t : Receiving) (said : List Letter) (passed : List Passed) (b b' : BookState) (L L' : List (List LinkState)) (r s : StepEvent) → IsNodeAt w to k
     → nth_letter (link w.links from to) i ≡ Some l
     → HasActed (receive k l) t after said passed → letters L ≡ w.links → b.book ≡ w.book → IsAlone (ReceiveAnswer t) r → IsSettled to said passed b b' L L' r s
@@ -263,7 +263,7 @@ deliver_taken w from to i l k after t said passed b b' L L' r s at is did e f al
     rw (deliver_happens w from to i l k at is)
     (settled_as w to ReceiveAnswer (receive k l) t after said passed (book_only w.book) b b' L L' r s did at.place e (record { book = f; points = alone.points; acks = alone.acked }) alone.says settled)
 
--- if a node installed a view and its act was settled, then the report and the world are those of the install
+-- if a node installed a view and its act was settled, then what is told and the world are those of the install
 pub install_taken : (w : World) (n e : ℕ) (v : ViewOf) (k after : Node) (t : Installing) (said : List Letter) (passed : List Passed) (b b' : BookState) (L L' : List (List LinkState)) (r s : StepEvent) → IsNodeAt w n k
     → e ≤ length w.views → v ≡ record { epoch = e; members = nth [] w.views (e - 1) }
     → HasActed (install k v) t after said passed → letters L ≡ w.links → b.book ≡ w.book → IsAlone (InstallAnswer t) r → IsSettled n said passed b b' L L' r s
@@ -272,7 +272,7 @@ install_taken w n e v k after t said passed b b' L L' r s at less is did f g alo
     rw (install_happens w n e v k at less is)
     (settled_as w n InstallAnswer (install k v) t after said passed (book_only w.book) b b' L L' r s did at.place f (record { book = g; points = alone.points; acks = alone.acked }) alone.says settled)
 
--- if a slot was tried and its act was settled, then the report and the world are those of the try
+-- if a slot was tried and its act was settled, then what is told and the world are those of the try
 pub try_taken : (w : World) (n slot : ℕ) (k after : Node) (t : Tried) (said : List Letter) (passed : List Passed) (b b' : BookState) (L L' : List (List LinkState)) (r s : StepEvent) → IsNodeAt w n k
     → HasActed (try_slot k slot) t after said passed → letters L ≡ w.links → IsMade (book_tried w.book record { node = n; slot = slot } w.config.degree t) b r.points r.acked → r.answer ≡ TryAnswer t
     → IsSettled n said passed b b' L L' r s

@@ -41,7 +41,7 @@ plain_happens w set = plain_view w set (view_refused w set)
 abbrev pub world_seen : World → List (List ℕ) → Book → World
 world_seen w views book = record w { views = views; book = book }
 
--- if a view was made or refused and nothing else is told, then the report and the world are those of the step
+-- if a view was made or refused and nothing else is told, then what is told and the world are those of the step
 pub view_taken : (w : World) (set : List ℕ) (m : Made) (views : List (List ℕ)) (b : Book) (r : StepEvent) → ViewAnswer m ≡ (happens w (View set)).answer → views ≡ (stepped w (View set)).views → b ≡ counted w.book
     → IsAlone (ViewAnswer m) r → IsTaken r (world_seen w views b) (happens w (View set))
 view_taken w set m views b r says seen book alone =
