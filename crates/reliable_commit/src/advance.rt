@@ -1,14 +1,11 @@
 //! What passes: entries of an own slot, and those of the stream of a node that is no member.
 ghost use Rattle.std.specs.Prelude.{◌≡◌, ◌≤◌, ◌+◌, ◌-◌, ◌^◌, ℕ, drop, length, map, take};
 ghost use Rattle.zeus_base.specs.Nodes.{meet, without};
-ghost use Rattle.zeus_model.specs.Act.{to_each};
-ghost use Rattle.zeus_model.specs.Commit.{advance_kept, advance_own, as_kept, each_write, followers_of, validated, writes_of};
-ghost use Rattle.zeus_model.specs.State.{Node, own_stream, slot as slot_of};
-ghost use Rattle.zeus_packet.specs.declared.letter.Body.TheVariants.{RVal};
+ghost use Rattle.zeus_model.specs.Commit.{as_kept, each_write, followers_of, validated, writes_of};
 ghost use Rattle.follower_log.specs.Streams.{IsStreamOf, log_at};
 ghost use Rattle.object_table.specs.Entries.{AreEntriesWithin, named_of};
 ghost use Rattle.object_table.specs.Table.{each_unheld};
-ghost use Rattle.reliable_commit.specs.Advancing.{IsMemberWith, IsOwnWith, count_of, passed_by, told_of};
+ghost use Rattle.reliable_commit.specs.Advancing.{AdvancesKept, AdvancesOwn};
 ghost use Rattle.reliable_commit.specs.Following.{IsFollowed};
 
 use crate::follow::raise;
@@ -33,17 +30,7 @@ pub struct Advance {
 /// memory.
 pub fn advance_own(copies: &mut Copies, pipe: &mut Pipe, me: NodeId, members: NodeSet) -> Advance
     requires { AreEntriesWithin (length copies.old.copies) pipe.old.pending }
-    ensures letters { (n : Node) (s : ℕ) → IsOwnWith n s copies.old.copies pipe.old me members → (advance_own n s).sent ≡ to_each n result.tell (RVal (own_stream n s) result.after) }
-    ensures passed { (n : Node) (s : ℕ) → IsOwnWith n s copies.old.copies pipe.old me members → (advance_own n s).passed ≡ passed_by (own_stream n s) result }
-    ensures copies { (n : Node) (s : ℕ) → IsOwnWith n s copies.old.copies pipe.old me members → copies.new.copies ≡ (advance_own n s).node.copies }
-    ensures pending { (n : Node) (s : ℕ) → IsOwnWith n s copies.old.copies pipe.old me members → pipe.new.pending ≡ (slot_of (advance_own n s).node s).pending }
-    ensures done { (n : Node) (s : ℕ) → IsOwnWith n s copies.old.copies pipe.old me members → pipe.new.done ≡ (slot_of (advance_own n s).node s).done }
-    ensures first { result.first ≡ pipe.old.done }
-    ensures after { result.after ≡ pipe.new.done }
-    ensures tell { result.tell ≡ told_of me members (take (count_of result) (map as_kept pipe.old.pending)) }
-    ensures holds { copies.new.holds ≡ each_unheld copies.old.holds (named_of (take (count_of result) pipe.old.pending)) }
-    ensures objects { length copies.new.copies ≡ length copies.old.copies }
-    ensures within { AreEntriesWithin (length copies.old.copies) pipe.new.pending }
+    ensures does { AdvancesOwn me members copies.old copies.new pipe.old pipe.new result }
 {
     let first = pipe.done();
     let count = pipe.passing(me, members);
@@ -67,16 +54,7 @@ pub fn advance_kept(
     members: NodeSet,
 ) -> Advance
     requires { IsFollowed (length copies.old.copies) log.old s }
-    ensures letters { (n : Node) → IsMemberWith n copies.old.copies log.old me members → (advance_kept n s).sent ≡ to_each n result.tell (RVal s result.after) }
-    ensures passed { (n : Node) → IsMemberWith n copies.old.copies log.old me members → (advance_kept n s).passed ≡ passed_by s result }
-    ensures copies { (n : Node) → IsMemberWith n copies.old.copies log.old me members → copies.new.copies ≡ (advance_kept n s).node.copies }
-    ensures logs { (n : Node) → IsMemberWith n copies.old.copies log.old me members → log.new ≡ (advance_kept n s).node.logs }
-    ensures first { result.first ≡ (log_at log.old s).done }
-    ensures after { result.after ≡ (log_at log.new s).done }
-    ensures tell { result.tell ≡ told_of me members (take (count_of result) (log_at log.old s).kept) }
-    ensures holds { copies.new.holds ≡ copies.old.holds }
-    ensures objects { length copies.new.copies ≡ length copies.old.copies }
-    ensures streams { (t : Stream) → IsFollowed (length copies.old.copies) log.old t → IsFollowed (length copies.old.copies) log.new t }
+    ensures does { AdvancesKept s me members copies.old copies.new log.old log.new result }
 {
     let stream = &s;
     let first = log.done(*stream);

@@ -110,7 +110,14 @@ impl Model for MemSink {
 
     ghost Value = { PlannedSink };
 
-    ghost view = { λ s. record { held = s.sink.held; room = s.sink.room; piece = s.piece; fails = s.plan.fails.items; calls = s.plan.calls; faults = s.sink.faults } };
+    ghost view = { λ s. record {
+      held = s.sink.held;
+      room = s.sink.room;
+      piece = s.piece;
+      fails = s.plan.fails.items;
+      calls = s.plan.calls;
+      faults = s.sink.faults;
+    } };
 
     ghost invariant = { λ s. 0 < s.piece };
 }
@@ -156,7 +163,11 @@ impl Sink for MemSink {
 
         ensures fails { IsErr result ↔ (Contains self.old.fails self.old.calls ⊎ ((0 < length piece.now) × (self.old.room ≡ 0))) }
         ensures count { IfOk result (λ n. n ≡ min (min (length piece.now) self.old.piece) self.old.room) }
-        ensures ok { IfOk result (λ n. self.new ≡ record self.old { held = self.old.held ++ take n piece.now; room = self.old.room - n; calls = one_more self.old.calls }) }
+        ensures ok { IfOk result (λ n. self.new ≡ record self.old {
+          held = self.old.held ++ take n piece.now;
+          room = self.old.room - n;
+          calls = one_more self.old.calls;
+        }) }
         ensures err { OnErr result (self.new ≡ record self.old { calls = one_more self.old.calls; faults = one_more self.old.faults }) }
     {
         if self.plan.next_fails() {

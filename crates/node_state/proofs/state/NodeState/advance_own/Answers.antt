@@ -22,41 +22,42 @@ invariant_of-self c =
     let within = rw (← c.self.view_is) at c.requires in
     let here = slot_here n c.args.slot c.place.result _ _ within c.place.ensures c.index_mut-slot.ensures.value c.slot.view_is in
     let own = own_with n c.args.slot c.slot.inside.current c.slot.inside.pipe here in
-    let done = c.advance_own.ensures.done n c.args.slot own in
-    let becomes = advance_own-node n c.args.slot c.place.result _ c.advance_own.new.pipe c.advance_own.new.copies.copies within c.place.ensures here (c.advance_own.ensures.copies n c.args.slot own) done (c.advance_own.ensures.pending n c.args.slot own) in
+    let does = c.advance_own.ensures.does in
+    let acts = does.acts n c.args.slot own in
+    let becomes = advance_own-node n c.args.slot c.place.result _ c.advance_own.new.pipe c.advance_own.new.copies.copies within c.place.ensures here acts.copies acts.done acts.pending in
     IsKept-becomes c.self.inside _ (advance_own n c.args.slot).node becomes refl refl c.self.invariant
     (advance_own-keeps (limits_of n) c.args.slot within n c.self.invariant.ranges).node
-    (rw c.advance_own.ensures.holds
-    (AreHeld-advanced n c.args.slot n.copies c.slot.inside.pipe n.me n.members c.advance_own.result c.self.inside.copies.holds own c.advance_own.ensures.first (c.advance_own.ensures.after ∙ done) c.self.invariant.held))
+    (rw does.holds
+    (AreHeld-advanced n c.args.slot n.copies c.slot.inside.pipe n.me n.members c.advance_own.result c.self.inside.copies.holds own does.first (does.after ∙ acts.done) c.self.invariant.held))
 
 pub returns-clause-after : goal.returns-clause-after
 returns-clause-after c =
     let n = shown c.self.inside in
     let within = rw (← c.self.view_is) at c.requires in
     let here = slot_here n c.args.slot c.place.result _ _ within c.place.ensures c.index_mut-slot.ensures.value c.slot.view_is in
-    let own = own_with n c.args.slot c.slot.inside.current c.slot.inside.pipe here in
+    let acts = c.advance_own.ensures.does.acts n c.args.slot (own_with n c.args.slot c.slot.inside.current c.slot.inside.pipe here) in
     rw (← c.self.view_is)
-    (advance_own-node n c.args.slot c.place.result _ c.advance_own.new.pipe c.advance_own.new.copies.copies within c.place.ensures here (c.advance_own.ensures.copies n c.args.slot own) (c.advance_own.ensures.done n c.args.slot own) (c.advance_own.ensures.pending n c.args.slot own))
+    (advance_own-node n c.args.slot c.place.result _ c.advance_own.new.pipe c.advance_own.new.copies.copies within c.place.ensures here acts.copies acts.done acts.pending)
 
 pub returns-clause-letters : goal.returns-clause-letters
 returns-clause-letters c =
     let n = shown c.self.inside in
     let within = rw (← c.self.view_is) at c.requires in
     let here = slot_here n c.args.slot c.place.result _ _ within c.place.ensures c.index_mut-slot.ensures.value c.slot.view_is in
-    rw (← c.self.view_is) (c.advance_own.ensures.letters n c.args.slot (own_with n c.args.slot c.slot.inside.current c.slot.inside.pipe here))
+    rw (← c.self.view_is) (c.advance_own.ensures.does.acts n c.args.slot (own_with n c.args.slot c.slot.inside.current c.slot.inside.pipe here)).letters
 
 pub returns-clause-passed : goal.returns-clause-passed
 returns-clause-passed c =
     let n = shown c.self.inside in
     let within = rw (← c.self.view_is) at c.requires in
     let here = slot_here n c.args.slot c.place.result _ _ within c.place.ensures c.index_mut-slot.ensures.value c.slot.view_is in
-    rw (← c.self.view_is) (c.advance_own.ensures.passed n c.args.slot (own_with n c.args.slot c.slot.inside.current c.slot.inside.pipe here))
+    rw (← c.self.view_is) (c.advance_own.ensures.does.acts n c.args.slot (own_with n c.args.slot c.slot.inside.current c.slot.inside.pipe here)).passed
 
 pub returns-clause-limits : goal.returns-clause-limits
 returns-clause-limits c =
     let n = shown c.self.inside in
     let within = rw (← c.self.view_is) at c.requires in
     let here = slot_here n c.args.slot c.place.result _ _ within c.place.ensures c.index_mut-slot.ensures.value c.slot.view_is in
-    let own = own_with n c.args.slot c.slot.inside.current c.slot.inside.pipe here in
-    let becomes = advance_own-node n c.args.slot c.place.result _ c.advance_own.new.pipe c.advance_own.new.copies.copies within c.place.ensures here (c.advance_own.ensures.copies n c.args.slot own) (c.advance_own.ensures.done n c.args.slot own) (c.advance_own.ensures.pending n c.args.slot own) in
+    let acts = c.advance_own.ensures.does.acts n c.args.slot (own_with n c.args.slot c.slot.inside.current c.slot.inside.pipe here) in
+    let becomes = advance_own-node n c.args.slot c.place.result _ c.advance_own.new.pipe c.advance_own.new.copies.copies within c.place.ensures here acts.copies acts.done acts.pending in
     rw (← c.self.view_is) (ap limits_of becomes ∙ limits_of-kept n (advance_own n c.args.slot).node (advance_own-keeps (limits_of n) c.args.slot within n c.self.invariant.ranges).node)
