@@ -116,6 +116,7 @@ module _ (old new : Object) (grows : Grows old new) where
   pub acked-grows : (n : ℕ) (p : Proposal) (e : ℕ) → HasAcked old n p e → HasAcked new n p e
   acked-grows n p e a = (a.0, a.1, grows.letters (Acknowledges n a.0 e p a.1) a.2)
 
+  -- a proposal that is chosen in an epoch stays chosen there after a move
   pub chosen-grows : (p : Proposal) (e : ℕ) → IsChosen old p e → IsChosen new p e
   chosen-grows p e c =
       record {

@@ -92,6 +92,7 @@ module _ (old : Object) (chain : List Proposal) where
   run-extends new longer (further mid _ before _ run move) =
       Extends-trans chain before longer (run-extends mid before run) (move-extends mid new before longer move)
 
+  -- one run of moves and then another are a run
   pub run-append : (mid : Object) (before : List Proposal) → IsRun old chain mid before → (new : Object) (longer : List Proposal) → IsRun mid before new longer → IsRun old chain new longer
   run-append mid before one new longer none = one
   run-append mid before one new longer (further there _ so_far _ run move) =

@@ -24,18 +24,21 @@ all_done F nil xs i out whole h kept =
 
 -- ---- the numbers that are left
 
+-- if i is below n, then the numbers from i to below n are i and those from i + 1
 pub numbers-next : (i n : ℕ) → i < n → numbers_from i (n - i) ≡ i ∷ numbers_from (i + 1) (n - (i + 1))
 unfolding numbers_from
 numbers-next i n h =
     let one : n - i ≡ suc (n - (i + 1)) = omega arith in
     rw (one, add-one) refl
 
+-- if i is not below n, then there is no number from i to below n
 pub numbers-none : (i n : ℕ) → n ≤ i → numbers_from i (n - i) ≡ []
 unfolding numbers_from
 numbers-none i n h =
     let none : n - i ≡ 0 = omega arith in
     rw none refl
 
+-- the numbers from 0 to below n are the numbers below n
 pub numbers-all : (n : ℕ) → numbers_from 0 (n - 0) ≡ below n
 numbers-all n =
     let all : n - 0 ≡ n = omega arith in

@@ -4,6 +4,7 @@ use Rattle.std.proofs.Common.{add-one, drop-cons}
 use Rattle.std.proofs.Math.ListN.{get_or}
 use Rattle.zeus_model.specs.Tables.{first_of, or_else}
 
+-- what a list gives is what its head gives, or else what its tail gives
 pub first_of-cons : {A B : Type 0} (f : A → Option B) (x : A) (xs : List A) → first_of f (x ∷ xs) ≡ or_else (f x) (first_of f xs)
 unfolding first_of
 first_of-cons f x xs = refl

@@ -158,6 +158,7 @@ distinct-append x [] d h = (refl, tt)
 distinct-append x (k ∷ ks) d h =
     (grind (arith, nat_tests, d.0, mentions-append k ks (x ∷ []), mentions-one k x), distinct-append x ks d.1 (grind (arith, nat_tests)))
 
+-- distinct objects with one more that is mentioned are distinct
 pub distinct-mentioned : (x : ℕ) (ks : List ℕ) → AreDistinct ks → AreDistinct (mentioned ks x)
 distinct-mentioned x ks d =
     elim (mentions x ks) as (λ b. mentions x ks ≡ b → AreDistinct (mentioned ks x)) [
