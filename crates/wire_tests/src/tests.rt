@@ -82,13 +82,22 @@ fn written(alloc: Global, packet: &Packet, version: u8) -> Result<Vec<u8>, Fail>
 fn read_and_written(alloc: Global, bytes: &[u8], limits: &Limits) -> Result<Vec<u8>, Fail>
     requires { AreLimits limits.now }
 {
-    let packet = decode(alloc, bytes, limits)?;
-    written(alloc, &packet, limits.version)
+    match &decode(alloc, bytes, limits) {
+        Ok(packet) => written(alloc, packet, limits.version),
+        Err(fault) => Err(Fail::from(*fault)),
+    }
+}
+
+fn fault_of<T>(read: &Result<T, WireFault>) -> Option<WireFault> {
+    match read {
+        Ok(_) => None,
+        Err(fault) => Some(*fault),
+    }
 }
 
 // The place and the kind of the fault that is met.
 fn fault(alloc: Global, bytes: &[u8]) -> Option<WireFault> {
-    decode(alloc, bytes, &limits(1)).err()
+    fault_of(&decode(alloc, bytes, &limits(1)))
 }
 
 // The fault after bytes from a place on are changed.
@@ -202,7 +211,10 @@ fn each_wish_has_its_tag(rt: HostRuntime) -> Result<(), Fail> {
         if place >= 6 {
             bytes.push(0)?;
         }
-        let packet = decode(rt.alloc(), &bytes, &limits(1))?;
+        let read = decode(rt.alloc(), &bytes, &limits(1));
+        let Ok(packet) = &read else {
+            return Err(Fail::from("no packet"));
+        };
         let wanted = match place % 3 {
             0 => Want::Own,
             1 => Want::Read,
@@ -217,7 +229,7 @@ fn each_wish_has_its_tag(rt: HostRuntime) -> Result<(), Fail> {
         assert_eq!(rt; kind, place / 3);
         assert!(rt; want == wanted, "{place}");
         assert_eq!(rt;
-            written(rt.alloc(), &packet, 1)?.as_slice(),
+            written(rt.alloc(), packet, 1)?.as_slice(),
             bytes.as_slice()
         );
     }
@@ -286,7 +298,7 @@ fn an_object_twice_is_a_fault_at_its_second_place(rt: HostRuntime) -> Result<(),
     }
     let wanted = WireFault::BadField { at: 42 };
     assert_eq!(rt;
-        decode(rt.alloc(), &bytes, &eight_objects(1)).err(),
+        fault_of(&decode(rt.alloc(), &bytes, &eight_objects(1))),
         Some(wanted)
     );
     Ok(())
@@ -306,7 +318,7 @@ fn texts_are_printable_and_at_most_32_bytes(rt: HostRuntime) {
         if let Some(changed) = bytes.get_mut(place) {
             *changed = byte;
         }
-        assert_eq!(rt; decode(rt.alloc(), &bytes, &limits(2)).err(), wanted);
+        assert_eq!(rt; fault_of(&decode(rt.alloc(), &bytes, &limits(2))), wanted);
     }
 }
 
@@ -320,7 +332,7 @@ fn packets_are_appended_one_behind_the_other(rt: HostRuntime) -> Result<(), Fail
     encode_letter_into(7, &packet.letter, 1, &mut out);
     assert_eq!(rt; out.len(), 84);
     assert!(rt; matches!(decode_front(rt.alloc(), &out, &limits(1)), Ok((_, 42))));
-    let second = decode(rt.alloc(), &out[42..], &limits(1))?;
-    assert_eq!(rt; second.number, 7);
+    let second = decode(rt.alloc(), &out[42..], &limits(1));
+    assert!(rt; matches!(&second, Ok(packet) if packet.number == 7));
     Ok(())
 }
