@@ -16,7 +16,7 @@ use reached_worlds::every_reached_world_is_ranged;
 use std::alloc::Global;
 use zeus_base::{NoMemory, Step};
 use zeus_model::Script;
-use zeus_world::{Report, World};
+use zeus_world::{StepEvent, World};
 
 /// A schedule: the world that it has come to, its steps so far, and what it keeps.
 #[derive(Drop)]
@@ -27,7 +27,7 @@ pub(crate) struct Scheduler<'a> {
     /// How many transactions are known to be settled, from the first on.
     pub(crate) settled: u32,
     /// What the last step did.
-    pub(crate) report: Report,
+    pub(crate) event: StepEvent,
 }
 
 impl<'a> Scheduler<'a> {
@@ -47,7 +47,7 @@ impl<'a> Scheduler<'a> {
             steps: Vec::new(alloc),
             chooser: Chooser::new(alloc, &script.config, &script.txs)?,
             settled: 0,
-            report: Report::new(alloc),
+            event: StepEvent::new(alloc)?,
         })
     }
 
@@ -78,7 +78,7 @@ impl<'a> Scheduler<'a> {
             .chooser
             .choose(alloc, &self.world, faults, words.word())?;
         push(&mut self.steps, step)?;
-        self.world.step_into(&step, &mut self.report)?;
+        self.world.step_event(&step, &mut self.event)?;
         Ok(())
     }
 

@@ -5,15 +5,14 @@ ghost use Rattle.zeus_model.specs.Spelling.{word};
 
 use zeus_base::{NoMemory, NodeId, NodeSet, Stamp, Stream};
 use zeus_packet::State;
-use zeus_text::{append, append_byte, write_decimal, write_number};
+use zeus_text::{append, write_behind, write_number};
 
 /// Writes a space and the stream as `node.slot`.
 pub(crate) fn write_stream(out: &mut Vec<u8>, stream: &Stream) -> Result<(), NoMemory>
     ensures { OnOk result (out.new.items ≡ out.old.items ++ word (stream_text stream.now)) }
 {
     write_number(out, u64::from(stream.node.0))?;
-    append_byte(out, b'.')?;
-    write_decimal(out, u64::from(stream.slot.0))
+    write_behind(out, b'.', u64::from(stream.slot.0))
 }
 
 /// Writes a space and the stamp as `version.driver`.
@@ -21,8 +20,7 @@ pub(crate) fn write_stamp(out: &mut Vec<u8>, stamp: &Stamp) -> Result<(), NoMemo
     ensures { OnOk result (out.new.items ≡ out.old.items ++ word (stamp_text stamp.now)) }
 {
     write_number(out, stamp.ver)?;
-    append_byte(out, b'.')?;
-    write_decimal(out, u64::from(stamp.driver.0))
+    write_behind(out, b'.', u64::from(stamp.driver.0))
 }
 
 /// Writes a text, and then a stamp behind a space.
@@ -44,8 +42,7 @@ pub(crate) fn write_nodes(out: &mut Vec<u8>, set: NodeSet) -> Result<(), NoMemor
         Some(first) => {
             write_number(out, u64::from(first.0))?;
             for node in nodes {
-                append_byte(out, b',')?;
-                write_decimal(out, u64::from(node.0))?;
+                write_behind(out, b',', u64::from(node.0))?;
             }
             Ok(())
         }

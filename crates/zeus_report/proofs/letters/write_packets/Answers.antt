@@ -6,8 +6,8 @@ use Rattle.zeus_report.specs.Lines.{packet_line}
 use Rattle.zeus_report.proofs.Numbered.{packet_there, place_there}
 use Rattle.zeus_report.proofs.letters.write_packets.Goals as goal
 
-pub index-numbers-place-requires : goal.index-numbers-place-requires
-index-numbers-place-requires c = place_there (λ (p : Packet). p.number) c.args.sent.now _ c.loop-place.place c.len.result c.numbers.ensures c.len.ensures.count c.loop-place-test.true
+pub bounds-numbers-place : goal.bounds-numbers-place
+bounds-numbers-place c = place_there (λ (p : Packet). p.number) c.args.sent.now _ c.loop-place.place c.len.result c.numbers.ensures c.len.ensures.count c.loop-place-test.true
 
 pub index-letters-place-requires : goal.index-letters-place-requires
 index-letters-place-requires c = place_there (λ (p : Packet). p.letter) c.args.sent.now _ c.loop-place.place c.len.result c.letters.ensures c.len.ensures.count c.loop-place-test.true
