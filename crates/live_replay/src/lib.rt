@@ -43,13 +43,16 @@ pub fn merged_journals_are_a_run()
     ensures few { (p : Plan) (k : Cluster) (es : Events) → IsLive p k es → length (merged p.config k) ≤ 40000100 }
 
     // Each step has the answer that its cell, or the service, gave.
-    ensures answers { (p : Plan) (k : Cluster) (es : Events) (past : List Turn) (t : Turn) (future : List Turn) → IsLive p k es → past ++ t ∷ future ≡ turns p.config es
+    ensures answers { (p : Plan) (k : Cluster) (es : Events) (past : List Turn) (t : Turn) (future : List Turn) → IsLive p k es
+        → past ++ t ∷ future ≡ turns p.config es
         → (happens (world_after p past) (turn_step t)).answer ≡ given p past t }
     // Each step acknowledges the transactions that its cell acknowledged, in the same order.
-    ensures acknowledgements { (p : Plan) (k : Cluster) (es : Events) (past : List Turn) (t : Turn) (future : List Turn) → IsLive p k es → past ++ t ∷ future ≡ turns p.config es
+    ensures acknowledgements { (p : Plan) (k : Cluster) (es : Events) (past : List Turn) (t : Turn) (future : List Turn) → IsLive p k es
+        → past ++ t ∷ future ≡ turns p.config es
         → (happens (world_after p past) (turn_step t)).acked ≡ acknowledged p past t }
     // No step is answered that a transaction was begun before or waits, or that a packet or a view is not there.
-    ensures nothing_missed { (p : Plan) (k : Cluster) (es : Events) (past : List Turn) (t : Turn) (future : List Turn) → IsLive p k es → past ++ t ∷ future ≡ turns p.config es
+    ensures nothing_missed { (p : Plan) (k : Cluster) (es : Events) (past : List Turn) (t : Turn) (future : List Turn) → IsLive p k es
+        → past ++ t ∷ future ≡ turns p.config es
         → IsMissed (happens (world_after p past) (turn_step t)).answer → ⊥ }
     // Each begin is answered so.
     ensures begun { (p : Plan) (k : Cluster) (es : Events) (past : List Turn) (n : ℕ) (e : CellEvent) (future : List Turn) (j : Job) → IsLive p k es
@@ -70,7 +73,8 @@ pub fn merged_journals_are_a_run()
     ensures views { (p : Plan) (k : Cluster) (es : Events) → IsLive p k es → (run (start p.config p.txs) (merged p.config k)).views ≡ k.service.views }
     // The letters of a link are all that its cell sent there, also those that found no place in the ring.
     ensures links { (p : Plan) (k : Cluster) (es : Events) (sender receiver : ℕ) → IsLive p k es → sender < p.config.nodes
-        → link (run (start p.config p.txs) (merged p.config k)).links sender receiver ≡ map (λ (q : Stamped). q.letter) (sends sender p.config p.txs receiver (es.cells sender)) }
+        → link (run (start p.config p.txs) (merged p.config k)).links sender receiver
+        ≡ map (λ (q : Stamped). q.letter) (sends sender p.config p.txs receiver (es.cells sender)) }
     // A transaction is begun, entered, acknowledged and refused just where the book of its node's cell says so, with its reply.
     ensures books { (p : Plan) (k : Cluster) (es : Events) (n id : ℕ) → IsLive p k es → n < p.config.nodes → (declared p.txs id).node ≡ n
         → SameRun (record_of (run (start p.config p.txs) (merged p.config k)).book id) (record_of ((k.cells n).core).book id) }
@@ -81,7 +85,8 @@ pub fn merged_journals_are_a_run()
         → all_closed (run (start p.config p.txs) (merged p.config k)) ≡ all_closed_at_home p k }
 
     // The jobs that a client handed over are those begun at its slot, and then those that are still in the ring.
-    ensures jobs { (p : Plan) (k : Cluster) (es : Events) (id : ClientId) → IsLive p k es → IsThere p.config id → IsFront (jobs p.txs id.slot (es.cells id.node)) (k.clients id).jobs }
+    ensures jobs { (p : Plan) (k : Cluster) (es : Events) (id : ClientId) → IsLive p k es → IsThere p.config id
+        → IsFront (jobs p.txs id.slot (es.cells id.node)) (k.clients id).jobs }
     // The answers that a client took are the front of those that its cell's events give it.
     ensures client_answers { (p : Plan) (k : Cluster) (es : Events) (id : ClientId) → IsLive p k es → IsThere p.config id
         → IsFront (k.clients id).answers (answers id.node p.config p.txs id.slot (es.cells id.node)) }

@@ -72,7 +72,8 @@ fn gather(
     requires object { obj < length node.old.entries }
     requires proposal { proposal_fits (limits_of node.old) p.now ≡ true }
     requires room { length out.old.sent ≤ 64 }
-    ensures { IsDone (gather_or_older node.old from obj p.now content.now (greater_gather p.now.stamp (gather_of node.old obj))) result node.new out.old out.new }
+    ensures { IsDone (gather_or_older node.old from obj p.now content.now (greater_gather p.now.stamp (gather_of node.old obj)))
+        result node.new out.old out.new }
 {
     match node.take_ack(obj, from, p, *content) {
         Ack::Older(stamp) => Outcome::Older(stamp),

@@ -113,7 +113,15 @@ fn repeat_entry(
     out: &mut Effect,
 )
     requires { length out.old.sent ≤ 64 }
-    ensures { Adds (to_each node.now (apart (without node.now.me (meet followers node.now.members)) acks) (Invalidation (record { stream = at.now.stream; number = at.now.number; done = at.now.done; followers = followers; writes = writes.now }))) [] out.old out.new }
+    ensures { Adds
+        (to_each node.now (apart (without node.now.me (meet followers node.now.members)) acks) (Invalidation (record {
+          stream = at.now.stream;
+          number = at.now.number;
+          done = at.now.done;
+          followers = followers;
+          writes = writes.now;
+        })))
+        [] out.old out.new }
 {
     for receiver in followers.meet(node.members()).without(node.me()) {
         if out.sent.is_full() {

@@ -161,7 +161,8 @@ impl State {
         requires few { self.old.steps < 50000 }
         requires count { length ticks.now ≡ suc (length self.old.nodes.items) }
         requires ticks { All (λ t. t < 2 ^ 32) ticks.now }
-        ensures { record { machine = shown self.new; answer = result } ≡ pass_or_not (shown self.old) ticks.now (skew self.old.percent ticks.now (suc (length self.old.nodes.items))) }
+        ensures { record { machine = shown self.new; answer = result }
+            ≡ pass_or_not (shown self.old) ticks.now (skew self.old.percent ticks.now (suc (length self.old.nodes.items))) }
     {
         if let Some(skewed) = skew(self.percent, ticks) {
             return skewed;
@@ -313,7 +314,8 @@ impl State {
     fn view(&mut self, members: NodeSet) -> Result<LeaseAnswer, NoMemory>
         requires kept { IsKept (shown self.old) }
         requires few { self.old.steps < 50000 }
-        ensures did { IfOk result (λ a. record { machine = shown self.new; answer = a } ≡ view (shown self.old) (world_does (seen (shown self.old)) (ViewStep members))) }
+        ensures did { IfOk result (λ a. record { machine = shown self.new; answer = a }
+            ≡ view (shown self.old) (world_does (seen (shown self.old)) (ViewStep members))) }
         ensures err { OnErr result (shown self.new ≡ shown self.old) }
     {
         let stopped = self.stopped();

@@ -44,7 +44,13 @@ fn start(alloc: Global, me: NodeId) -> Result<NodeState, Fail>
 
 /// The first entry of node 0: it writes 9 to the object, and node 1 follows it.
 fn entry(alloc: Global) -> RInv
-    ensures { result ≡ record { stream = record { node = 0; slot = 0 }; number = 0; done = 0; followers = 1 ∷ []; writes = record { obj = 0; ver = 1; value = Num 9 } ∷ [] } }
+    ensures { result ≡ record {
+      stream = record { node = 0; slot = 0 };
+      number = 0;
+      done = 0;
+      followers = 1 ∷ [];
+      writes = record { obj = 0; ver = 1; value = Num 9 } ∷ [];
+    } }
 {
     let mut writes = Writes::new(alloc);
     writes.push(Write {
