@@ -7,21 +7,18 @@ use Rattle.zeus_report.proofs.Numbered.{packet_there, place_there}
 use Rattle.zeus_report.proofs.letters.write_packets.Goals as goal
 
 pub bounds-numbers-place : goal.bounds-numbers-place
-bounds-numbers-place c = place_there (λ (p : Packet). p.number) c.args.sent.now _ c.loop-place.place c.len.result c.numbers.ensures c.len.ensures.count c.loop-place-test.true
-
-pub index-letters-place-requires : goal.index-letters-place-requires
-index-letters-place-requires c = place_there (λ (p : Packet). p.letter) c.args.sent.now _ c.loop-place.place c.len.result c.letters.ensures c.len.ensures.count c.loop-place-test.true
+bounds-numbers-place c = place_there (λ (p : Packet). p.number) c.args.sent.now _ c.loop-place.place c.len-place-end.result c.numbers-numbers.ensures c.len-place-end.ensures.count c.loop-place-test.true
 
 pub loop-place-preserved : goal.loop-place-preserved
 unfolding packet_lines
 loop-place-preserved c =
     let names = c.args.names.now in
-    let number = ap (λ numbers. get_or numbers c.loop-place.place 0) c.numbers.ensures in
-    let letter = rw c.letters.ensures at c.index-letters-place.is in
-    let there = packet_there c.args.sent.now c.loop-place.place _ _ (omega arith) number letter in
+    let number = ap (λ numbers. get_or numbers c.loop-place.place 0) c.numbers-numbers.ensures in
+    let letter = rw c.letters-letters.ensures at c.index-letters-place.is in
+    let there = packet_there c.args.sent.now c.loop-place.place _ _ (omega (arith, c.loop-place-test.true, c.len-place-end.ensures.count)) number letter in
     one_more (packet_lines names) (λ (p : Packet). packet_line names p.number p.letter) (λ p ps. refl)
     c.args.sent.now c.loop-place.place _ c.loop-place.out.items c.write_packet.new.out.items _
-    (omega arith) there c.loop-place.invariant (c.in_ok-write_packet.ensures)
+    (omega (arith, c.loop-place-test.true, c.len-place-end.ensures.count)) there c.loop-place.invariant (c.in_ok-write_packet.ensures)
 
 pub returns : goal.returns
 unfolding packet_lines
