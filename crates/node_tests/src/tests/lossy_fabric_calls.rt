@@ -19,8 +19,8 @@ fn keeps_each_packet_of_a_link(rt: HostRuntime) -> Result<(), Fail> {
     assert_eq!(rt; links.send(&letter), 1);
     assert_eq!(rt; links.count(from, to), 2);
     assert_eq!(rt; links.count(to, from), 0);
-    let packet = links.get(from, to, 1).expect(&rt, "the second packet");
-    assert_eq!(rt; (packet.number, packet.letter.epoch), (1, 2));
+    let second = links.get(from, to, 1);
+    assert!(rt; matches!(&second, Some(packet) if packet.number == 1 && packet.letter.epoch == 2));
     assert!(rt; links.get(from, to, 2).is_none());
     Ok(())
 }

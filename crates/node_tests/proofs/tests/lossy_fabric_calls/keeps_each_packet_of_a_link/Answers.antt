@@ -34,8 +34,8 @@ count-requires c = λ d. d.send-2.ensures.links 0 1 (d.send.ensures.links 0 1 (d
 pub count-requires-2 : goal.count-requires-2
 count-requires-2 c = λ d. d.send-2.ensures.links 1 0 (d.send.ensures.links 1 0 (d.reserve.ensures.links 1 0 (linked _ d.in_ok-links.ensures).1))
 
+pub get-second-requires : goal.get-second-requires
+get-second-requires c = λ d. d.send-2.ensures.links 0 1 (d.send.ensures.links 0 1 (d.reserve.ensures.links 0 1 (linked _ d.in_ok-links.ensures).0))
+
 pub get-requires : goal.get-requires
 get-requires c = λ d. d.send-2.ensures.links 0 1 (d.send.ensures.links 0 1 (d.reserve.ensures.links 0 1 (linked _ d.in_ok-links.ensures).0))
-
-pub get-requires-2 : goal.get-requires-2
-get-requires-2 c = λ d. d.send-2.ensures.links 0 1 (d.send.ensures.links 0 1 (d.reserve.ensures.links 0 1 (linked _ d.in_ok-links.ensures).0))
