@@ -21,8 +21,8 @@ use Rattle.machine_moves.specs.Fits.{StepFits}
 use Rattle.machine_moves.proofs.Start.{start-config}
 use Rattle.machine_moves.proofs.Steps.{IsStep, step_is_moves}
 use Rattle.data_safety.specs.RunState.{run_state}
-use Rattle.data_safety.proofs.StepRuns.{moves_txs, start-txs}
-use Rattle.data_safety.proofs.StepMoves.{step_is_run_moves}
+use Rattle.data_safety.proofs.steps.StepRuns.{moves_txs, start-txs}
+use Rattle.data_safety.proofs.steps.StepMoves.{step_is_run_moves}
 use Rattle.invariants.proofs.Start.{nth-map}
 use Rattle.soundness.specs.Telling.{IsTold}
 use Rattle.soundness.proofs.Fitting.{fits-steps}

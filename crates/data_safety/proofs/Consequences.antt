@@ -35,7 +35,7 @@ use Rattle.invariants.proofs.StreamSeen.{own_done_is, own_kept_is, stream_cases}
 use Rattle.invariants.proofs.ObjectSeen.{same_or_not}
 use Rattle.data_safety.specs.RunState.{RunState, Witness, tx_ops, place_now, pending_at, Lives}
 use Rattle.data_safety.specs.DataInvariant.{DataInvariant, IsClean, IsNewer, IsRun, left, content_of, raised, found_at}
-use Rattle.data_safety.proofs.Names.{run-named, raised-from}
+use Rattle.data_safety.proofs.commits.Names.{run-named, raised-from}
 
 -- ---- the entries that a stream's own node keeps
 

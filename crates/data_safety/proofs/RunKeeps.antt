@@ -5,14 +5,14 @@ use Rattle.machine_moves.specs.Plain.{IsPlain}
 use Rattle.data_safety.specs.RunState.{RunState, Witness}
 use Rattle.data_safety.specs.RunMoves.{RunMove, RunMoves, plain, stutters, begins, reads, refuses, commits_tx, passes_own_tx, passes_kept_tx, ended, onward}
 use Rattle.data_safety.specs.DataInvariant.{DataInvariant}
-use Rattle.data_safety.proofs.Commit.{keeps_commit}
-use Rattle.data_safety.proofs.OwnershipPlain.{HasDataInvariant, IsOwnershipMove, ownership-invariant}
-use Rattle.data_safety.proofs.PassKept.{keeps_pass_kept}
-use Rattle.data_safety.proofs.PassOwn.{keeps_pass_own}
-use Rattle.data_safety.proofs.Raise.{keeps_raise}
-use Rattle.data_safety.proofs.ReadMoves.{reads-invariant}
-use Rattle.data_safety.proofs.BookOnlyMoves.{stutters-invariant, begins-invariant, refuses-invariant}
-use Rattle.data_safety.proofs.Store.{keeps_store}
+use Rattle.data_safety.proofs.commits.Commit.{keeps_commit}
+use Rattle.data_safety.proofs.ownership.OwnershipPlain.{HasDataInvariant, IsOwnershipMove, ownership-invariant}
+use Rattle.data_safety.proofs.passes.PassKept.{keeps_pass_kept}
+use Rattle.data_safety.proofs.passes.PassOwn.{keeps_pass_own}
+use Rattle.data_safety.proofs.stores.Raise.{keeps_raise}
+use Rattle.data_safety.proofs.commits.ReadMoves.{reads-invariant}
+use Rattle.data_safety.proofs.history.BookOnlyMoves.{stutters-invariant, begins-invariant, refuses-invariant}
+use Rattle.data_safety.proofs.stores.Store.{keeps_store}
 
 -- a move that writes nothing into the book
 plain-keeps : (y z : RunState) (u : Witness) → DataInvariant y u → (move : Move y.system z.system) → IsPlain y.system z.system move → z.txs ≡ y.txs → z.book ≡ y.book → HasDataInvariant z

@@ -27,8 +27,8 @@ use Rattle.machine_moves.proofs.Reach.{Became-changed, Changes-became, changed, 
 use Rattle.machine_moves.proofs.Steady.{IsSteady, move_keep}
 use Rattle.machine_moves.proofs.Steps.{IsStep, IsUsual, step_is_moves, viewed}
 use Rattle.data_safety.specs.RunState.{run_state}
-use Rattle.data_safety.proofs.StepRuns.{moves_txs}
-use Rattle.data_safety.proofs.StepMoves.{step_is_run_moves}
+use Rattle.data_safety.proofs.steps.StepRuns.{moves_txs}
+use Rattle.data_safety.proofs.steps.StepMoves.{step_is_run_moves}
 use Rattle.soundness.proofs.Runs.{IsReached, step-reached}
 use Rattle.live_model.specs.Cell.{CellEvent, Deed, Began, Tried, Took, Ticked, Halted, Saw, step_of}
 use Rattle.live_model.specs.Merge.{Turn, cell_turn, service_turn, entry_of, turn_step}

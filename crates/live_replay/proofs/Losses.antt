@@ -22,9 +22,9 @@ use Rattle.invariants.proofs.Start.{nth-none}
 use Rattle.data_safety.specs.RunState.{RunState, Witness, run_state}
 use Rattle.data_safety.specs.RunMoves.{RunMove, RunMoves, plain, stutters, begins, reads, refuses, commits_tx, passes_own_tx, passes_kept_tx, ended, onward}
 use Rattle.data_safety.specs.DataInvariant.{DataInvariant}
-use Rattle.data_safety.proofs.OwnershipPlain.{HasDataInvariant}
-use Rattle.data_safety.proofs.StepRuns.{moves_txs, start-txs}
-use Rattle.data_safety.proofs.StepMoves.{step_is_run_moves}
+use Rattle.data_safety.proofs.ownership.OwnershipPlain.{HasDataInvariant}
+use Rattle.data_safety.proofs.steps.StepRuns.{moves_txs, start-txs}
+use Rattle.data_safety.proofs.steps.StepMoves.{step_is_run_moves}
 use Rattle.data_safety.proofs.RunKeeps.{move-invariant}
 use Rattle.soundness.proofs.Runs.{IsReached, start-reached, step-reached}
 use Rattle.live_replay.proofs.Books.{tx_from-found, is_entry-node}

@@ -16,7 +16,7 @@ use Rattle.zeus_model.specs.World.{node, no_tx, run, start, start_node}
 use Rattle.zeus_model.specs.InLaws.{In-append_left, In-append_right}
 use Rattle.invariants.proofs.Start.{nth-none}
 use Rattle.machine_moves.proofs.Start.{start-config}
-use Rattle.data_safety.proofs.StepRuns.{start-txs}
+use Rattle.data_safety.proofs.steps.StepRuns.{start-txs}
 use Rattle.soundness.proofs.Runs.{start-reached}
 use Rattle.machine_moves.proofs.Lists.{In-nothing}
 use Rattle.live_model.specs.Items.{Note, Acked, Refused, Stopped, travels}

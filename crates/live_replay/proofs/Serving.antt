@@ -21,7 +21,7 @@ use Rattle.zeus_model.specs.World.{World, Event, no_node, node, link, start_node
 use Rattle.machine_moves.specs.Fits.{StepFits}
 use Rattle.machine_moves.proofs.Lists.{nth-map_numbers, nth-replicate, has-numbers_bound}
 use Rattle.machine_moves.proofs.Start.{start-config}
-use Rattle.data_safety.proofs.StepRuns.{start-txs}
+use Rattle.data_safety.proofs.steps.StepRuns.{start-txs}
 use Rattle.soundness.proofs.Runs.{IsReached, start-reached, step-reached}
 use Rattle.live_model.specs.Cell.{CellEvent, core_from, core, posts, posts_from}
 use Rattle.live_model.specs.Service.{ServiceEvent, made, viewed, views_from, views_made, start_views}

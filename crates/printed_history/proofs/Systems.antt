@@ -23,7 +23,7 @@ use Rattle.machine_moves.specs.Move.{Move, IsTellable, IsAboutProposal, own_kept
 use Rattle.machine_moves.specs.Plain.{IsPlain}
 use Rattle.data_safety.specs.RunState.{RunState}
 use Rattle.data_safety.specs.RunMoves.{RunMove, RunMoves, plain, stutters, begins, reads, refuses, commits_tx, passes_own_tx, passes_kept_tx, ended, onward}
-use Rattle.data_safety.proofs.StepRuns.{move_txs}
+use Rattle.data_safety.proofs.steps.StepRuns.{move_txs}
 use Rattle.printed_history.proofs.Nodes.{OneLineWrites, OneLineContent, OneLineGather, OneLineCurrent, OneLineKept, OneLinePending, OneLineNode, with_copies-one_line, with_gather-one_line, with_slot-one_line, with_log-one_line, each_write-one_line, rewritten_copy-one_line, pass_own-one_line, pass_kept-one_line, raise-one_line, store-one_line, nth-one_line, put-one_line, no_pending-one_line, no_kept-one_line, settle-one_line, bring-one_line, noted-one_line, own_content-one_line, dropped-one_line, value_of-one_line, new_writes-one_line}
 use Rattle.printed_history.proofs.Values.{OneLineOp, run-one_line}
 

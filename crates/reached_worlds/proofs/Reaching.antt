@@ -13,9 +13,9 @@ use Rattle.machine_moves.proofs.Runs.{usual_after}
 use Rattle.machine_moves.proofs.Start.{start-config}
 use Rattle.machine_moves.proofs.Steps.{IsStep, step_is_moves}
 use Rattle.data_safety.specs.RunState.{run_state}
-use Rattle.data_safety.proofs.OwnershipPlain.{HasDataInvariant}
-use Rattle.data_safety.proofs.StepRuns.{moves_txs, start-txs}
-use Rattle.data_safety.proofs.StepMoves.{step_is_run_moves}
+use Rattle.data_safety.proofs.ownership.OwnershipPlain.{HasDataInvariant}
+use Rattle.data_safety.proofs.steps.StepRuns.{moves_txs, start-txs}
+use Rattle.data_safety.proofs.steps.StepMoves.{step_is_run_moves}
 use Rattle.data_safety.proofs.RunKeeps.{moves-invariant}
 use Rattle.soundness.proofs.Fitting.{fits-step}
 use Rattle.soundness.proofs.Limits.{step-counts}

@@ -25,11 +25,11 @@ use Rattle.script_lang.specs.Reads.{◌>>=◌, word_at}
 use Rattle.script_lang.specs.Reading.{config_of}
 use Rattle.script_lang.proofs.DraftFits.{HeadFits, AreObjects, BodyFits, Fits, declared_lines, lines_at, Adds}
 use Rattle.script_lang.proofs.DraftSound.{word_at-sound, version_taken-sound, nodes_taken-sound, slots_taken-sound, directory_taken-sound}
-use Rattle.script_lang.proofs.FindLaws.{bytes_eq-true, find-nowhere}
-use Rattle.script_lang.proofs.NumberLaws.{range_at-sound}
-use Rattle.script_lang.proofs.ObjectLaws.{IsObject, object_rest, object_at-sound}
-use Rattle.script_lang.proofs.StepLaws.{step_text, IsStepLine, ended-sound, step_word_of-sound, step_at-sound}
-use Rattle.script_lang.proofs.TxLaws.{tx_rest, IsTxLine, tx_at-sound}
+use Rattle.script_lang.proofs.laws.FindLaws.{bytes_eq-true, find-nowhere}
+use Rattle.script_lang.proofs.laws.NumberLaws.{range_at-sound}
+use Rattle.script_lang.proofs.laws.ObjectLaws.{IsObject, object_rest, object_at-sound}
+use Rattle.script_lang.proofs.laws.StepLaws.{step_text, IsStepLine, ended-sound, step_word_of-sound, step_at-sound}
+use Rattle.script_lang.proofs.laws.TxLaws.{tx_rest, IsTxLine, tx_at-sound}
 use Rattle.script_lang.proofs.Sound.{IfRead, read_bind, read_ok, read_err, read_cond, read_or, read_weaken}
 
 -- ---- lists with one more at the end

@@ -19,11 +19,11 @@ use Rattle.script_lang.specs.NodeLists.{nodes_after}
 use Rattle.script_lang.specs.Reads.{word_at, keyword_at, ended}
 use Rattle.script_lang.proofs.BodySound.{Goes, line_taken-sound}
 use Rattle.script_lang.proofs.DraftFits.{HeadFits, BodyFits, Fits, lines_at, Adds}
-use Rattle.script_lang.proofs.NodeLaws.{nodes_after-nodes, HasRoom}
-use Rattle.script_lang.proofs.NumberLaws.{range_at-decimal}
-use Rattle.script_lang.proofs.ObjectLaws.{object_rest, object_at-object}
+use Rattle.script_lang.proofs.laws.NodeLaws.{nodes_after-nodes, HasRoom}
+use Rattle.script_lang.proofs.laws.NumberLaws.{range_at-decimal}
+use Rattle.script_lang.proofs.laws.ObjectLaws.{object_rest, object_at-object}
 use Rattle.script_lang.proofs.Sound.{read_is}
-use Rattle.script_lang.proofs.StepLaws.{no_owner, none_below}
+use Rattle.script_lang.proofs.laws.StepLaws.{no_owner, none_below}
 
 -- lines that make a whole script of what was read so far
 pub record Completes (live : Bool) (stage : Stage) (s : State) : Type 0 where

@@ -9,10 +9,10 @@ use Rattle.script_lang.specs.declared.stage.Stage.TheVariants as stages
 use Rattle.script_lang.specs.Drafts.{State, version_of, version_taken, nodes_taken, slots_taken, some_nodes, directory_taken}
 use Rattle.script_lang.specs.Reads.{word_at, keyword_at}
 use Rattle.script_lang.proofs.DraftFits.{HeadFits, IsBare, BodyFits, Fits, lines_at, Adds}
-use Rattle.script_lang.proofs.FindLaws.{bytes_eq-true}
-use Rattle.script_lang.proofs.NodeLaws.{IsListed, nodes_after-sound}
-use Rattle.script_lang.proofs.NumberLaws.{range_at-sound}
-use Rattle.script_lang.proofs.StepLaws.{ended-sound, none_below}
+use Rattle.script_lang.proofs.laws.FindLaws.{bytes_eq-true}
+use Rattle.script_lang.proofs.laws.NodeLaws.{IsListed, nodes_after-sound}
+use Rattle.script_lang.proofs.laws.NumberLaws.{range_at-sound}
+use Rattle.script_lang.proofs.laws.StepLaws.{ended-sound, none_below}
 use Rattle.script_lang.proofs.Sound.{IfRead, read_bind, read_ok, read_err, read_cond}
 
 -- if a keyword is read, then the words are the keyword and the words left

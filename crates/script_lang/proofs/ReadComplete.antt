@@ -31,14 +31,14 @@ use Rattle.script_lang.specs.NodeLists.{nodes_after}
 use Rattle.script_lang.specs.Live.{FitsLive}
 use Rattle.script_lang.specs.Reads.{word_at, keyword_at, ended}
 use Rattle.script_lang.specs.Reading.{start, is_last, line_done, lines_taken, script_of, scripted, script_read, ReadsScript}
-use Rattle.script_lang.proofs.FindLaws.{find-none}
-use Rattle.script_lang.proofs.NodeLaws.{nodes_after-nodes, HasRoom}
-use Rattle.script_lang.proofs.NumberLaws.{range_at-decimal}
-use Rattle.script_lang.proofs.ObjectLaws.{object_rest, object_at-object}
-use Rattle.script_lang.proofs.OpsLaws.{AreNames}
-use Rattle.script_lang.proofs.StepLaws.{step_text, word_of_step, step_rest, step_words-parts, step_word_of-text, step_at-words, no_owner, none_below}
+use Rattle.script_lang.proofs.laws.FindLaws.{find-none}
+use Rattle.script_lang.proofs.laws.NodeLaws.{nodes_after-nodes, HasRoom}
+use Rattle.script_lang.proofs.laws.NumberLaws.{range_at-decimal}
+use Rattle.script_lang.proofs.laws.ObjectLaws.{object_rest, object_at-object}
+use Rattle.script_lang.proofs.laws.OpsLaws.{AreNames}
+use Rattle.script_lang.proofs.laws.StepLaws.{step_text, word_of_step, step_rest, step_words-parts, step_word_of-text, step_at-words, no_owner, none_below}
 use Rattle.script_lang.proofs.TextComplete.{IsLine, cut-words_text, cut-lines_text, tx_line, object_line, step_line, run_line, end_line, zeus_line, nodes_line, slots_line, degree_line, directory_line}
-use Rattle.script_lang.proofs.TxLaws.{tx_at-words}
+use Rattle.script_lang.proofs.laws.TxLaws.{tx_at-words}
 
 -- the parts of lines that are each ended
 abbrev parts_of : List (List (List ℕ)) → List (List ℕ)

@@ -20,7 +20,7 @@ use Rattle.script_lang.specs.Reading.{start, fault_at, is_last, line_done, lines
 use Rattle.script_lang.proofs.BodySound.{Goes, line_taken-sound}
 use Rattle.script_lang.proofs.DraftFits.{HeadFits, BodyFits, Fits, lines_at, Adds}
 use Rattle.script_lang.proofs.Sound.{read_is}
-use Rattle.script_lang.proofs.TextLaws.{words_text-cut, lines_of_parts}
+use Rattle.script_lang.proofs.laws.TextLaws.{words_text-cut, lines_of_parts}
 
 -- the lines from a state on that lead to a whole script
 pub record Reached (live : Bool) (s : State) (parts : List (List ℕ)) (t : State) : Type 0 where

@@ -26,7 +26,7 @@ use Rattle.zeus_model.specs.Scripts.{FitsValue, FitsVersion, FitsOp, FitsTx, Fit
 use Rattle.zeus_model.specs.Spelling.{spaced, words_text, lines_text, value_text, name_of, op_words, more_op_words, tx_op_words, after_words, tx_words, object_words, step_words}
 use Rattle.script_lang.specs.Cut.{cut}
 use Rattle.script_lang.proofs.Cutting.{Lacks, Lacks-append, cut_free, cut_front}
-use Rattle.script_lang.proofs.NumberLaws.{own}
+use Rattle.script_lang.proofs.laws.NumberLaws.{own}
 
 -- ---- words of printed bytes
 

@@ -16,9 +16,9 @@ use Rattle.machine_moves.proofs.Steps.{IsStep, IsUsual, step_is_moves}
 use Rattle.data_safety.specs.RunState.{Witness, run_state}
 use Rattle.data_safety.specs.DataInvariant.{DataInvariant}
 use Rattle.data_safety.proofs.Beginning.{untold, start-invariant}
-use Rattle.data_safety.proofs.OwnershipPlain.{HasDataInvariant}
-use Rattle.data_safety.proofs.StepRuns.{moves_txs, start-txs}
-use Rattle.data_safety.proofs.StepMoves.{step_is_run_moves}
+use Rattle.data_safety.proofs.ownership.OwnershipPlain.{HasDataInvariant}
+use Rattle.data_safety.proofs.steps.StepRuns.{moves_txs, start-txs}
+use Rattle.data_safety.proofs.steps.StepMoves.{step_is_run_moves}
 use Rattle.data_safety.proofs.RunKeeps.{moves-invariant}
 use Rattle.soundness.proofs.DataSound.{invariant-sound}
 use Rattle.soundness.proofs.Fitting.{fits-steps}

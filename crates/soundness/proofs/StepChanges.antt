@@ -27,7 +27,7 @@ use Rattle.zeus_model.specs.World.{World, Event, node, tx_decl, link, refuse_ste
 use Rattle.machine_moves.proofs.Causes.{or_else-none, where_true-none}
 use Rattle.data_safety.specs.RunState.{Witness, run_state}
 use Rattle.data_safety.specs.DataInvariant.{DataInvariant}
-use Rattle.data_safety.proofs.StepFrames.{IsObstacle, write_cause-obstructs}
+use Rattle.data_safety.proofs.steps.StepFrames.{IsObstacle, write_cause-obstructs}
 use Rattle.soundness.specs.Telling.{how_often, ids_of}
 use Rattle.soundness.proofs.BookChanges.{Said, nothing_said, how_often-append, IsRewritten, IsRewritten-same, IsChange, IsChange-then}
 use Rattle.soundness.proofs.BookPasses.{HasReplies, HasReplies-after, SaysReplies, book_passes-change, how_often-none}

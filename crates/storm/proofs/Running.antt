@@ -8,7 +8,7 @@ use Rattle.zeus_model.specs.World.{World, run, start}
 use Rattle.rand_pcg.specs.Lcg.{Lcg}
 use Rattle.random_schedule.specs.Schedule.{schedule}
 use Rattle.random_schedule.specs.Words.{words_from}
-use Rattle.data_safety.proofs.StepRuns.{start-txs}
+use Rattle.data_safety.proofs.steps.StepRuns.{start-txs}
 use Rattle.machine_moves.proofs.Start.{start-config}
 use Rattle.zeus_report.proofs.RunSteps.{run-config, run-txs}
 use Rattle.storm.specs.Numbers.{AreInRange}

@@ -7,12 +7,12 @@ use Rattle.zeus_model.specs.ReportWords.{state_text, tx_state_text}
 use Rattle.zeus_model.specs.Spelling.{words_text, value_text}
 use Rattle.script_lang.specs.Cut.{cut}
 use Rattle.script_lang.proofs.DraftSound.{keyword_at-sound, word_at-sound}
-use Rattle.script_lang.proofs.FindLaws.{bytes_eq-true}
-use Rattle.script_lang.proofs.NumberLaws.{number_at-sound, range_at-sound}
+use Rattle.script_lang.proofs.laws.FindLaws.{bytes_eq-true}
+use Rattle.script_lang.proofs.laws.NumberLaws.{number_at-sound, range_at-sound}
 use Rattle.script_lang.proofs.Sound.{IfRead, read_bind, read_ok, read_err, read_cond, read_weaken}
-use Rattle.script_lang.proofs.StepLaws.{ended-sound}
-use Rattle.script_lang.proofs.TextLaws.{words_text-cut}
-use Rattle.script_lang.proofs.ValueLaws.{value_at-sound}
+use Rattle.script_lang.proofs.laws.StepLaws.{ended-sound}
+use Rattle.script_lang.proofs.laws.TextLaws.{words_text-cut}
+use Rattle.script_lang.proofs.laws.ValueLaws.{value_at-sound}
 use Rattle.zeus_audit.specs.Events.{ack_text, stands_text, copy_text}
 use Rattle.zeus_audit.specs.Shapes.{ack_shape, tx_state_of, expected, state_shape, copy_state_of, copy_shape}
 

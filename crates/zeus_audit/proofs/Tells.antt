@@ -17,7 +17,7 @@ use Rattle.zeus_model.specs.Scripts.{FitsScript, FitsStep}
 use Rattle.zeus_model.specs.declared.script.Script.{Script}
 use Rattle.zeus_model.specs.declared.state.Copy.{Copy}
 use Rattle.script_lang.specs.Cut.{cut}
-use Rattle.script_lang.proofs.FindLaws.{bytes_eq-true}
+use Rattle.script_lang.proofs.laws.FindLaws.{bytes_eq-true}
 use Rattle.zeus_audit.specs.declared.stage.Further.TheVariants as further
 use Rattle.zeus_audit.specs.declared.stage.Mark.{Mark}
 use Rattle.zeus_audit.specs.declared.stage.Mark.TheVariants as marks

@@ -14,7 +14,7 @@ use Rattle.script_lang.specs.Cut.{cut}
 use Rattle.script_lang.specs.Following.{followed}
 use Rattle.script_lang.specs.Reading.{fault_at}
 use Rattle.script_lang.specs.Texts.{IsFirstFaultyLine, IsKindOfFaultyLine}
-use Rattle.script_lang.proofs.OneFault.{Sort, missing, line_end, extra, size, word, sort}
+use Rattle.script_lang.proofs.faults.OneFault.{Sort, missing, line_end, extra, size, word, sort}
 use Rattle.zeus_lease.specs.declared.script.LeaseScript.{LeaseScript}
 use Rattle.zeus_lease.specs.Faults.{HasOneFault, IsFaultOf, IsFaultyWord, IsScriptText, IsWordFault, SpellsScript}
 use Rattle.zeus_lease.specs.Places.{Said}

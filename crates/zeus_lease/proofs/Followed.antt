@@ -13,15 +13,15 @@ use Rattle.script_lang.specs.Following.{line_followed, followed}
 use Rattle.script_lang.specs.Reading.{fault_at, is_last, unended}
 use Rattle.script_lang.specs.Texts.{BeginsText, IsFirstFaultyLine, IsKindOfFaultyLine}
 use Rattle.script_lang.proofs.Cutting.{Lacks, cut_not_none}
-use Rattle.script_lang.proofs.FaultKinds.{cut-first_lines, same_behind, length-cut_ended}
-use Rattle.script_lang.proofs.FaultShared.{not_ended, same_line, is_none, is_last-shown}
-use Rattle.script_lang.proofs.FirstLines.{shown, shown-front, first_lines-shown, first_lines-fewer, parts_lack}
+use Rattle.script_lang.proofs.faults.FaultKinds.{cut-first_lines, same_behind, length-cut_ended}
+use Rattle.script_lang.proofs.faults.FaultShared.{not_ended, same_line, is_none, is_last-shown}
+use Rattle.script_lang.proofs.faults.FirstLines.{shown, shown-front, first_lines-shown, first_lines-fewer, parts_lack}
 use Rattle.zeus_lease.proofs.Language.{Lines, parts_of, Goes, Language}
 use Rattle.script_lang.proofs.ReadSound.{last_is}
 use Rattle.script_lang.proofs.Sound.{read_is}
 use Rattle.script_lang.proofs.TextComplete.{cut-lines_text}
-use Rattle.script_lang.proofs.TextLaws.{words_text-cut, joined-cut, ended_lines, lines_of_parts}
-use Rattle.script_lang.proofs.WordKinds.{BlamesWord}
+use Rattle.script_lang.proofs.laws.TextLaws.{words_text-cut, joined-cut, ended_lines, lines_of_parts}
+use Rattle.script_lang.proofs.faults.WordKinds.{BlamesWord}
 
 abbrev failed : {S : Type 0} → ScriptFault → Result S ScriptFault
 failed f = Err f

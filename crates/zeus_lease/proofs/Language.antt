@@ -7,7 +7,7 @@ use Rattle.zeus_model.specs.declared.fault.Kind.{Kind}
 use Rattle.script_lang.specs.Following.{followed}
 use Rattle.script_lang.proofs.Sound.{IfRead}
 use Rattle.script_lang.proofs.TextComplete.{IsLine}
-use Rattle.script_lang.proofs.WordKinds.{BlamesWord}
+use Rattle.script_lang.proofs.faults.WordKinds.{BlamesWord}
 
 -- lines of words
 abbrev pub Lines : Type 0

@@ -7,10 +7,10 @@ use Rattle.std.proofs.lemmas.Bool.Decides.{nat_tests}
 use Rattle.std.proofs.lemmas.List.Elements.{All-from_recursion}
 use Rattle.script_lang.specs.Reads.{ended}
 use Rattle.script_lang.proofs.DraftSound.{keyword_at-sound, word_at-sound}
-use Rattle.script_lang.proofs.FindLaws.{bytes_eq-true}
-use Rattle.script_lang.proofs.NodeLaws.{nodes_after-sound}
-use Rattle.script_lang.proofs.NumberLaws.{range_at-sound}
-use Rattle.script_lang.proofs.StepLaws.{ended-sound, none_below}
+use Rattle.script_lang.proofs.laws.FindLaws.{bytes_eq-true}
+use Rattle.script_lang.proofs.laws.NodeLaws.{nodes_after-sound}
+use Rattle.script_lang.proofs.laws.NumberLaws.{range_at-sound}
+use Rattle.script_lang.proofs.laws.StepLaws.{ended-sound, none_below}
 use Rattle.script_lang.proofs.Sound.{IfRead, read_bind, read_ok, read_err, read_cond, read_or, read_weaken}
 use Rattle.zeus_lease.specs.declared.draft.Stage.{Stage}
 use Rattle.zeus_lease.specs.declared.draft.Stage.TheVariants as stages

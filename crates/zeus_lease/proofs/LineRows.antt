@@ -10,11 +10,11 @@ use Rattle.zeus_model.specs.declared.fault.Kind.{Kind}
 use Rattle.zeus_model.specs.declared.fault.Kind.TheVariants as kinds
 use Rattle.script_lang.specs.Numbers.{range_at}
 use Rattle.script_lang.specs.Reads.{◌>>=◌, or_fault, keyword_at, ended}
-use Rattle.script_lang.proofs.FindLaws.{bytes_eq-true}
-use Rattle.script_lang.proofs.FirstWord.{Rows, next, first_fault, first_fault-same, Tells, tells_bind, tells_ok, tells_err, word_first, stops, passes}
-use Rattle.script_lang.proofs.LineRows.{Any, keyword_told}
-use Rattle.script_lang.proofs.NodeRows.{members_told}
-use Rattle.script_lang.proofs.RowLaws.{table, range_told, ended_told}
+use Rattle.script_lang.proofs.laws.FindLaws.{bytes_eq-true}
+use Rattle.script_lang.proofs.faults.FirstWord.{Rows, next, first_fault, first_fault-same, Tells, tells_bind, tells_ok, tells_err, word_first, stops, passes}
+use Rattle.script_lang.proofs.rows.LineRows.{Any, keyword_told}
+use Rattle.script_lang.proofs.rows.NodeRows.{members_told}
+use Rattle.script_lang.proofs.rows.RowLaws.{table, range_told, ended_told}
 use Rattle.zeus_lease.specs.declared.draft.Stage.{Stage}
 use Rattle.zeus_lease.specs.declared.draft.Stage.TheVariants as stages
 use Rattle.zeus_lease.specs.declared.keywords.StepWord.{StepWord}

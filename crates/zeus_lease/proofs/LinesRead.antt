@@ -9,11 +9,11 @@ use Rattle.zeus_model.specs.Spelling.{lines_text}
 use Rattle.script_lang.specs.Following.{line_followed, followed}
 use Rattle.script_lang.specs.Reading.{is_last}
 use Rattle.script_lang.specs.Reads.{word_at, keyword_at, ended}
-use Rattle.script_lang.proofs.NodeLaws.{nodes_after-nodes, HasRoom}
-use Rattle.script_lang.proofs.NumberLaws.{range_at-decimal}
-use Rattle.script_lang.proofs.StepLaws.{no_owner, none_below}
+use Rattle.script_lang.proofs.laws.NodeLaws.{nodes_after-nodes, HasRoom}
+use Rattle.script_lang.proofs.laws.NumberLaws.{range_at-decimal}
+use Rattle.script_lang.proofs.laws.StepLaws.{no_owner, none_below}
 use Rattle.script_lang.proofs.TextComplete.{IsLine, IsPrinted, cut-words_text, from_test, decimal_printed, nodes_printed}
-use Rattle.script_lang.proofs.WordKinds.{BlamesWord, then, ok, err, either, some, word_blames, keyword_blames, ended_blames, range_blames, nodes_blame}
+use Rattle.script_lang.proofs.faults.WordKinds.{BlamesWord, then, ok, err, either, some, word_blames, keyword_blames, ended_blames, range_blames, nodes_blame}
 use Rattle.zeus_model.specs.Faults.{IsOfWord}
 use Rattle.zeus_model.specs.declared.fault.Kind.TheVariants as kinds
 use Rattle.zeus_lease.specs.declared.draft.Stage.{Stage}

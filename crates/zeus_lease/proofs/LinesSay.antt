@@ -9,9 +9,9 @@ use Rattle.zeus_model.specs.declared.fault.Kind.{Kind}
 use Rattle.zeus_model.specs.declared.fault.ScriptFault.{ScriptFault}
 use Rattle.script_lang.specs.Cut.{cut}
 use Rattle.script_lang.specs.Following.{followed}
-use Rattle.script_lang.proofs.FirstWord.{Found, found, tells_fault}
-use Rattle.script_lang.proofs.LineRows.{Any}
-use Rattle.script_lang.proofs.RowLaws.{number_in-decimal}
+use Rattle.script_lang.proofs.faults.FirstWord.{Found, found, tells_fault}
+use Rattle.script_lang.proofs.rows.LineRows.{Any}
+use Rattle.script_lang.proofs.rows.RowLaws.{number_in-decimal}
 use Rattle.zeus_lease.specs.declared.draft.Stage.{Stage}
 use Rattle.zeus_lease.specs.declared.draft.Stage.TheVariants as stages
 use Rattle.zeus_lease.specs.declared.step.LeaseStep.{LeaseStep}

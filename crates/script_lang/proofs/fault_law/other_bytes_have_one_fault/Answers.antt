@@ -1,4 +1,4 @@
-use Rattle.script_lang.proofs.FaultLaw.{none_of_script, read_fault, other_bytes, read_faulty}
+use Rattle.script_lang.proofs.faults.FaultLaw.{none_of_script, read_fault, other_bytes, read_faulty}
 use Rattle.script_lang.proofs.fault_law.other_bytes_have_one_fault.Goals as goal
 
 pub returns-clause-faulty : goal.returns-clause-faulty

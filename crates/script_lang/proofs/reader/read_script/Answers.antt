@@ -1,4 +1,4 @@
-use Rattle.script_lang.proofs.FaultFirst.{returned}
+use Rattle.script_lang.proofs.faults.FaultFirst.{returned}
 use Rattle.script_lang.proofs.reader.read_script.Goals as goal
 
 pub returns-clause-first : goal.returns-clause-first

@@ -1,5 +1,5 @@
 use Rattle.std.proofs.Common.{◌≡◌, ◌+◌, ◌-◌, ◌*◌, ◌^◌, ◌≤◌, get_or, inl, inr, arith, sym, ◌∙◌, add-one}
-use Rattle.script_lang.proofs.Digits.{digits_end, digits_none, digits_next}
+use Rattle.script_lang.proofs.laws.Digits.{digits_end, digits_none, digits_next}
 use Rattle.script_lang.proofs.words.digits.Goals as goal
 use Rattle.script_lang.proofs.words.digits.Goals.{then-byte-lt48-via-then-byte-lt48, then-byte-lt48-via-else-byte-lt48+then-byte-gt57}
 

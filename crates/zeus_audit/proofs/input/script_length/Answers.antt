@@ -1,7 +1,7 @@
 use Rattle.std.proofs.Common.{◌≡◌, false, true, [], length, arith, ap}
 use Rattle.std.specs.Prelude.{codes}
 use Rattle.std.specs.Str.{bytes_eq}
-use Rattle.script_lang.proofs.TextLaws.{joined-cut}
+use Rattle.script_lang.proofs.laws.TextLaws.{joined-cut}
 use Rattle.zeus_audit.proofs.LineByLine.{script_last, script_ends, script_more, script_none, length-joined, joined_least}
 use Rattle.zeus_audit.proofs.input.script_length.Goals as goal
 

@@ -1,0 +1,10 @@
+pub mod Commit
+pub mod CommitBooked
+pub mod CommitCauses
+pub mod CommitFound
+pub mod CommitRewritten
+pub mod CommitSlots
+pub mod CommitStreams
+pub mod Names
+pub mod ReadMoves
+pub mod ReadRun

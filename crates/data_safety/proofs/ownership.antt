@@ -1,0 +1,9 @@
+pub mod NoProposalSent
+pub mod OwnershipDecides
+pub mod OwnershipFrame
+pub mod OwnershipKept
+pub mod OwnershipMoves
+pub mod OwnershipPlain
+pub mod OwnershipProposals
+pub mod OwnershipSettles
+pub mod StreamsUnchanged

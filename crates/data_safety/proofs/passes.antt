@@ -1,0 +1,12 @@
+pub mod OrderAdvance
+pub mod OrderFinish
+pub mod OrderSorted
+pub mod OrderTurns
+pub mod PassBooked
+pub mod PassCopies
+pub mod PassKept
+pub mod PassLeft
+pub mod PassLogs
+pub mod PassMoves
+pub mod PassOwn
+pub mod PassValidated

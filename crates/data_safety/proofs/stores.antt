@@ -1,0 +1,4 @@
+pub mod EntriesShrink
+pub mod Raise
+pub mod Store
+pub mod StoreApplied

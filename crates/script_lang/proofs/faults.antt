@@ -1,0 +1,12 @@
+pub mod FaultFirst
+pub mod FaultKinds
+pub mod FaultLaw
+pub mod FaultReached
+pub mod FaultShared
+pub mod FirstLines
+pub mod FirstWord
+pub mod LineOrder
+pub mod LinesSaid
+pub mod OneFault
+pub mod WordFaults
+pub mod WordKinds

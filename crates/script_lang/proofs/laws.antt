@@ -1,0 +1,11 @@
+pub mod Digits
+pub mod FindLaws
+pub mod NodeLaws
+pub mod NumberLaws
+pub mod ObjectLaws
+pub mod OpLaws
+pub mod OpsLaws
+pub mod StepLaws
+pub mod TextLaws
+pub mod TxLaws
+pub mod ValueLaws
