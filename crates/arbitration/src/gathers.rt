@@ -56,7 +56,7 @@ impl Gathers {
     pub fn new(alloc: Global, config: &Config) -> Result<Gathers, NoMemory>
         ensures { IfOk result (λ gathers. gathers ≡ map start_gather config.now.objects) }
     {
-        let gathers = collect_gathers(alloc, config.objects.as_slice()).map_err(|_| NoMemory)?;
+        let gathers = start_gathers(alloc, config.objects.as_slice()).map_err(|_| NoMemory)?;
         Ok(Gathers { gathers })
     }
 
@@ -127,7 +127,8 @@ impl Gathers {
     }
 }
 
-fn collect_gathers(alloc: Global, objects: &[ObjectDecl]) -> Result<Vec<Option<Gather>>, AllocError>
+// The gather of each object at the start of a run: none.
+fn start_gathers(alloc: Global, objects: &[ObjectDecl]) -> Result<Vec<Option<Gather>>, AllocError>
     ensures { IfOk result (λ v. v.items ≡ map start_gather objects.now) }
 {
     objects
@@ -144,6 +145,7 @@ fn start_gather(_object: &ObjectDecl) -> Option<Gather>
     None
 }
 
+// Notes an acknowledgement in the gather of its stamp, or in a new one in place of a lesser; a greater one stays as it is.
 fn take_ack(
     gather: &mut Option<Gather>,
     from: NodeId,

@@ -67,6 +67,7 @@ impl Row {
         Ok(())
     }
 
+    /// Posts a letter on the link to its receiver, for which there is room; the answer is its number on that link.
     fn push(&mut self, letter: &Letter) -> u32
         requires fits { fits letter.now (largest 2) ≡ true }
         requires to { letter.now.to < length self.old }

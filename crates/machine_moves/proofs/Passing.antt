@@ -180,7 +180,7 @@ advance_own_by-reached s n i k zero ready h = cut_none s n (s.node n) k (still_r
 advance_own_by-reached s n i k (suc c) ready h =
     quiet_then_tells s n k (pass_own (s.node n) i (suc c)) _ ready (own_passes c s n i ready h) (own_telling (s.node n) i (suc c))
 
--- an own stream advances
+-- if a node is ready, then moves reach the advance of an own stream
 pub advance_own-reached : (s : SystemState) (n i k : ℕ) → IsReady s n → Reached s n k (advance_own (s.node n) i)
 unfolding advance_own own_kept
 advance_own-reached s n i k ready =

@@ -29,12 +29,12 @@ told n m a s d before after becomes me epoch sent passed adds =
     let same = to_each-same n a.node d.tell (RVal s d.after) me epoch in
     record { becomes = becomes; adds = rw (sent, same, passed) (rw becomes at adds) }
 
--- if an advance of an own stream is told and noted, then the node has acted as the advance says
+-- if the node is as after an advance of an own stream, and its R-VALs and passes were added, then it has acted as the advance
 pub passes-own : (n m : Node) (s : ℕ) (d : Advance) (before after : Effect) → s < length n.slots → m ≡ (advance_own n s).node → (advance_own n s).sent ≡ to_each n d.tell (RVal (record { node = n.me; slot = s }) d.after) → (advance_own n s).passed ≡ passed_by (record { node = n.me; slot = s }) d → Adds (to_each m d.tell (RVal (record { node = n.me; slot = s }) d.after)) (passed_by (record { node = n.me; slot = s }) d) before after → IsActed (advance_own n s) m before after
 passes-own n m s d before after h becomes sent passed adds =
     told n m (advance_own n s) (record { node = n.me; slot = s }) d before after becomes (advance_own-me n s h) (advance_own-epoch n s h) sent passed adds
 
--- if an advance of the stored stream of another node is told and noted, then the node has acted as the advance says
+-- if the node is as after an advance of a stored stream, and its R-VALs and passes were added, then it has acted as the advance
 pub passes-kept : (n m : Node) (s : Stream) (d : Advance) (before after : Effect) → m ≡ (advance_kept n s).node → (advance_kept n s).sent ≡ to_each n d.tell (RVal s d.after) → (advance_kept n s).passed ≡ passed_by s d → Adds (to_each m d.tell (RVal s d.after)) (passed_by s d) before after → IsActed (advance_kept n s) m before after
 passes-kept n m s d before after becomes sent passed adds =
     told n m (advance_kept n s) s d before after becomes (advance_kept-me n s) (advance_kept-epoch n s) sent passed adds

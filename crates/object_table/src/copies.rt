@@ -180,6 +180,7 @@ fn start_copies(
     collect_copies(alloc, me, objects).map_err(|_| NoMemory)
 }
 
+// The copy of each object that the node has at the start of a run, if it has one.
 fn collect_copies(
     alloc: Global,
     me: NodeId,

@@ -42,7 +42,7 @@ impl Dir {
     pub fn new(alloc: Global, config: &Config) -> Result<Dir, NoMemory>
         ensures { IfOk result (λ dir. dir ≡ record { nodes = config.now.directory; degree = config.now.degree; entries = map start_entry config.now.objects }) }
     {
-        let entries = collect_entries(alloc, config.objects.as_slice()).map_err(|_| NoMemory)?;
+        let entries = start_entries(alloc, config.objects.as_slice()).map_err(|_| NoMemory)?;
         Ok(Dir {
             nodes: config.directory,
             degree: config.degree,
@@ -123,7 +123,8 @@ impl Dir {
     }
 }
 
-fn collect_entries(alloc: Global, objects: &[ObjectDecl]) -> Result<Vec<Entry>, AllocError>
+// The entry of each object at the start of a run.
+fn start_entries(alloc: Global, objects: &[ObjectDecl]) -> Result<Vec<Entry>, AllocError>
     ensures { IfOk result (λ v. v.items ≡ map start_entry objects.now) }
 {
     objects

@@ -14,6 +14,7 @@ pub enum ReadScript {
     NoMemory,
 }
 
+/// A failed allocation is no fault of the script.
 impl From<AllocError> for ReadScript {
     ghost use Rattle.script_lang.specs.declared.reading.ReadScript.TheVariants as errors;
 

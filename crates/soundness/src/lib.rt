@@ -147,7 +147,7 @@ pub fn every_run_tells_its_history()
 /// - `OwnStream`: the stream is the receiver's own.
 /// - `Window`: the receiver has 16 entries of the stream stored.
 /// - `NotArbiter`, `NotCollector`: the receiver is no arbiter of the proposal, or does not collect its acknowledgements.
-/// - `OwnPlace`: the placement would make the receiver the owner, and it has not asked.
+/// - `OwnPlace`: a base or a decided placement would make the receiver the owner, or a proposal that another node asked for.
 pub fn never_refused_so()
     ensures { (c : Config) (txs : List TxDecl) (steps : List Step) (s : Step) → KeepsLimits c → All (FitsStep c (length txs)) steps
         → let answer = (happens (run (start c txs) steps) s).answer in

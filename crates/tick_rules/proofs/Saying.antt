@@ -101,7 +101,7 @@ unfolding letters_of streams_of
 letters-streams_of f m [] = refl
 letters-streams_of f m (s ∷ ss) = ap (λ l. f record { node = m; slot = s } ++ l) (letters-streams_of f m ss)
 
--- those of the nodes that are no members go by these
+-- the letters of a node's streams in these slots if it is no member, else none
 abbrev pub of_stranger : (Stream → List Letter) → List ℕ → List ℕ → ℕ → List Letter
 of_stranger f members slots m = if has m members then [] else letters_of f (streams_of m slots)
 
@@ -116,10 +116,10 @@ letters-outside f members slots (m ∷ ms) =
       | false ↦ letters_of-append f (streams_of m slots) rest ∙ ap (λ l. letters_of f (streams_of m slots) ++ l) (letters-outside f members slots ms)
     ]
 
--- a member is no stranger
+-- if a node is a member, then there are none
 pub of_stranger-member : (f : Stream → List Letter) (members slots : List ℕ) (m : ℕ) → has m members ≡ true → of_stranger f members slots m ≡ []
 of_stranger-member f members slots m member = rw member refl
 
--- another node is one
+-- if a node is no member, then the letters are those of its streams in these slots
 pub of_stranger-other : (f : Stream → List Letter) (members slots : List ℕ) (m : ℕ) → has m members ≡ false → of_stranger f members slots m ≡ letters_of f (streams_of m slots)
 of_stranger-other f members slots m other = rw other refl

@@ -25,7 +25,8 @@ pub fn refused_steps()
     ensures printed { report refused_steps_script ≡ refused_steps_report }
 {}
 
-/// In version 2 values are texts too: additions fail at them, and `same` compares.
+/// In version 2 values are texts too: `same` compares them; an add to one fails, so the transaction is committed without
+/// writes.
 pub fn texts_as_values()
     ensures script { spelling texts_as_values_script ≡ texts_as_values_text }
     ensures printed { report texts_as_values_script ≡ texts_as_values_report }

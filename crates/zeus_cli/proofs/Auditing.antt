@@ -41,7 +41,7 @@ input_found bytes h =
     let read = script_read-complete false (script_part bytes) h.script h.spelled (fits_no_live h.script) in
     rw (few, read) refl
 
--- bytes of which an audit tells a fault are no input
+-- if an audit of bytes tells a fault, then they are no input, and the fault is the specified one
 pub audit_faulty : (e : ReadScript) (f : ScriptFault) (bytes : List ℕ) → e ≡ Fault f → AuditsInput (Err e) (input_audited bytes) → IsNoAuditInput bytes × (input_audited bytes ≡ Err f)
 audit_faulty (Fault g) f bytes is found = (λ h. cc (found, input_found bytes h), cc (is, found))
 audit_faulty NoMemory f bytes is found = absurd (cc is)

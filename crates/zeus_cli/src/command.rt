@@ -37,7 +37,7 @@ fn take_number(words: &[String], lowest: u64, most: u64) -> Option<(u64, &[Strin
     Some((number, rest))
 }
 
-/// The numbers of a storm, if the words are such.
+/// The eight numbers of a storm, if the words are these and no more, and each is in its range.
 fn take_numbers(words: &[String]) -> Option<StormNumbers>
     ensures numbers { IfSome result (λ n. AreInRange n × (map string_bytes words.now ≡ storm_numbers n)) }
     ensures none { result ≡ None → (n : StormNumbersData) → AreInRange n → map string_bytes words.now ≢ storm_numbers n }

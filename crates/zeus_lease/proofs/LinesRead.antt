@@ -297,7 +297,7 @@ pub script_is : (s : LeaseScript) → script_of (state_of_script s) ≡ s
 unfolding script_of
 script_is s = refl
 
--- if a script fits, then its state is a whole one
+-- if a script fits, then the state with its numbers and steps is a whole one
 pub script_whole : (s : LeaseScript) → FitsScript s → Whole (state_of_script s)
 script_whole s fits = record { stage = refl; numbers = fits.numbers; steps = recursion_from_All (FitsStep s.nodes) s.steps fits.steps; few = fits.few_steps }
 

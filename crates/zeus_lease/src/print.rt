@@ -47,6 +47,7 @@ fn write_step(out: &mut Vec<u8>, step: &LeaseStep) -> Result<(), NoMemory>
     }
 }
 
+// The answer to a view.
 #[tactic(auto, unfolding(zeus_model::specs::ReportWords::made_text))]
 fn write_made(out: &mut Vec<u8>, made: Made) -> Result<(), NoMemory>
     ensures { OnOk result (out.new.items ≡ out.old.items ++ made_text made) }

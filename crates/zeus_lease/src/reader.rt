@@ -64,7 +64,7 @@ fn script_of(draft: Draft) -> LeaseScript
     }
 }
 
-/// Reads line by line.
+/// The script that the bytes are, or the fault of their first faulty line; too many bytes have a fault at line 0.
 #[tactic(auto, unfolding(crate::specs::Reading::script_read, crate::specs::Reading::scripted, crate::specs::Reading::start))]
 fn script_of_bytes(alloc: Global, bytes: &[u8]) -> Result<LeaseScript, ReadScript>
     ensures { ReadsScript result (script_read bytes.now) }

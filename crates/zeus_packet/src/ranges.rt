@@ -68,6 +68,7 @@ fn all_fit(limits: &Limits, writes: &[Write]) -> bool
     writes.iter().all(|write| write_fits(limits, write))
 }
 
+// Whether one of the writes is to the object.
 fn names_object(obj: ObjId, writes: &[Write]) -> bool
     ensures { result ≡ list_any (λ w. w.obj == obj) writes.now }
 {

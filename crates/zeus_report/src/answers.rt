@@ -95,6 +95,7 @@ fn stopped_text(answer: Stop) -> &'static [u8]
     }
 }
 
+// The answer to a view.
 #[tactic(auto, unfolding(zeus_model::specs::ReportWords::made_text))]
 fn write_made(out: &mut Vec<u8>, answer: &Made) -> Result<(), NoMemory>
     ensures { OnOk result (out.new.items ≡ out.old.items ++ made_text answer.now) }

@@ -40,6 +40,7 @@ fn write_answer_line(
     write_line_end(out)
 }
 
+// The line of a point: the transaction with its reply, or with a plain `ok` if there is none.
 #[tactic(auto, unfolding(zeus_model::specs::Book::reply_or, zeus_model::specs::ReportWords::outcome_text, zeus_model::specs::ReportWords::values_text))]
 fn write_point(out: &mut Vec<u8>, id: TxId, reply: Option<&Reply>) -> Result<(), NoMemory>
     ensures { OnOk result (out.new.items ≡ out.old.items ++ point_line id (reply_or (option_copied reply.entry))) }

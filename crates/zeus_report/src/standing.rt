@@ -130,6 +130,7 @@ fn write_holders(
     }
 }
 
+// The line of an object by its latest placement, then the lines of its live copies, or the line that it is lost.
 fn write_standing(
     out: &mut Vec<u8>,
     names: &[Name],

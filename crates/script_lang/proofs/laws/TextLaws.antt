@@ -63,7 +63,7 @@ pub ended_lines : (ls : List (List (List ℕ))) → map words_text ls ++ [] ∷ 
 ended_lines [] none = cc
 ended_lines (l ∷ ls) none = cc
 
--- lines that are each ended by byte 10
+-- if the texts of lines and an empty part are joined by byte 10, then they are the text of the lines
 pub joined-lines : (ls : List (List (List ℕ))) → joined 10 (map words_text ls ++ [] ∷ []) ≡ lines_text ls
 unfolding joined lines_text
 joined-lines [] = refl
