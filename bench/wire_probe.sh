@@ -244,6 +244,25 @@ fn encode_all(packets: &[Packet], out: &mut Vec<u8>) {
     }
 }
 
+fn fits_all(packets: &[Packet]) -> u64 {
+    let mut count: u64 = 0;
+    for packet in packets {
+        if fits(&packet.letter, &largest(2)) {
+            count = count.wrapping_add(1);
+        }
+    }
+    count
+}
+
+fn fits_rounds(alloc: Global, cases: &[u8], rounds: u64) -> u64 {
+    let packets = read_packets(alloc, cases);
+    let mut sum: u64 = 0;
+    for _ in 0..rounds {
+        sum = sum.wrapping_add(fits_all(&packets));
+    }
+    sum
+}
+
 fn decode_rounds(alloc: Global, cases: &[u8], rounds: u64) -> u64 {
     let mut sum: u64 = 0;
     for _ in 0..rounds {
@@ -284,6 +303,8 @@ fn main(rt: HostRuntime) -> ExitCode {
     } else {
         let sum = if task == "decode" {
             decode_rounds(alloc, &cases, rounds)
+        } else if task == "fits" {
+            fits_rounds(alloc, &cases, rounds)
         } else {
             encode_rounds(alloc, &cases, rounds)
         };
