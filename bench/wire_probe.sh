@@ -5,19 +5,17 @@ set -eu
 top=$(CDPATH='' cd "$(dirname "$0")/.." && pwd)
 folder=$1
 mkdir -p "$folder/crates/wire_probe/src" "$folder/crates/wire_probe/specs" "$folder/crates/wire_probe/proofs"
-for crate in zeus_base zeus_packet zeus_io zeus_wire; do
+crates='zeus_base zeus_txn zeus_packet zeus_model zeus_io zeus_wire'
+for crate in $crates; do
     mkdir -p "$folder/crates/$crate"
     for part in src specs proofs; do
         if [ -d "$top/crates/$crate/$part" ]; then cp -r "$top/crates/$crate/$part" "$folder/crates/$crate/"; fi
     done
 done
-cat >"$folder/crates.txt" <<'END'
-zeus_base: smallvec
-zeus_packet: zeus_base circular_buffer
-zeus_io:
-zeus_wire: zeus_base zeus_packet thiserror
-wire_probe: zeus_base zeus_packet zeus_io zeus_wire
-END
+for crate in $crates; do
+    grep "^$crate:" "$top/crates.txt"
+done >"$folder/crates.txt"
+echo 'wire_probe: zeus_base zeus_packet zeus_io zeus_wire' >>"$folder/crates.txt"
 : >"$folder/crates/wire_probe/specs/Lib.antt"
 : >"$folder/crates/wire_probe/proofs/Lib.antt"
 cat >"$folder/crates/wire_probe/src/main.rt" <<'END'
@@ -29,7 +27,7 @@ ghost use Rattle.zeus_wire.specs.Ranges.{AreLimits};
 use std::alloc::Global;
 use std::env;
 use std::process::ExitCode;
-use zeus_base::{Stamp, Stream, Value};
+use zeus_base::{Stamp, Stream, Value, push_copy};
 use zeus_io::{StdSink, StdSource, read_all, write_all};
 use zeus_packet::{Body, Cause, Limits, Packet, Place, Proposal, State, Want, fits};
 use zeus_wire::{WireFault, decode, encode_into, largest, longest};
@@ -216,6 +214,12 @@ fn decode_all(alloc: Global, cases: &[u8]) -> u64 {
     sum
 }
 
+fn keep(packets: &mut Vec<Packet>, packet: &Packet) {
+    if packets.reserve(1).is_ok() {
+        push_copy(packets, packet);
+    }
+}
+
 fn read_packets(alloc: Global, cases: &[u8]) -> Vec<Packet> {
     let mut packets = Vec::new(alloc);
     let mut left = cases;
@@ -225,7 +229,7 @@ fn read_packets(alloc: Global, cases: &[u8]) -> Vec<Packet> {
         };
         left = rest;
         if let Ok(packet) = decode(alloc, bytes, &limits(kind)) {
-            let _ = packets.push(packet);
+            keep(&mut packets, &packet);
         }
     }
     packets
@@ -238,6 +242,25 @@ fn encode_all(packets: &[Packet], out: &mut Vec<u8>) {
             encode_into(packet, 2, out);
         }
     }
+}
+
+fn fits_all(packets: &[Packet]) -> u64 {
+    let mut count: u64 = 0;
+    for packet in packets {
+        if fits(&packet.letter, &largest(2)) {
+            count = count.wrapping_add(1);
+        }
+    }
+    count
+}
+
+fn fits_rounds(alloc: Global, cases: &[u8], rounds: u64) -> u64 {
+    let packets = read_packets(alloc, cases);
+    let mut sum: u64 = 0;
+    for _ in 0..rounds {
+        sum = sum.wrapping_add(fits_all(&packets));
+    }
+    sum
 }
 
 fn decode_rounds(alloc: Global, cases: &[u8], rounds: u64) -> u64 {
@@ -280,6 +303,8 @@ fn main(rt: HostRuntime) -> ExitCode {
     } else {
         let sum = if task == "decode" {
             decode_rounds(alloc, &cases, rounds)
+        } else if task == "fits" {
+            fits_rounds(alloc, &cases, rounds)
         } else {
             encode_rounds(alloc, &cases, rounds)
         };

@@ -45,18 +45,41 @@ pub fn write_decimal(out: &mut Vec<u8>, n: u64) -> Result<(), NoMemory>
     append(out, digits.format(n).as_bytes())
 }
 
-/// Writes the byte, and then the digits of the number.
-///
-/// # Errors
-///
-/// Memory ran out.
-pub fn write_behind(out: &mut Vec<u8>, byte: u8, n: u64) -> Result<(), NoMemory>
+// The two bytes. Room for both is asked for once: this is most of what a report has of numbers.
+#[tactic(auto, using(std::proofs::Common::append_assoc))]
+fn append_pair(out: &mut Vec<u8>, first: u8, second: u8) -> Result<(), NoMemory>
+    ensures { OnOk result (out.new.items ≡ out.old.items ++ first ∷ second ∷ []) }
+{
+    out.reserve(2).map_err(|_| NoMemory)?;
+    out.push_reserved(first);
+    out.push_reserved(second);
+    Ok(())
+}
+
+// The byte, and then the digits of the number, of which there may be many.
+fn write_digits_behind(out: &mut Vec<u8>, byte: u8, n: u64) -> Result<(), NoMemory>
     ensures { OnOk result (out.new.items ≡ out.old.items ++ byte ∷ decimal n) }
 {
     let mut text = [0; MOST_DIGITS + 1];
     let digits = write_digits(n, &mut text, MOST_DIGITS + 1);
     text[digits - 1] = byte;
     append(out, &text[digits - 1..])
+}
+
+/// Writes the byte, and then the digits of the number.
+///
+/// # Errors
+///
+/// Memory ran out.
+#[tactic(auto, using(std::proofs::lemmas::Fmt::decimal_digit))]
+pub fn write_behind(out: &mut Vec<u8>, byte: u8, n: u64) -> Result<(), NoMemory>
+    ensures { OnOk result (out.new.items ≡ out.old.items ++ byte ∷ decimal n) }
+{
+    // Most numbers of a report have one digit.
+    if n < 10 {
+        return append_pair(out, byte, b'0' + n as u8);
+    }
+    write_digits_behind(out, byte, n)
 }
 
 /// Writes a space and the number.

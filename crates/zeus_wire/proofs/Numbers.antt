@@ -10,20 +10,10 @@ use Rattle.zeus_wire.specs.Reading.{Reader, and_then, checked, bytes_at, u8_at, 
 
 -- ---- the bytes of a number, told one by one
 
--- the two bytes of a number of 16 bits, in front of others
-pub two_bytes : (n : ℕ) (bs rest : List ℕ) → bs ≡ to_be_bytes w16 n → get_or bs 0 0 ∷ get_or bs 1 0 ∷ rest ≡ u16_bytes n ++ rest
-unfolding u16_bytes
-two_bytes n bs rest is = rw is refl
-
 -- the four bytes of a number of 32 bits, in front of others
 pub four_bytes : (n : ℕ) (bs rest : List ℕ) → bs ≡ to_be_bytes w32 n → get_or bs 0 0 ∷ get_or bs 1 0 ∷ get_or bs 2 0 ∷ get_or bs 3 0 ∷ rest ≡ u32_bytes n ++ rest
 unfolding u32_bytes
 four_bytes n bs rest is = rw is refl
-
--- the eight bytes of a number of 64 bits, in front of others
-pub eight_bytes : (n : ℕ) (bs rest : List ℕ) → bs ≡ to_be_bytes w64 n → get_or bs 0 0 ∷ get_or bs 1 0 ∷ get_or bs 2 0 ∷ get_or bs 3 0 ∷ get_or bs 4 0 ∷ get_or bs 5 0 ∷ get_or bs 6 0 ∷ get_or bs 7 0 ∷ rest ≡ u64_bytes n ++ rest
-unfolding u64_bytes
-eight_bytes n bs rest is = rw is refl
 
 -- the two bytes of a number of 16 bits, and nothing behind them
 pub two_alone : (n : ℕ) (bs : List ℕ) → bs ≡ to_be_bytes w16 n → get_or bs 0 0 ∷ get_or bs 1 0 ∷ [] ≡ u16_bytes n
@@ -34,11 +24,6 @@ two_alone n bs is = rw is refl
 pub four_alone : (n : ℕ) (bs : List ℕ) → bs ≡ to_be_bytes w32 n → get_or bs 0 0 ∷ get_or bs 1 0 ∷ get_or bs 2 0 ∷ get_or bs 3 0 ∷ [] ≡ u32_bytes n
 unfolding u32_bytes
 four_alone n bs is = rw is refl
-
--- the eight bytes of a number of 64 bits, and nothing behind them
-pub eight_alone : (n : ℕ) (bs : List ℕ) → bs ≡ to_be_bytes w64 n → get_or bs 0 0 ∷ get_or bs 1 0 ∷ get_or bs 2 0 ∷ get_or bs 3 0 ∷ get_or bs 4 0 ∷ get_or bs 5 0 ∷ get_or bs 6 0 ∷ get_or bs 7 0 ∷ [] ≡ u64_bytes n
-unfolding u64_bytes
-eight_alone n bs is = rw is refl
 
 -- ---- what was written is read again
 

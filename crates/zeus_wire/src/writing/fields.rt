@@ -2,7 +2,7 @@
 ghost use Rattle.std.specs.Prelude.{◌≡◌, ◌≤◌, ◌+◌, ◌++◌, ◌∷◌, [], length};
 ghost use Rattle.zeus_base.specs.Bits.{bits_of};
 ghost use Rattle.zeus_wire.specs.Ranges.{IsProposal, IsSet, IsStamp, room};
-ghost use Rattle.zeus_model.specs.PacketSpelling.{place_bytes, proposal_bytes, stamp_bytes, u16_bytes};
+ghost use Rattle.zeus_model.specs.PacketSpelling.{place_bytes, proposal_bytes, stamp_bytes, u16_bytes, u64_bytes};
 
 use zeus_packet::{NodeSet, ObjId, Place, Proposal, Stamp};
 
@@ -22,6 +22,16 @@ pub fn write_u8(out: &mut Vec<u8>, byte: u8)
     ensures room { room out.old ≤ room out.new + 1 }
 {
     out.push_reserved(byte);
+}
+
+/// Appends the number, the most significant byte first.
+#[tactic(auto, unfolding(zeus_model::specs::PacketSpelling::u64_bytes))]
+pub fn write_u64(out: &mut Vec<u8>, number: u64)
+    requires { 8 ≤ room out.old }
+    ensures bytes { out.new.items ≡ out.old.items ++ u64_bytes number }
+    ensures room { room out.old ≤ room out.new + 8 }
+{
+    write_bytes(out, &number.to_be_bytes());
 }
 
 /// Appends a tag and the object, its more significant byte first.
@@ -45,15 +55,15 @@ pub fn byte_of(nodes: NodeSet) -> u8
 }
 
 /// Appends the version of the stamp, the most significant byte first, and its driver.
-#[tactic(auto, using(crate::proofs::Numbers::eight_bytes), unfolding(zeus_model::specs::PacketSpelling::stamp_bytes))]
+#[tactic(auto, using(std::proofs::Common::append_assoc), unfolding(zeus_model::specs::PacketSpelling::stamp_bytes))]
 pub fn write_stamp(out: &mut Vec<u8>, stamp: &Stamp)
     requires { 9 ≤ room out.old }
     ensures bytes { out.new.items ≡ out.old.items ++ stamp_bytes stamp.now }
     ensures room { room out.old ≤ room out.new + 9 }
     ensures stamp { IsStamp stamp.now }
 {
-    let [a, b, c, d, e, f, g, h] = stamp.ver.to_be_bytes();
-    write_bytes(out, &[a, b, c, d, e, f, g, h, stamp.driver.0]);
+    write_u64(out, stamp.ver);
+    write_u8(out, stamp.driver.0);
 }
 
 /// Appends the owner and the byte of the replicas.

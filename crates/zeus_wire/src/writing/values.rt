@@ -5,22 +5,20 @@ ghost use Rattle.zeus_packet.specs.Fits.{content_fits, value_fits, write_fits};
 ghost use Rattle.zeus_wire.specs.Ranges.{AreWrites, IsContent, IsValue, IsWrite, largest, longest_value, longest_writes, room};
 ghost use Rattle.zeus_model.specs.PacketSpelling.{content_bytes, u16_bytes, u64_bytes, value_bytes, write_bytes as spelled, writes_bytes};
 
-use crate::writing::fields::{write_bytes, write_u8};
+use crate::writing::fields::{write_bytes, write_u8, write_u64};
 use zeus_base::Text;
 use zeus_packet::{Content, ObjId, Value, Write};
 
-#[tactic(auto, using(crate::proofs::Numbers::eight_alone), unfolding(zeus_model::specs::PacketSpelling::value_bytes, crate::specs::Ranges::longest_value))]
+#[tactic(auto, using(std::proofs::Common::append_assoc), unfolding(zeus_model::specs::PacketSpelling::value_bytes, crate::specs::Ranges::longest_value))]
 fn write_num(out: &mut Vec<u8>, version: u8, number: u64)
     requires { longest_value version ≤ room out.old }
     ensures bytes { out.new.items ≡ out.old.items ++ value_bytes version (Value.Num number) }
     ensures room { room out.old ≤ room out.new + longest_value version }
 {
-    let [a, b, c, d, e, f, g, h] = number.to_be_bytes();
     if version == 2 {
-        write_bytes(out, &[0, a, b, c, d, e, f, g, h]);
-    } else {
-        write_bytes(out, &[a, b, c, d, e, f, g, h]);
+        write_u8(out, 0);
     }
+    write_u64(out, number);
 }
 
 #[tactic(auto, using(std::proofs::Common::append_assoc), unfolding(zeus_model::specs::PacketSpelling::value_bytes, crate::specs::Ranges::IsValue))]
@@ -50,15 +48,14 @@ fn write_value(out: &mut Vec<u8>, version: u8, value: &Value)
 }
 
 /// Appends the object of a write, and its version.
-#[tactic(auto, using(crate::proofs::Numbers::two_bytes, crate::proofs::Numbers::eight_alone))]
+#[tactic(auto, using(std::proofs::Common::append_assoc), unfolding(zeus_model::specs::PacketSpelling::u16_bytes))]
 fn write_version(out: &mut Vec<u8>, obj: ObjId, ver: u64)
     requires { 10 ≤ room out.old }
     ensures bytes { out.new.items ≡ out.old.items ++ (u16_bytes obj ++ u64_bytes ver) }
     ensures room { room out.old ≤ room out.new + 10 }
 {
-    let [high, low] = obj.0.to_be_bytes();
-    let [a, b, c, d, e, f, g, h] = ver.to_be_bytes();
-    write_bytes(out, &[high, low, a, b, c, d, e, f, g, h]);
+    write_bytes(out, &obj.0.to_be_bytes());
+    write_u64(out, ver);
 }
 
 #[tactic(auto, using(std::proofs::Common::append_assoc), unfolding(zeus_model::specs::PacketSpelling::write_bytes, zeus_packet::specs::Fits::write_fits))]
@@ -87,7 +84,7 @@ pub fn write_writes(out: &mut Vec<u8>, version: u8, writes: &[Write])
 }
 
 /// Appends the byte 0 if there is no content; else the byte 1, its version and its value.
-#[tactic(auto, using(std::proofs::Common::append_assoc, crate::proofs::Numbers::eight_alone), unfolding(zeus_model::specs::PacketSpelling::content_bytes, crate::specs::Ranges::IsContent, zeus_packet::specs::Fits::content_fits))]
+#[tactic(auto, using(std::proofs::Common::append_assoc), unfolding(zeus_model::specs::PacketSpelling::content_bytes, crate::specs::Ranges::IsContent, zeus_packet::specs::Fits::content_fits))]
 pub fn write_content(out: &mut Vec<u8>, version: u8, content: &Option<Content>)
     requires fits { content_fits (largest version) content.now ≡ true }
     requires room { 9 + longest_value version ≤ room out.old }
@@ -98,8 +95,8 @@ pub fn write_content(out: &mut Vec<u8>, version: u8, content: &Option<Content>)
     match content {
         None => write_u8(out, 0),
         Some(content) => {
-            let [a, b, c, d, e, f, g, h] = content.ver.to_be_bytes();
-            write_bytes(out, &[1, a, b, c, d, e, f, g, h]);
+            write_u8(out, 1);
+            write_u64(out, content.ver);
             write_value(out, version, &content.value);
         }
     }

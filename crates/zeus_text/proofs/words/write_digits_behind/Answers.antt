@@ -2,7 +2,7 @@ use Rattle.std.proofs.Common.{◌≡◌, ◌-◌, ◌∷◌, length, decimal, ar
 use Rattle.std.proofs.lemmas.List.{take_all}
 use Rattle.std.proofs.lemmas.Fmt.{length-decimal-le}
 use Rattle.zeus_text.proofs.Behind.{behind}
-use Rattle.zeus_text.proofs.words.write_behind.Goals as goal
+use Rattle.zeus_text.proofs.words.write_digits_behind.Goals as goal
 
 pub write_digits-digits-requires : goal.write_digits-digits-requires
 write_digits-digits-requires c = search (rules, length-decimal-le 20)
