@@ -2,7 +2,7 @@
 ghost use Rattle.std.specs.Prelude.{◌≡◌, ◌≤◌, ◌+◌, ◌++◌, ◌∷◌, [], length};
 ghost use Rattle.zeus_base.specs.Bits.{bits_of};
 ghost use Rattle.zeus_wire.specs.Ranges.{IsProposal, IsSet, IsStamp, room};
-ghost use Rattle.zeus_model.specs.PacketSpelling.{place_bytes, proposal_bytes, stamp_bytes, u16_bytes};
+ghost use Rattle.zeus_model.specs.PacketSpelling.{place_bytes, proposal_bytes, stamp_bytes, u16_bytes, u64_bytes};
 
 use zeus_packet::{NodeSet, ObjId, Place, Proposal, Stamp};
 
@@ -44,15 +44,24 @@ pub fn byte_of(nodes: NodeSet) -> u8
     nodes.bits
 }
 
+/// The version of the stamp, its most significant byte first.
+#[tactic(auto, unfolding(zeus_model::specs::PacketSpelling::u64_bytes))]
+fn version_of(stamp: &Stamp) -> [u8; 8]
+    ensures bytes { result ≡ u64_bytes stamp.now.ver }
+    ensures stamp { IsStamp stamp.now }
+{
+    stamp.ver.to_be_bytes()
+}
+
 /// Appends the version of the stamp, the most significant byte first, and its driver.
-#[tactic(auto, using(crate::proofs::Numbers::eight_bytes), unfolding(zeus_model::specs::PacketSpelling::stamp_bytes))]
+#[tactic(auto, using(crate::proofs::Numbers::stamp_spelled))]
 pub fn write_stamp(out: &mut Vec<u8>, stamp: &Stamp)
     requires { 9 ≤ room out.old }
     ensures bytes { out.new.items ≡ out.old.items ++ stamp_bytes stamp.now }
     ensures room { room out.old ≤ room out.new + 9 }
     ensures stamp { IsStamp stamp.now }
 {
-    let [a, b, c, d, e, f, g, h] = stamp.ver.to_be_bytes();
+    let [a, b, c, d, e, f, g, h] = version_of(stamp);
     write_bytes(out, &[a, b, c, d, e, f, g, h, stamp.driver.0]);
 }
 
@@ -67,16 +76,23 @@ pub fn write_place(out: &mut Vec<u8>, place: &Place)
     write_bytes(out, &[place.owner.0, byte_of(place.replicas)]);
 }
 
-/// Appends the stamp, the requester, the stamp of the base and its placement.
-#[tactic(auto, using(std::proofs::Common::append_assoc), unfolding(zeus_model::specs::PacketSpelling::proposal_bytes))]
+/// Appends the stamp, the requester, the stamp of the base and its placement: all in one, because most letters have one.
+#[tactic(auto, using(crate::proofs::Numbers::proposal_spelled))]
 pub fn write_proposal(out: &mut Vec<u8>, p: &Proposal)
     requires { 21 ≤ room out.old }
     ensures bytes { out.new.items ≡ out.old.items ++ proposal_bytes p.now }
     ensures room { room out.old ≤ room out.new + 21 }
     ensures proposal { IsProposal p.now }
 {
-    write_stamp(out, &p.stamp);
-    write_u8(out, p.requester.0);
-    write_stamp(out, &p.base);
-    write_place(out, &p.base_place);
+    let [a, b, c, d, e, f, g, h] = version_of(&p.stamp);
+    let [i, j, k, l, m, n, o, q] = version_of(&p.base);
+    let (driver, requester, other) = (p.stamp.driver.0, p.requester.0, p.base.driver.0);
+    let (owner, replicas) = (p.base_place.owner.0, byte_of(p.base_place.replicas));
+    write_bytes(
+        out,
+        &[
+            a, b, c, d, e, f, g, h, driver, requester, i, j, k, l, m, n, o, q, other, owner,
+            replicas,
+        ],
+    );
 }
