@@ -1,13 +1,11 @@
 //! The letters of proposals: to whom they go, and what they say.
 ghost use Rattle.std.specs.Prelude.{◌≡◌, ◌≤◌, [], ◌∷◌, length};
-ghost use Rattle.zeus_model.specs.Act.{to_each};
-ghost use Rattle.zeus_packet.specs.declared.letter.Body.TheVariants.{OInv};
 ghost use Rattle.zeus_model.specs.Ownership.{acknowledgement, collector, invalidations};
 ghost use Rattle.node_state.specs.Done.{Adds};
 
 use crate::effect::Effect;
 use crate::state::NodeState;
-use zeus_base::{NodeId, NodeSet, ObjId};
+use zeus_base::{NodeId, ObjId};
 use zeus_packet::{Body, Proposal, arbiters};
 
 impl NodeState {
@@ -30,17 +28,7 @@ impl NodeState {
         ensures { Adds (invalidations self.now obj p.now) [] out.old out.new }
     {
         let receivers = arbiters(&p.base_place, self.members, self.dir.nodes()).without(self.me);
-        self.invalidate_each(receivers, obj, p, out);
-    }
-
-    // Asks each of the nodes to hold the proposal. Each letter is made where it is sent, because a copy costs more.
-    fn invalidate_each(&self, receivers: NodeSet, obj: ObjId, p: &Proposal, out: &mut Effect)
-        requires { length out.old.sent ≤ 64 }
-        ensures { Adds (to_each self.now receivers (OInv obj p.now)) [] out.old out.new }
-    {
-        for receiver in receivers {
-            self.send(receiver, Body::OInv(obj, *p), out);
-        }
+        self.send_each(receivers, &Body::OInv(obj, *p), out);
     }
 
     /// Tells the node that this node holds the proposal; where this node is the source of its base, with the content
