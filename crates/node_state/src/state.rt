@@ -151,6 +151,14 @@ impl NodeState {
         self.slot_count
     }
 
+    /// What the node knows of the placement of each object, by object: of at most 256.
+    pub fn entries(&self) -> &[Entry]
+        ensures entries { result.now ≡ self.now.entries }
+        ensures most { length self.now.entries ≤ 256 }
+    {
+        self.dir.entries()
+    }
+
     /// What the node knows of the object's placement.
     pub fn entry(&self, obj: ObjId) -> &Entry
         requires { obj < length self.now.entries }

@@ -71,6 +71,13 @@ impl Dir {
         self.entries.len()
     }
 
+    /// What the node knows of the placement of each object, by object.
+    pub fn entries(&self) -> &[Entry]
+        ensures { result.now ≡ self.now.entries }
+    {
+        self.entries.as_slice()
+    }
+
     /// What the node knows of the object's placement.
     pub fn entry(&self, obj: ObjId) -> &Entry
         requires { obj < length self.now.entries }

@@ -81,20 +81,18 @@ fn repeating(
     Ok(repeating)
 }
 
-/// The link's next fresh packet once the given one is used.
+/// If the packet is of the link, the one behind it is the link's next.
 #[tactic(auto, unfolding(crate::specs::Schedule::behind, crate::specs::Schedule::same_link))]
-fn behind(packet: &FreshPacket, link: &FreshPacket) -> FreshPacket
+fn move_behind(packet: &FreshPacket, link: &mut FreshPacket)
     requires { packet.now.number + 1 < 2 ^ 32 }
-    ensures { result ≡ behind packet.now link.now }
+    ensures { link.new ≡ behind packet.now link.old }
 {
     if link.from == packet.from && link.to == packet.to {
-        FreshPacket {
+        *link = FreshPacket {
             from: packet.from,
             to: packet.to,
             number: packet.number + 1,
-        }
-    } else {
-        *link
+        };
     }
 }
 
@@ -104,7 +102,7 @@ fn use_packet(packet: &FreshPacket, links: &mut [FreshPacket])
     ensures { links.new ≡ map (behind packet.now) links.old }
 {
     for link in links {
-        *link = behind(packet, link);
+        move_behind(packet, link);
     }
 }
 

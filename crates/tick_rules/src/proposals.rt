@@ -1,7 +1,6 @@
 //! Proposals that are driven again.
-ghost use Rattle.std.specs.Prelude.{◌≡◌, ◌<◌, ◌≤◌, [], length};
+ghost use Rattle.std.specs.Prelude.{◌≤◌, [], length};
 ghost use Rattle.zeus_model.specs.Membership.{own_acknowledgement, repeat_proposal, repeat_proposals};
-ghost use Rattle.zeus_model.specs.State.{entry};
 ghost use Rattle.node_state.specs.Done.{Adds};
 
 use node_state::{Effect, NodeState};
@@ -16,22 +15,22 @@ pub(crate) fn repeat_proposals(node: &NodeState, out: &mut Effect)
     if !node.is_open() {
         return;
     }
-    for obj in 0..node.object_count() {
-        repeat_proposal(node, ObjId(obj), out);
+    for (place, entry) in node.entries().iter().enumerate() {
+        repeat_proposal(node, ObjId(place as u16), &entry.proposal, out);
     }
 }
 
-/// Drives the proposal that the node holds for the object again, where its base has a source.
-fn repeat_proposal(node: &NodeState, obj: ObjId, out: &mut Effect)
-    requires { obj < length node.now.entries }
-    ensures { Adds (repeat_proposal node.now obj (entry node.now obj).proposal) [] out.old out.new }
+/// Drives the proposal that is held for the object again, if there is one and its base has a source.
+fn repeat_proposal(node: &NodeState, obj: ObjId, held: &Option<Proposal>, out: &mut Effect)
+    requires { length out.old.sent ≤ 64 }
+    ensures { Adds (repeat_proposal node.now obj held.now) [] out.old out.new }
 {
+    let Some(p) = held else {
+        return;
+    };
     if out.sent.is_full() {
         return;
     }
-    let Some(p) = &node.entry(obj).proposal else {
-        return;
-    };
     if source(&p.base_place, node.members()).is_some() {
         node.send_invalidations(obj, p, out);
         acknowledge_own(node, obj, p, out);

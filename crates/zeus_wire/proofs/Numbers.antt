@@ -5,7 +5,10 @@ use Rattle.std.specs.Int.{w16, w32, w64, to_be_bytes}
 use Rattle.std.proofs.lemmas.Bool.{le-ltb}
 use Rattle.std.proofs.lemmas.List.{take_at, drop_at, length-append}
 use Rattle.std.proofs.lemmas.Nat.{from_be_bytes-to_be_bytes_2, from_be_bytes-to_be_bytes_4, from_be_bytes-to_be_bytes_8}
-use Rattle.zeus_model.specs.PacketSpelling.{u16_bytes, u32_bytes, u64_bytes}
+use Rattle.zeus_base.specs.Bits.{bits_of}
+use Rattle.zeus_base.specs.declared.order.Stamp.{Stamp}
+use Rattle.zeus_packet.specs.declared.place.Proposal.{Proposal}
+use Rattle.zeus_model.specs.PacketSpelling.{u16_bytes, u32_bytes, u64_bytes, set_bytes, stamp_bytes, place_bytes, proposal_bytes}
 use Rattle.zeus_wire.specs.Reading.{Reader, and_then, checked, bytes_at, u8_at, u16_at, u32_at, u64_at}
 
 -- ---- the bytes of a number, told one by one
@@ -24,6 +27,16 @@ two_alone n bs is = rw is refl
 pub four_alone : (n : ℕ) (bs : List ℕ) → bs ≡ to_be_bytes w32 n → get_or bs 0 0 ∷ get_or bs 1 0 ∷ get_or bs 2 0 ∷ get_or bs 3 0 ∷ [] ≡ u32_bytes n
 unfolding u32_bytes
 four_alone n bs is = rw is refl
+
+-- the bytes of both versions of a proposal, and those of its nodes
+pub proposal_spelled : (p : Proposal) (vs bs : List ℕ) (byte : ℕ) → byte ≡ bits_of p.base_place.replicas → vs ≡ u64_bytes p.stamp.ver → bs ≡ u64_bytes p.base.ver → get_or vs 0 0 ∷ get_or vs 1 0 ∷ get_or vs 2 0 ∷ get_or vs 3 0 ∷ get_or vs 4 0 ∷ get_or vs 5 0 ∷ get_or vs 6 0 ∷ get_or vs 7 0 ∷ p.stamp.driver ∷ p.requester ∷ get_or bs 0 0 ∷ get_or bs 1 0 ∷ get_or bs 2 0 ∷ get_or bs 3 0 ∷ get_or bs 4 0 ∷ get_or bs 5 0 ∷ get_or bs 6 0 ∷ get_or bs 7 0 ∷ p.base.driver ∷ p.base_place.owner ∷ byte ∷ [] ≡ proposal_bytes p
+unfolding u64_bytes set_bytes stamp_bytes place_bytes proposal_bytes
+proposal_spelled p vs bs byte set stamp base = rw (set, stamp, base) refl
+
+-- the head of a packet: the version, a number, two nodes and an epoch
+pub head_spelled : (version number from to epoch : ℕ) (ns es : List ℕ) → ns ≡ to_be_bytes w32 number → es ≡ to_be_bytes w32 epoch → version ∷ get_or ns 0 0 ∷ get_or ns 1 0 ∷ get_or ns 2 0 ∷ get_or ns 3 0 ∷ from ∷ to ∷ get_or es 0 0 ∷ get_or es 1 0 ∷ get_or es 2 0 ∷ get_or es 3 0 ∷ [] ≡ version ∷ (u32_bytes number ++ from ∷ to ∷ u32_bytes epoch)
+unfolding u32_bytes
+head_spelled version number from to epoch ns es numbered timed = rw (numbered, timed) refl
 
 -- ---- what was written is read again
 

@@ -1,5 +1,5 @@
 //! Packets as bytes.
-ghost use Rattle.std.specs.Prelude.{◌≡◌, ◌≤◌, ◌+◌, ◌++◌, ◌∷◌, IfOk, OnOk, true};
+ghost use Rattle.std.specs.Prelude.{◌≡◌, ◌<◌, ◌≤◌, ◌+◌, ◌^◌, ◌++◌, ◌∷◌, IfOk, OnOk, true};
 ghost use Rattle.zeus_packet.specs.Fits.{fits};
 ghost use Rattle.zeus_wire.specs.Ranges.{IsPacket, largest, longest, room};
 ghost use Rattle.zeus_model.specs.PacketSpelling.{packet_bytes, u32_bytes};
@@ -12,7 +12,7 @@ use body::write_body;
 use fields::write_bytes;
 use std::alloc::Global;
 use zeus_base::NoMemory;
-use zeus_packet::{Letter, Limits, NodeId, Packet};
+use zeus_packet::{Letter, Limits, Packet};
 
 /// How many bytes the longest packet of a version of the format has.
 #[tactic(auto, unfolding(crate::specs::Ranges::longest))]
@@ -34,26 +34,18 @@ pub fn largest(version: u8) -> Limits
     }
 }
 
-/// Appends the version of the format, and the packet's number.
-#[tactic(auto, using(crate::proofs::Numbers::four_alone))]
-fn write_number(out: &mut Vec<u8>, version: u8, number: u32)
-    requires { 5 ≤ room out.old }
-    ensures bytes { out.new.items ≡ out.old.items ++ (version ∷ u32_bytes number) }
-    ensures room { room out.old ≤ room out.new + 5 }
+/// Appends the version of the format, the packet's number, the sender and the receiver of its letter, and the epoch.
+#[tactic(auto, using(std::proofs::Common::append_assoc, crate::proofs::Numbers::four_bytes, crate::proofs::Numbers::four_alone))]
+fn write_head(out: &mut Vec<u8>, version: u8, number: u32, letter: &Letter)
+    requires { 11 ≤ room out.old }
+    ensures bytes { out.new.items ≡ out.old.items ++ (version ∷ u32_bytes number ++ (letter.now.from ∷ letter.now.to ∷ u32_bytes letter.now.epoch)) }
+    ensures room { room out.old ≤ room out.new + 11 }
+    ensures epoch { letter.now.epoch < 2 ^ 32 }
 {
     let [a, b, c, d] = number.to_be_bytes();
-    write_bytes(out, &[version, a, b, c, d]);
-}
-
-/// Appends the sender and the receiver of a letter, and its epoch.
-#[tactic(auto, using(crate::proofs::Numbers::four_alone))]
-fn write_ends(out: &mut Vec<u8>, from: NodeId, to: NodeId, epoch: u32)
-    requires { 6 ≤ room out.old }
-    ensures bytes { out.new.items ≡ out.old.items ++ (from ∷ to ∷ u32_bytes epoch) }
-    ensures room { room out.old ≤ room out.new + 6 }
-{
-    let [a, b, c, d] = epoch.to_be_bytes();
-    write_bytes(out, &[from.0, to.0, a, b, c, d]);
+    let [e, f, g, h] = letter.epoch.to_be_bytes();
+    let (from, to) = (letter.from.0, letter.to.0);
+    write_bytes(out, &[version, a, b, c, d, from, to, e, f, g, h]);
 }
 
 /// Appends the spelling of the packet of this number and letter, for which there is room. Takes no memory.
@@ -65,8 +57,7 @@ pub fn encode_letter_into(number: u32, letter: &Letter, version: u8, out: &mut V
     ensures room { room out.old ≤ room out.new + longest version }
     ensures packet { IsPacket (record { number = number; letter = letter.now }) }
 {
-    write_number(out, version, number);
-    write_ends(out, letter.from, letter.to, letter.epoch);
+    write_head(out, version, number, letter);
     write_body(out, version, &letter.body);
 }
 

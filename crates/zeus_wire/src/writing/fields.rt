@@ -54,6 +54,15 @@ pub fn byte_of(nodes: NodeSet) -> u8
     nodes.bits
 }
 
+/// The version of the stamp, its most significant byte first.
+#[tactic(auto, unfolding(zeus_model::specs::PacketSpelling::u64_bytes))]
+fn version_of(stamp: &Stamp) -> [u8; 8]
+    ensures bytes { result ≡ u64_bytes stamp.now.ver }
+    ensures stamp { IsStamp stamp.now }
+{
+    stamp.ver.to_be_bytes()
+}
+
 /// Appends the version of the stamp, the most significant byte first, and its driver.
 #[tactic(auto, using(std::proofs::Common::append_assoc), unfolding(zeus_model::specs::PacketSpelling::stamp_bytes))]
 pub fn write_stamp(out: &mut Vec<u8>, stamp: &Stamp)
@@ -77,16 +86,23 @@ pub fn write_place(out: &mut Vec<u8>, place: &Place)
     write_bytes(out, &[place.owner.0, byte_of(place.replicas)]);
 }
 
-/// Appends the stamp, the requester, the stamp of the base and its placement.
-#[tactic(auto, using(std::proofs::Common::append_assoc), unfolding(zeus_model::specs::PacketSpelling::proposal_bytes))]
+/// Appends the stamp, the requester, the stamp of the base and its placement: all in one, because most letters have one.
+#[tactic(auto, using(crate::proofs::Numbers::proposal_spelled))]
 pub fn write_proposal(out: &mut Vec<u8>, p: &Proposal)
     requires { 21 ≤ room out.old }
     ensures bytes { out.new.items ≡ out.old.items ++ proposal_bytes p.now }
     ensures room { room out.old ≤ room out.new + 21 }
     ensures proposal { IsProposal p.now }
 {
-    write_stamp(out, &p.stamp);
-    write_u8(out, p.requester.0);
-    write_stamp(out, &p.base);
-    write_place(out, &p.base_place);
+    let [a, b, c, d, e, f, g, h] = version_of(&p.stamp);
+    let [i, j, k, l, m, n, o, q] = version_of(&p.base);
+    let (driver, requester, other) = (p.stamp.driver.0, p.requester.0, p.base.driver.0);
+    let (owner, replicas) = (p.base_place.owner.0, byte_of(p.base_place.replicas));
+    write_bytes(
+        out,
+        &[
+            a, b, c, d, e, f, g, h, driver, requester, i, j, k, l, m, n, o, q, other, owner,
+            replicas,
+        ],
+    );
 }

@@ -11,5 +11,5 @@ loop-link-preserved c =
     let links = c.args.links.now in
     let i = c.loop-link.link-index in
     let P : FreshPacket → Type 0 = λ q. set c.loop-link.link-items i q ≡ map f (take (i + 1) links) ++ drop (i + 1) links in
-    let here : c.behind.result ≡ f c.link-item.result = c.behind.ensures ∙ ap f (sym c.link-item.is) in
+    let here : c.move_behind.new.link ≡ f c.link-item.result = c.move_behind.ensures ∙ ap f (sym c.link-item.is) in
     subst P (sym here) (map_over_more f links c.loop-link.link-items i c.link-item.result c.loop-link-test.true c.loop-link.invariant c.link-item.is)
