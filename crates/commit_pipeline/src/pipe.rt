@@ -173,7 +173,9 @@ impl<W: Window<Pending>> PipeOver<W> {
 /// not acknowledged before; else nothing changes.
 fn acknowledge<W: Window<Pending>>(entries: &mut W, place: u32, from: NodeId) -> bool
     ensures answer { result ≡ counts (record { done = 0; pending = W.items entries.old }) place from }
-    ensures after { W.items entries.new ≡ (if result then put no_pending (W.items entries.old) place (acked_pending (nth no_pending (W.items entries.old) place) from) else W.items entries.old) }
+    ensures after { W.items entries.new
+        ≡ (if result then put no_pending (W.items entries.old) place (acked_pending (nth no_pending (W.items entries.old) place) from)
+        else W.items entries.old) }
 {
     match entries.get_mut(place) {
         Some(entry) => add_ack(entry, from),
