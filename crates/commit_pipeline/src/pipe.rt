@@ -1,5 +1,6 @@
 //! The pipe: entries are pushed at its end, acknowledged at any place, and passed at its front.
-ghost use Rattle.std.specs.Prelude.{◌≡◌, ◌+◌, ◌-◌, ◌<◌, ◌≤◌, ◌↔◌, ◌^◌, [], ◌∷◌, ◌++◌, IfOk, IsOk, OnErr, IfNone, drop, length, map, not, option_copied, slice_get, if◌then◌else◌};
+ghost use Rattle.std.specs.Prelude.{◌≡◌, ◌+◌, ◌-◌, ◌<◌, ◌≤◌, ◌↔◌, ◌^◌, [], ◌∷◌, ◌++◌, if◌then◌else◌};
+ghost use Rattle.std.specs.Prelude.{IfOk, IsOk, OnErr, IfNone, drop, length, map, not, option_copied, slice_get};
 ghost use Rattle.std.specs.Option.{OnSome};
 ghost use Rattle.zeus_base.specs.Nodes.{has};
 ghost use Rattle.zeus_model.specs.Commit.{acked_pending, as_kept, no_pending, passes_at};

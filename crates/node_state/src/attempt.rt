@@ -45,8 +45,10 @@ impl Slot {
         requires objects { IsCurrentWithin (length copies.old.copies) self.old.current }
         requires places { length dir.now.entries ≡ length copies.old.copies }
         requires holds { AreNamed slot copies.old.holds self.old.pending }
-        ensures tried { (n : Node) → IsNodeAt me dir.now.entries copies.old slot self.old n → IsTried n slot result (with_tables n slot copies.new.copies self.new) }
-        ensures held { (n : Node) → IsNodeAt me dir.now.entries copies.old slot self.old n → AreHeld (with_tables n slot copies.new.copies self.new) copies.new.holds }
+        ensures tried { (n : Node) → IsNodeAt me dir.now.entries copies.old slot self.old n
+            → IsTried n slot result (with_tables n slot copies.new.copies self.new) }
+        ensures held { (n : Node) → IsNodeAt me dir.now.entries copies.old slot self.old n
+            → AreHeld (with_tables n slot copies.new.copies self.new) copies.new.holds }
     {
         let Some(current) = self.current.as_ref() else {
             return SlotTry::Nothing;
