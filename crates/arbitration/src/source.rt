@@ -1,6 +1,7 @@
 //! What the source of a placement gives up.
 ghost use Rattle.std.specs.Prelude.{◌≡◌, None, nat_lt, if◌then◌else◌};
-ghost use Rattle.zeus_model.specs.Ownership.{content_of, held_cause, keeper as keeper_of, kept_by, missing_cause, not_valid, source_cause, state_cause, state_refused, unready_cause};
+ghost use Rattle.zeus_model.specs.Ownership.{content_of, held_cause, keeper as keeper_of, kept_by, missing_cause};
+ghost use Rattle.zeus_model.specs.Ownership.{not_valid, source_cause, state_cause, state_refused, unready_cause};
 ghost use Rattle.zeus_model.specs.State.{Node, copy};
 ghost use Rattle.zeus_model.specs.Tables.{or_else};
 ghost use Rattle.arbitration.specs.Giving.{IsSourceWith, content_without, give_up_cause, given_content, told_cause};
@@ -32,7 +33,8 @@ pub fn give_up(
     keeper: Option<SlotId>,
 ) -> GiveUp
     ensures cause { (n : Node) → IsSourceWith n obj copies.now me → told_cause result ≡ give_up_cause n obj requester keeper }
-    ensures content { (n : Node) → IsSourceWith n obj copies.now me → given_content result ≡ content_without (told_cause result) (content_of (copy n obj)) }
+    ensures content { (n : Node) → IsSourceWith n obj copies.now me
+        → given_content result ≡ content_without (told_cause result) (content_of (copy n obj)) }
     ensures kept { (n : Node) → IsSourceWith n obj copies.now me → keeper ≡ keeper_of n obj → told_cause result ≡ source_cause n obj requester }
     ensures unkept { (n : Node) → IsSourceWith n obj copies.now me → keeper ≡ None → told_cause result ≡ unready_cause n obj }
 {

@@ -1,5 +1,6 @@
 //! The pipe: entries are pushed at its end, acknowledged at any place, and passed at its front.
-ghost use Rattle.std.specs.Prelude.{◌≡◌, ◌+◌, ◌-◌, ◌<◌, ◌≤◌, ◌↔◌, ◌^◌, [], ◌∷◌, ◌++◌, IfOk, IsOk, OnErr, IfNone, drop, length, map, not, option_copied, slice_get, if◌then◌else◌};
+ghost use Rattle.std.specs.Prelude.{◌≡◌, ◌+◌, ◌-◌, ◌<◌, ◌≤◌, ◌↔◌, ◌^◌, [], ◌∷◌, ◌++◌, if◌then◌else◌};
+ghost use Rattle.std.specs.Prelude.{IfOk, IsOk, OnErr, IfNone, drop, length, map, not, option_copied, slice_get};
 ghost use Rattle.std.specs.Option.{OnSome};
 ghost use Rattle.zeus_base.specs.Nodes.{has};
 ghost use Rattle.zeus_model.specs.Commit.{acked_pending, as_kept, no_pending, passes_at};
@@ -173,7 +174,9 @@ impl<W: Window<Pending>> PipeOver<W> {
 /// not acknowledged before; else nothing changes.
 fn acknowledge<W: Window<Pending>>(entries: &mut W, place: u32, from: NodeId) -> bool
     ensures answer { result ≡ counts (record { done = 0; pending = W.items entries.old }) place from }
-    ensures after { W.items entries.new ≡ (if result then put no_pending (W.items entries.old) place (acked_pending (nth no_pending (W.items entries.old) place) from) else W.items entries.old) }
+    ensures after { W.items entries.new
+        ≡ (if result then put no_pending (W.items entries.old) place (acked_pending (nth no_pending (W.items entries.old) place) from)
+        else W.items entries.old) }
 {
     match entries.get_mut(place) {
         Some(entry) => add_ack(entry, from),

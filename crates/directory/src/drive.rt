@@ -49,7 +49,8 @@ pub trait Drives {
         want: Want,
     ) -> Drive
         requires { obj < length (known self.now).entries }
-        ensures { (n : Node) → IsNodeWith n (known self.now) me members → result ≡ answered (drive_cause n obj requester want) (driven n obj requester want) };
+        ensures { (n : Node) → IsNodeWith n (known self.now) me members
+            → result ≡ answered (drive_cause n obj requester want) (driven n obj requester want) };
 }
 
 impl Drives for Dir {

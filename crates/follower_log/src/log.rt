@@ -1,5 +1,6 @@
 //! A foreign stream at a node.
-ghost use Rattle.std.specs.Prelude.{◌≡◌, ◌<◌, ◌≤◌, ◌+◌, ◌-◌, ◌^◌, ℕ, [], OnSome, IsNone, length, nat_lt, not, option_copied, slice_get, if◌then◌else◌};
+ghost use Rattle.std.specs.Prelude.{◌≡◌, ◌<◌, ◌≤◌, ◌+◌, ◌-◌, ◌^◌, [], if◌then◌else◌};
+ghost use Rattle.std.specs.Prelude.{ℕ, OnSome, IsNone, length, nat_lt, not, option_copied, slice_get};
 ghost use Rattle.zeus_base.specs.Nodes.{has};
 ghost use Rattle.zeus_model.specs.Commit.{acked_kept, on_kept_rack, stored_rinv, passes_at};
 ghost use Rattle.zeus_model.specs.State.{Node, log};

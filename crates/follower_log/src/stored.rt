@@ -1,5 +1,6 @@
 //! The foreign streams at a node, by node and slot.
-ghost use Rattle.std.specs.Prelude.{◌≡◌, ◌<◌, ◌≤◌, ◌+◌, ◌-◌, ◌^◌, ℕ, [], IfOk, OnSome, IsNone, length, option_copied, replicate, slice_get, vec_capacity};
+ghost use Rattle.std.specs.Prelude.{◌≡◌, ◌<◌, ◌≤◌, ◌+◌, ◌-◌, ◌^◌, []};
+ghost use Rattle.std.specs.Prelude.{ℕ, IfOk, OnSome, IsNone, length, option_copied, replicate, slice_get, vec_capacity};
 ghost use Rattle.zeus_model.specs.Commit.{on_kept_rack, stored_rinv, passes_at};
 ghost use Rattle.zeus_model.specs.State.{Node, no_log};
 ghost use Rattle.zeus_model.specs.Tables.{front, nth};

@@ -31,7 +31,11 @@ impl Model for Book {
 
     ghost Value = { BookState };
 
-    ghost view = { λ b. record { book = record { steps = b.steps; points = points_of b.records.items b.points.ids; records = b.records.items }; nodes = b.nodes; slots = b.slots } };
+    ghost view = { λ b. record {
+      book = record { steps = b.steps; points = points_of b.records.items b.points.ids; records = b.records.items };
+      nodes = b.nodes;
+      slots = b.slots;
+    } };
 
     ghost invariant = { λ b. IsKept b.records.items b.points b.nodes b.slots b.entries };
 }
@@ -42,7 +46,11 @@ impl Book {
     /// # Errors
     /// `NoMemory` if the memory is not there.
     pub fn new(alloc: Global, config: &Config, txs: u32) -> Result<Book, NoMemory>
-        ensures { IfOk result (λ b. b ≡ record { book = record { steps = 0; points = []; records = replicate txs no_record }; nodes = config.now.nodes; slots = config.now.slots }) }
+        ensures { IfOk result (λ b. b ≡ record {
+          book = record { steps = 0; points = []; records = replicate txs no_record };
+          nodes = config.now.nodes;
+          slots = config.now.slots;
+        }) }
     {
         let count = txs as usize;
         let mut records = Vec::with_capacity(alloc, count).map_err(|_| NoMemory)?;

@@ -127,7 +127,8 @@ impl Entries {
         requires node { stream.now.node < length self.old }
         requires slot { stream.now.slot < length (nth [] self.old stream.now.node) }
         requires room { 0 < (of_stream self.old stream.now).room }
-        ensures list { self.new ≡ put [] self.old stream.now.node (put no_ids (nth [] self.old stream.now.node) stream.now.slot (of_stream self.new stream.now)) }
+        ensures list { self.new
+            ≡ put [] self.old stream.now.node (put no_ids (nth [] self.old stream.now.node) stream.now.slot (of_stream self.new stream.now)) }
         ensures ids { (of_stream self.new stream.now).ids ≡ (of_stream self.old stream.now).ids ++ id ∷ [] }
         ensures room { (of_stream self.new stream.now).room + 1 ≡ (of_stream self.old stream.now).room }
     {

@@ -86,7 +86,8 @@ impl Book {
         requires { HasLists self.old.book points.old acked.old }
         ensures shape { self.new ≡ with_book self.old self.new.book }
         ensures change { so_far self.new points.new acked.new
-            ≡ change_then (so_far self.old points.old acked.old) (λ b. pass_numbers b own passed.now.stream (numbers_from passed.now.first (passed.now.after - passed.now.first))) }
+            ≡ change_then (so_far self.old points.old acked.old)
+            (λ b. pass_numbers b own passed.now.stream (numbers_from passed.now.first (passed.now.after - passed.now.first))) }
         ensures lists { HasLists self.new.book points.new acked.new }
     {
         for number in passed.first..passed.after {

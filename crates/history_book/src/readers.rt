@@ -99,7 +99,8 @@ impl Book {
 
     /// The point of the history at this place from 0, if there is one: its transaction and the reply.
     pub fn point(&self, place: u32) -> Option<(TxId, &Reply)>
-        ensures { MatchOption result (length self.now.book.points ≤ place) (λ p. slice_get self.now.book.points place ≡ Some record { id = p.0; reply = p.1.now }) }
+        ensures { MatchOption result (length self.now.book.points ≤ place)
+            (λ p. slice_get self.now.book.points place ≡ Some record { id = p.0; reply = p.1.now }) }
     {
         let Some(id) = self.points.get(place) else {
             return None;

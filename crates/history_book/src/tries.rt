@@ -38,7 +38,8 @@ impl Book {
         requires tried { CanNote self.old stream tried.now }
         requires lists { HasLists self.old.book points.old acked.old }
         ensures shape { self.new ≡ with_book self.old self.new.book }
-        ensures change { so_far self.new points.new acked.new ≡ change_then (so_far self.old points.old acked.old) (λ b. book_tried b stream degree tried.now) }
+        ensures change { so_far self.new points.new acked.new
+            ≡ change_then (so_far self.old points.old acked.old) (λ b. book_tried b stream degree tried.now) }
         ensures lists { HasLists self.new.book points.new acked.new }
     {
         match tried {

@@ -32,7 +32,8 @@ pub fn merged_journals_are_a_run()
     // The steps are those of the events, by clock, then node, the service behind all nodes.
     ensures steps { (p : Plan) (k : Cluster) (es : Events) → IsLive p k es → merged p.config k ≡ map turn_step (turns p.config es) }
     // Each node's events are all there, in their order.
-    ensures cells { (p : Plan) (k : Cluster) (es : Events) (n : ℕ) → IsLive p k es → n < p.config.nodes → cell_part n (turns p.config es) ≡ es.cells n }
+    ensures cells { (p : Plan) (k : Cluster) (es : Events) (n : ℕ) → IsLive p k es → n < p.config.nodes
+        → cell_part n (turns p.config es) ≡ es.cells n }
     // So are those of the service.
     ensures service { (p : Plan) (k : Cluster) (es : Events) → IsLive p k es → service_part (turns p.config es) ≡ es.service }
     // Clocks rise.
@@ -92,14 +93,17 @@ pub fn merged_journals_are_a_run()
         → IsFront (k.clients id).answers (answers id.node p.config p.txs id.slot (es.cells id.node)) }
     // What a client passes over, since a transaction behind which it waits was refused or its node stopped, is never begun and
     // never acknowledged.
-    ensures gone { (p : Plan) (k : Cluster) (es : Events) (id : ClientId) (tx : ℕ) → IsLive p k es → IsThere p.config id → IsGone p.txs (k.clients id) tx
+    ensures gone { (p : Plan) (k : Cluster) (es : Events) (id : ClientId) (tx : ℕ) → IsLive p k es → IsThere p.config id
+        → IsGone p.txs (k.clients id) tx
         → IsUntouched (record_of (run (start p.config p.txs) (merged p.config k)).book tx) }
     // It is closed all the same.
-    ensures gone_closed { (p : Plan) (k : Cluster) (es : Events) (id : ClientId) (tx : ℕ) → IsLive p k es → IsThere p.config id → IsGone p.txs (k.clients id) tx
+    ensures gone_closed { (p : Plan) (k : Cluster) (es : Events) (id : ClientId) (tx : ℕ) → IsLive p k es → IsThere p.config id
+        → IsGone p.txs (k.clients id) tx
         → is_closed (run (start p.config p.txs) (merged p.config k)) tx ≡ true }
     // What waits behind a lost transaction, directly or through others, is passed over by each client that has taken all notes of
     // that one's cell, where the cell's clock travels.
-    ensures lost_gone { (p : Plan) (k : Cluster) (es : Events) (id : ClientId) (tx lost : ℕ) → IsLive p k es → IsThere p.config id → is_of p.txs id tx ≡ true
+    ensures lost_gone { (p : Plan) (k : Cluster) (es : Events) (id : ClientId) (tx lost : ℕ) → IsLive p k es → IsThere p.config id
+        → is_of p.txs id tx ≡ true
         → waits_behind p.txs tx lost ≡ true → IsLost (run (start p.config p.txs) (merged p.config k)) lost
         → travels ((k.cells (declared p.txs lost).node).core).clock ≡ true
         → (k.clients id).notes (declared p.txs lost).node ≡ (k.cells (declared p.txs lost).node).notes id → IsGone p.txs (k.clients id) tx }

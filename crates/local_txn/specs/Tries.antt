@@ -12,11 +12,12 @@ use Rattle.zeus_model.specs.declared.state.Copy.{Copy}
 use Rattle.zeus_model.specs.declared.state.Current.{Current}
 use Rattle.zeus_model.specs.declared.state.Entry.{Entry}
 use Rattle.zeus_model.specs.declared.state.Pending.{Pending}
-use Rattle.zeus_model.specs.Local.{committed, held_elsewhere, new_writes, replicas_of, rewritten_copy, run_here}
+use Rattle.zeus_model.specs.Local.{committed, held_elsewhere, new_writes, replicas_of, rewritten_copy, run_here, write_cause, write_row}
 use Rattle.zeus_model.specs.State.{Node, holder, no_entry, slot, version_of}
 use Rattle.zeus_model.specs.Tables.{first_of, nth, put, where_true}
 use Rattle.zeus_model.specs.World.{no_node}
 use Rattle.object_table.specs.declared.hold.Hold.{Hold}
+use Rattle.object_table.specs.Entries.{AreEntriesWithin, AreNamed}
 use Rattle.object_table.specs.Table.{CanHold, Table, after_write, each_held, held, hold_slot}
 use Rattle.commit_pipeline.specs.Pipes.{Waiting}
 use Rattle.local_txn.specs.declared.causes.HeldBy.{HeldBy}
@@ -57,6 +58,33 @@ after_try n s c None = committed n s c (run_here n c.tx) (followers_here n c.tx)
 unfoldable pub holds_after : ℕ → List (Option Hold) → List Op → Option Tried → List (Option Hold)
 holds_after s holds tx (Some cause) = holds
 holds_after s holds tx None = each_held s holds (named tx)
+
+-- the try of this transaction at the node gives this answer by the rules, and leaves this table and these entries that wait
+pub record IsWriteTry (n : Node) (s : ℕ) (c : Current) (old new : Table) (rest : Waiting) (t : WriteTry) : Type 0 where
+  -- what stands against the transaction, or its commit
+  pub answer : tried_as c.id t ≡ (write_row n s c (write_cause n s c.tx)).answer
+  -- the writes of a commit stand in the copies
+  pub copies : new.copies ≡ (after_try n s c (write_cause n s c.tx)).copies
+  -- the entry of a commit is the last that waits
+  pub pending : rest.pending ≡ (slot (after_try n s c (write_cause n s c.tx)) s).pending
+  -- a commit holds each named object once more
+  pub holds : new.holds ≡ holds_after s old.holds c.tx (write_cause n s c.tx)
+
+-- a slot's try of this transaction, at a node with this number and these entries: from one table to another, and from the
+-- entries of the slot that wait to those that then wait
+pub record TriesWrite (me : ℕ) (entries : List Entry) (s : ℕ) (c : Current) (old new : Table) (waiting rest : Waiting) (t : WriteTry) : Type 0 where
+  -- at every node with these entries, copies and this slot, whose other slots hold what the table says
+  pub acts : (n : Node) → IsNodeOf me entries old s waiting n → IsWriteTry n s c old new rest t
+  -- no entry passes
+  pub done : rest.done ≡ waiting.done
+  -- what the slot holds is named by its entries that wait
+  pub named : AreNamed s new.holds rest.pending
+  -- what another slot holds stays named by its entries
+  pub others : (i : ℕ) (ps : List Pending) → i ≢ s → AreNamed i old.holds ps → AreNamed i new.holds ps
+  -- there are as many objects as before
+  pub objects : length new.copies ≡ length old.copies
+  -- where the entries that wait are of objects that there are, those that then wait are
+  pub within : AreEntriesWithin (length old.copies) waiting.pending → AreEntriesWithin (length old.copies) rest.pending
 
 -- ---- what stands against it, by the entries, the holds and the copies
 

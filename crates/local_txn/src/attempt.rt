@@ -1,11 +1,8 @@
 //! The write part of a try.
-ghost use Rattle.std.specs.Prelude.{◌≡◌, ◌≢◌, ◌<◌, ℕ, List, All, length};
-ghost use Rattle.zeus_model.specs.Local.{write_cause, write_row};
-ghost use Rattle.zeus_model.specs.State.{Node, slot as slot_of};
-ghost use Rattle.zeus_model.specs.declared.state.Pending.{Pending};
+ghost use Rattle.std.specs.Prelude.{◌≡◌, ◌<◌, All, length};
 ghost use Rattle.zeus_txn.specs.Ops.{named};
-ghost use Rattle.object_table.specs.Entries.{AreEntriesWithin, AreNamed};
-ghost use Rattle.local_txn.specs.Tries.{IsNodeOf, after_try, holds_after, tried_as};
+ghost use Rattle.object_table.specs.Entries.{AreNamed};
+ghost use Rattle.local_txn.specs.Tries.{TriesWrite};
 
 use crate::causes::cause;
 use crate::commit::commit;
@@ -42,7 +39,7 @@ pub enum WriteTry {
 /// slot holds each named object once more. The entry is the last of the pipe, and its followers are the replicas of the
 /// written objects by the settled placements, without the node.
 ///
-/// The clauses speak of every node with these entries, copies and this slot, whose other slots hold what the table says.
+/// The clause speaks of every node with these entries, copies and this slot, whose other slots hold what the table says.
 /// What a slot holds stays named by its pending entries. Takes no memory.
 pub fn try_write(
     copies: &mut Copies,
@@ -56,19 +53,7 @@ pub fn try_write(
     requires objects { All (λ x. x < length copies.old.copies) (named tx.now) }
     requires places { length dir.now.entries ≡ length copies.old.copies }
     requires holds { AreNamed slot copies.old.holds pipe.old.pending }
-    ensures answer { (n : Node) → IsNodeOf me dir.now.entries copies.old slot pipe.old n
-        → tried_as id result ≡ (write_row n slot (record { id = id; tx = tx.now }) (write_cause n slot tx.now)).answer }
-    ensures copies { (n : Node) → IsNodeOf me dir.now.entries copies.old slot pipe.old n
-        → copies.new.copies ≡ (after_try n slot (record { id = id; tx = tx.now }) (write_cause n slot tx.now)).copies }
-    ensures pending { (n : Node) → IsNodeOf me dir.now.entries copies.old slot pipe.old n
-        → pipe.new.pending ≡ (slot_of (after_try n slot (record { id = id; tx = tx.now }) (write_cause n slot tx.now)) slot).pending }
-    ensures done { pipe.new.done ≡ pipe.old.done }
-    ensures holds { (n : Node) → IsNodeOf me dir.now.entries copies.old slot pipe.old n
-        → copies.new.holds ≡ holds_after slot copies.old.holds tx.now (write_cause n slot tx.now) }
-    ensures named { AreNamed slot copies.new.holds pipe.new.pending }
-    ensures others { (t : ℕ) (ps : List Pending) → t ≢ slot → AreNamed t copies.old.holds ps → AreNamed t copies.new.holds ps }
-    ensures objects { length copies.new.copies ≡ length copies.old.copies }
-    ensures within { AreEntriesWithin (length copies.old.copies) pipe.old.pending → AreEntriesWithin (length copies.old.copies) pipe.new.pending }
+    ensures does { TriesWrite me dir.now.entries slot (record { id = id; tx = tx.now }) copies.old copies.new pipe.old pipe.new result }
 {
     match cause(copies, dir, pipe, me, slot, tx) {
         Some(cause) => cause,

@@ -34,7 +34,8 @@ pub(crate) fn commit(
     requires places { length dir.now.entries ≡ length copies.old.copies }
     requires holds { AreNamed slot copies.old.holds pipe.old.pending }
     requires clear { IsClear slot copies.old pipe.old tx.now }
-    ensures answer { tried_as id result ≡ Committed id (pipe.old.done + length pipe.old.pending) (run_here (node_of me dir.now.entries copies.old.copies) tx.now).reply }
+    ensures answer { tried_as id result
+        ≡ Committed id (pipe.old.done + length pipe.old.pending) (run_here (node_of me dir.now.entries copies.old.copies) tx.now).reply }
     ensures copies { copies.new.copies ≡ each_write rewritten_copy copies.old.copies (writes_here (node_of me dir.now.entries copies.old.copies) tx.now) }
     ensures holds { copies.new.holds ≡ each_held slot copies.old.holds (named tx.now) }
     ensures pending { pipe.new.pending ≡ pipe.old.pending ++ entry_here (node_of me dir.now.entries copies.old.copies) id tx.now ∷ [] }

@@ -72,7 +72,8 @@ impl Row {
         requires fits { fits letter.now (largest 2) ≡ true }
         requires to { letter.now.to < length self.old }
         requires room { 0 < (nth no_link self.old letter.now.to).room }
-        ensures letters { row_letters self.new ≡ put [] (row_letters self.old) letter.now.to (nth [] (row_letters self.old) letter.now.to ++ letter.now ∷ []) }
+        ensures letters { row_letters self.new
+            ≡ put [] (row_letters self.old) letter.now.to (nth [] (row_letters self.old) letter.now.to ++ letter.now ∷ []) }
         ensures room { (k : ℕ) → (nth no_link self.old k).room ≤ (nth no_link self.new k).room + 1 }
         ensures size { length self.new ≡ length self.old }
         ensures number { result ≡ length (nth [] (row_letters self.old) letter.now.to) }

@@ -1,5 +1,6 @@
 //! The views of a run, and who may make the next one.
-ghost use Rattle.std.specs.Prelude.{◌≡◌, ◌↔◌, ◌⊎◌, ◌<◌, ◌≤◌, ◌+◌, ◌-◌, ◌^◌, true, not, ℕ, List, [], ◌∷◌, IfOk, IfSome, IsNone, None, OnErr, length};
+ghost use Rattle.std.specs.Prelude.{◌≡◌, ◌↔◌, ◌⊎◌, ◌<◌, ◌≤◌, ◌+◌, ◌-◌, ◌^◌, [], ◌∷◌};
+ghost use Rattle.std.specs.Prelude.{true, not, ℕ, List, IfOk, IfSome, IsNone, None, OnErr, length};
 ghost use Rattle.std.specs.List.{find};
 ghost use Rattle.zeus_base.specs.Nodes.{has};
 ghost use Rattle.zeus_base.specs.declared.step.Step.TheVariants.{View as ViewStep};
@@ -103,7 +104,9 @@ impl Service {
 
 /// Why a view of these members is not made: the first cause that holds.
 fn view_refused(last: NodeSet, members: NodeSet, stopped: NodeSet) -> Option<Made>
-    ensures { (w : World) → last_view w.views ≡ last → ((n : ℕ) → has n last ≡ true → (node_of w n).stopped ≡ has n stopped) → result ≡ view_refused w members }
+    ensures { (w : World) → last_view w.views ≡ last
+        → ((n : ℕ) → has n last ≡ true → (node_of w n).stopped ≡ has n stopped)
+        → result ≡ view_refused w members }
 {
     if members.is_empty() {
         return Some(Made::Empty);

@@ -74,6 +74,13 @@ IsTried n s Nothing m = IsNothingTried n s m
 IsTried n s (Read id t) m = IsReadTried n s id t m
 IsTried n s (Write id t) m = IsWriteTried n s id t m
 
+-- the try of a slot's current transaction at the node leaves this table and this slot
+pub record TriesSlot (n : Node) (s : ℕ) (table : Table) (l : Slot) (t : SlotTry) : Type 0 where
+  -- the node with them is the one that the try leaves, by the rules
+  pub tried : IsTried n s t (with_tables n s table.copies l)
+  -- and its slots hold what the table says
+  pub held : AreHeld (with_tables n s table.copies l) table.holds
+
 -- ---- the entry that a commit made
 
 -- the pending entry at this place, as the stream of the slot sends it

@@ -2,8 +2,7 @@
 ghost use Rattle.std.specs.Prelude.{◌≡◌, ℕ, length};
 ghost use Rattle.zeus_model.specs.State.{Node};
 ghost use Rattle.object_table.specs.Entries.{AreNamed};
-ghost use Rattle.object_table.specs.Holding.{AreHeld};
-ghost use Rattle.node_state.specs.SlotTries.{IsCurrentWithin, IsNodeAt, IsTried, current_after, newest_of, with_tables};
+ghost use Rattle.node_state.specs.SlotTries.{IsCurrentWithin, IsNodeAt, TriesSlot, current_after, newest_of};
 
 use crate::slot::Slot;
 use local_txn::{WriteTry, try_write};
@@ -45,8 +44,7 @@ impl Slot {
         requires objects { IsCurrentWithin (length copies.old.copies) self.old.current }
         requires places { length dir.now.entries ≡ length copies.old.copies }
         requires holds { AreNamed slot copies.old.holds self.old.pending }
-        ensures tried { (n : Node) → IsNodeAt me dir.now.entries copies.old slot self.old n → IsTried n slot result (with_tables n slot copies.new.copies self.new) }
-        ensures held { (n : Node) → IsNodeAt me dir.now.entries copies.old slot self.old n → AreHeld (with_tables n slot copies.new.copies self.new) copies.new.holds }
+        ensures does { (n : Node) → IsNodeAt me dir.now.entries copies.old slot self.old n → TriesSlot n slot copies.new self.new result }
     {
         let Some(current) = self.current.as_ref() else {
             return SlotTry::Nothing;

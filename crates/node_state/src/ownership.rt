@@ -1,7 +1,8 @@
 //! Ownership at a node: what becomes of its entries, its gathers and its copies, and what it gives as a source.
 ghost use Rattle.std.specs.Prelude.{◌≡◌, ◌<◌, not, true, length};
 ghost use Rattle.zeus_packet.specs.Fits.{content_fits, place_fits, proposal_fits, stamp_fits};
-ghost use Rattle.zeus_model.specs.Ownership.{bring, drive_cause, driven, holding, is_held, is_source, keeper, own_content, settle, source_cause, takes_over, unready_cause};
+ghost use Rattle.zeus_model.specs.Ownership.{bring, drive_cause, driven, holding, is_held, is_source};
+ghost use Rattle.zeus_model.specs.Ownership.{keeper, own_content, settle, source_cause, takes_over, unready_cause};
 ghost use Rattle.zeus_model.specs.State.{entry, gather, with_gather};
 ghost use Rattle.arbitration.specs.Gathering.{ack_at, decision_of, gathered};
 ghost use Rattle.arbitration.specs.Giving.{told_cause};

@@ -1,5 +1,6 @@
 //! The copies and the holds of a node, by object.
-ghost use Rattle.std.specs.Prelude.{◌≡◌, ◌≢◌, ◌<◌, ◌+◌, ◌-◌, ◌^◌, ℕ, IfOk, None, Some, length, map, option_copied, replicate, slice_get};
+ghost use Rattle.std.specs.Prelude.{◌≡◌, ◌≢◌, ◌<◌, ◌+◌, ◌-◌, ◌^◌};
+ghost use Rattle.std.specs.Prelude.{ℕ, IfOk, None, Some, length, map, option_copied, replicate, slice_get};
 ghost use Rattle.zeus_base.specs.declared.value.Value.{Value};
 ghost use Rattle.zeus_model.specs.Commit.{applied, validated};
 ghost use Rattle.zeus_model.specs.Local.{rewritten_copy};

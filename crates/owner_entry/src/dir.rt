@@ -40,7 +40,8 @@ impl Dir {
     ///
     /// `NoMemory` where that memory is not there.
     pub fn new(alloc: Global, config: &Config) -> Result<Dir, NoMemory>
-        ensures { IfOk result (λ dir. dir ≡ record { nodes = config.now.directory; degree = config.now.degree; entries = map start_entry config.now.objects }) }
+        ensures { IfOk result (λ dir. dir
+            ≡ record { nodes = config.now.directory; degree = config.now.degree; entries = map start_entry config.now.objects }) }
     {
         let entries = start_entries(alloc, config.objects.as_slice()).map_err(|_| NoMemory)?;
         Ok(Dir {

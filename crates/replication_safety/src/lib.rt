@@ -3,7 +3,8 @@
 
 ghost use Rattle.std.specs.Prelude.{List, length, ℕ, suc, true, ◌<◌, ◌↔◌, ◌≡◌, ◌≢◌, ◌≤◌, ◌⊎◌};
 ghost use Rattle.zeus_base.specs.Nodes.{has, is_subset};
-ghost use Rattle.replication_safety.specs.StreamState.{end, entry, entry_of, Entry, Has, HasReported, In, IsAlive, IsLive, IsMember, IsOut, IsView, kept_at, StreamState, Passes, Stores, top, view};
+ghost use Rattle.replication_safety.specs.StreamState.{end, entry, entry_of, Entry, Has, HasReported, In, IsAlive, IsLive};
+ghost use Rattle.replication_safety.specs.StreamState.{IsMember, IsOut, IsView, kept_at, StreamState, Passes, Stores, top, view};
 ghost use Rattle.replication_safety.specs.Moves.{Commits, Hears, Installs, NewView, NotesAck, PassesFirst, Raises, ReportsItself, Stops, StoresNext, Tells};
 ghost use Rattle.replication_safety.specs.ReplicationInvariant.{Holds, ReplicationInvariant};
 ghost use Rattle.replication_safety.specs.Rises.{Rises};
@@ -19,15 +20,20 @@ pub fn moves_keep_what_holds()
     ensures new_view { (old new : StreamState) (passed : ℕ) (set : List ℕ) → ReplicationInvariant old passed → NewView old new set
         → ReplicationInvariant new passed }
     ensures stops { (old new : StreamState) (passed n : ℕ) → ReplicationInvariant old passed → Stops old new n → ReplicationInvariant new passed }
-    ensures installs { (old new : StreamState) (passed n e : ℕ) → ReplicationInvariant old passed → Installs old new n e → ReplicationInvariant new passed }
-    ensures reports { (old new : StreamState) (passed n : ℕ) → ReplicationInvariant old passed → ReportsItself old new n → ReplicationInvariant new passed }
+    ensures installs { (old new : StreamState) (passed n e : ℕ) → ReplicationInvariant old passed → Installs old new n e
+        → ReplicationInvariant new passed }
+    ensures reports { (old new : StreamState) (passed n : ℕ) → ReplicationInvariant old passed → ReportsItself old new n
+        → ReplicationInvariant new passed }
     ensures hears { (old new : StreamState) (passed n a : ℕ) → ReplicationInvariant old passed → Hears old new n a → ReplicationInvariant new passed }
     ensures tells { (old new : StreamState) (passed n : ℕ) → ReplicationInvariant old passed → Tells old new n → ReplicationInvariant new passed }
-    ensures commits { (old new : StreamState) (passed : ℕ) (x : Entry) → ReplicationInvariant old passed → Commits old new x → ReplicationInvariant new passed }
+    ensures commits { (old new : StreamState) (passed : ℕ) (x : Entry) → ReplicationInvariant old passed → Commits old new x
+        → ReplicationInvariant new passed }
     ensures stores { (old new : StreamState) (passed n : ℕ) (x : Entry) → ReplicationInvariant old passed → StoresNext old new n x
         → ReplicationInvariant new passed }
-    ensures raises { (old new : StreamState) (passed n d : ℕ) → ReplicationInvariant old passed → Raises old new passed n d → ReplicationInvariant new passed }
-    ensures notes { (old new : StreamState) (passed n k a : ℕ) → ReplicationInvariant old passed → NotesAck old new n k a → ReplicationInvariant new passed }
+    ensures raises { (old new : StreamState) (passed n d : ℕ) → ReplicationInvariant old passed → Raises old new passed n d
+        → ReplicationInvariant new passed }
+    ensures notes { (old new : StreamState) (passed n k a : ℕ) → ReplicationInvariant old passed → NotesAck old new n k a
+        → ReplicationInvariant new passed }
     ensures passes_again { (old new : StreamState) (passed n : ℕ) → ReplicationInvariant old passed → PassesFirst old new n → old.done n < passed
         → ReplicationInvariant new passed }
     ensures passes_first { (old new : StreamState) (passed n : ℕ) → ReplicationInvariant old passed → PassesFirst old new n → old.done n ≡ passed
@@ -39,8 +45,10 @@ pub fn moves_keep_what_holds()
 pub fn first_pass_is_stored()
     ensures stored { (old new : StreamState) (passed n g : ℕ) → ReplicationInvariant old passed → PassesFirst old new n → old.done n ≡ passed
         → IsLive old g → has g (kept_at old n passed).followers ≡ true → Has old g passed }
-    ensures content { (l : StreamState) (passed n k : ℕ) → ReplicationInvariant l passed → Has l n k → passed ≤ k → entry_of (kept_at l n k) ≡ entry l k }
-    ensures own { (old new : StreamState) (passed n : ℕ) → ReplicationInvariant old passed → PassesFirst old new n → IsLive old old.home → n ≡ old.home }
+    ensures content { (l : StreamState) (passed n k : ℕ) → ReplicationInvariant l passed → Has l n k → passed ≤ k
+        → entry_of (kept_at l n k) ≡ entry l k }
+    ensures own { (old new : StreamState) (passed n : ℕ) → ReplicationInvariant old passed → PassesFirst old new n
+        → IsLive old old.home → n ≡ old.home }
 {}
 
 /// An entry that lives after a move lived before it, or was committed by it.
@@ -48,17 +56,22 @@ pub fn what_lives_lived_before()
     ensures new_view { (old new : StreamState) (passed now k : ℕ) (set : List ℕ) → NewView old new set → passed ≤ now → IsAlive new now k
         → IsAlive old passed k }
     ensures stops { (old new : StreamState) (passed now k n : ℕ) → Stops old new n → passed ≤ now → IsAlive new now k → IsAlive old passed k }
-    ensures installs { (old new : StreamState) (passed now k n e : ℕ) → Installs old new n e → passed ≤ now → IsAlive new now k → IsAlive old passed k }
-    ensures reports { (old new : StreamState) (passed now k n : ℕ) → ReportsItself old new n → passed ≤ now → IsAlive new now k → IsAlive old passed k }
+    ensures installs { (old new : StreamState) (passed now k n e : ℕ) → Installs old new n e → passed ≤ now
+        → IsAlive new now k → IsAlive old passed k }
+    ensures reports { (old new : StreamState) (passed now k n : ℕ) → ReportsItself old new n → passed ≤ now
+        → IsAlive new now k → IsAlive old passed k }
     ensures hears { (old new : StreamState) (passed now k n a : ℕ) → Hears old new n a → passed ≤ now → IsAlive new now k → IsAlive old passed k }
     ensures tells { (old new : StreamState) (passed now k n : ℕ) → Tells old new n → passed ≤ now → IsAlive new now k → IsAlive old passed k }
     ensures commits { (old new : StreamState) (passed now k : ℕ) (x : Entry) → Commits old new x → passed ≤ now → IsAlive new now k
         → IsAlive old passed k ⊎ (k ≡ end old) }
     ensures stores { (old new : StreamState) (passed now k n : ℕ) (x : Entry) → ReplicationInvariant old passed → StoresNext old new n x
         → passed ≤ now → IsAlive new now k → IsAlive old passed k }
-    ensures raises { (old new : StreamState) (passed now k n d : ℕ) → Raises old new passed n d → passed ≤ now → IsAlive new now k → IsAlive old passed k }
-    ensures notes { (old new : StreamState) (passed now k n j a : ℕ) → NotesAck old new n j a → passed ≤ now → IsAlive new now k → IsAlive old passed k }
-    ensures passes { (old new : StreamState) (passed now k n : ℕ) → PassesFirst old new n → passed ≤ now → IsAlive new now k → IsAlive old passed k }
+    ensures raises { (old new : StreamState) (passed now k n d : ℕ) → Raises old new passed n d → passed ≤ now
+        → IsAlive new now k → IsAlive old passed k }
+    ensures notes { (old new : StreamState) (passed now k n j a : ℕ) → NotesAck old new n j a → passed ≤ now
+        → IsAlive new now k → IsAlive old passed k }
+    ensures passes { (old new : StreamState) (passed now k n : ℕ) → PassesFirst old new n → passed ≤ now
+        → IsAlive new now k → IsAlive old passed k }
 {}
 
 /// No move takes anything back: stops, epochs, what is known to have passed, and entries stay.

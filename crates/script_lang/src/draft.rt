@@ -42,7 +42,10 @@ pub(crate) struct Draft {
 }
 
 impl Draft {
-    ghost use Rattle.script_lang.specs.Drafts.{state_of, Takes, TakesLine, version_taken, nodes_taken, slots_taken, directory_taken, degree_taken, object_taken, tx_taken, run_taken, step_taken, tx_line_taken, object_line_taken, degree_line_taken, step_line_taken, body_taken, line_taken};
+    ghost use Rattle.script_lang.specs.Drafts.{state_of, Takes, TakesLine};
+    ghost use Rattle.script_lang.specs.Drafts.{version_taken, nodes_taken, slots_taken, directory_taken, degree_taken, object_taken};
+    ghost use Rattle.script_lang.specs.Drafts.{tx_taken, run_taken, step_taken, tx_line_taken, object_line_taken, degree_line_taken};
+    ghost use Rattle.script_lang.specs.Drafts.{step_line_taken, body_taken, line_taken};
     ghost use Rattle.script_lang.specs.Reading.{start};
 
     /// Before the first line.

@@ -14,7 +14,8 @@ ghost use Rattle.zeus_model.specs.Book.{Point, record_of};
 ghost use Rattle.zeus_model.specs.In.{In};
 ghost use Rattle.zeus_model.specs.Scripts.{FitsStep, FitsTxs};
 ghost use Rattle.zeus_model.specs.Serial.{serial_replies, start_map};
-ghost use Rattle.zeus_model.specs.Sound.{HasUpToDateCopy, IsLive, IsLiveOwner, IsOneHistory, IsUpToDate, Sound, history_txs, latest_place, left, replies_of, times};
+ghost use Rattle.zeus_model.specs.Sound.{HasUpToDateCopy, IsLive, IsLiveOwner, IsOneHistory, IsUpToDate, Sound};
+ghost use Rattle.zeus_model.specs.Sound.{history_txs, latest_place, left, replies_of, times};
 ghost use Rattle.zeus_model.specs.State.{copy, entry};
 ghost use Rattle.zeus_model.specs.World.{Event, events, happens, node, run, start};
 ghost use Rattle.zeus_model.specs.declared.answer.Answer.TheVariants.{Receive};
@@ -74,7 +75,8 @@ pub fn every_run_is_sound()
         → let w = run (start c txs) steps in (x : ℕ) → x < length c.objects → IsLatest w x }
 
     // The live nodes that have a copy of an object are exactly the live nodes of its latest placement.
-    ensures copies_where_placed { (c : Config) (txs : List TxDecl) (steps : List Step) → KeepsLimits c → FitsTxs c txs → All (FitsStep c (length txs)) steps
+    ensures copies_where_placed { (c : Config) (txs : List TxDecl) (steps : List Step) → KeepsLimits c → FitsTxs c txs
+        → All (FitsStep c (length txs)) steps
         → let w = run (start c txs) steps in (x n : ℕ) → x < length c.objects → IsLive w n
         → (is_some (copy (node w n) x) ≡ true) ↔ (has n (latest_place w x).replicas ≡ true) }
 
@@ -105,11 +107,13 @@ pub fn every_run_tells_its_history()
 
     // A transaction has its point at the step that tells it.
     ensures point_steps { (c : Config) (txs : List TxDecl) (steps : List Step) → KeepsLimits c → FitsTxs c txs → All (FitsStep c (length txs)) steps
-        → (id k : ℕ) → ((record_of (run (start c txs) steps).book id).point ≡ Some k) ↔ ((e : Event) × Does (start c txs) steps k e × In id e.points) }
+        → (id k : ℕ) → ((record_of (run (start c txs) steps).book id).point ≡ Some k)
+        ↔ ((e : Event) × Does (start c txs) steps k e × In id e.points) }
 
     // A transaction is acknowledged at the step that tells it.
     ensures ack_steps { (c : Config) (txs : List TxDecl) (steps : List Step) → KeepsLimits c → FitsTxs c txs → All (FitsStep c (length txs)) steps
-        → (id k : ℕ) → ((record_of (run (start c txs) steps).book id).acked ≡ Some k) ↔ ((e : Event) × Does (start c txs) steps k e × In id e.acked) }
+        → (id k : ℕ) → ((record_of (run (start c txs) steps).book id).acked ≡ Some k)
+        ↔ ((e : Event) × Does (start c txs) steps k e × In id e.acked) }
 
     // No acknowledgement is told twice.
     ensures acked_once { (c : Config) (txs : List TxDecl) (steps : List Step) → KeepsLimits c → FitsTxs c txs → All (FitsStep c (length txs)) steps

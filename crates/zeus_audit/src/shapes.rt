@@ -1,7 +1,8 @@
 //! The shapes of the lines that are read word by word.
 ghost use Rattle.std.specs.Prelude.{◌≡◌, ◌≤◌};
 ghost use Rattle.script_lang.specs.Reads.{Reads};
-ghost use Rattle.zeus_audit.specs.Shapes.{outcome_at, values_at, numbers_at, point_shape, ack_shape, history_shape, tx_state_of, state_shape, owner_at, replicas_at, object_shape, lost_shape, copy_state_of, copy_shape};
+ghost use Rattle.zeus_audit.specs.Shapes.{outcome_at, values_at, numbers_at, point_shape, ack_shape, history_shape, tx_state_of};
+ghost use Rattle.zeus_audit.specs.Shapes.{state_shape, owner_at, replicas_at, object_shape, lost_shape, copy_state_of, copy_shape};
 
 use script_lang::{NodeRule, Parts};
 use zeus_base::{NodeId, NodeSet, Value};

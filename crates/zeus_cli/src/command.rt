@@ -30,7 +30,8 @@ fn is_word(word: &String, wanted: &str) -> bool
 fn take_number(words: &[String], lowest: u64, most: u64) -> Option<(u64, &[String])>
     ensures taken { IfSome result (λ t. map string_bytes words.now ≡ decimal t.0 ∷ map string_bytes t.1.now) }
     ensures range { IfSome result (λ t. (lowest ≤ t.0) × (t.0 ≤ most)) }
-    ensures none { result ≡ None → (n : ℕ) → lowest ≤ n → n ≤ most → (rest : List (List ℕ)) → map string_bytes words.now ≢ decimal n ∷ rest }
+    ensures none { result ≡ None → (n : ℕ) → lowest ≤ n → n ≤ most → (rest : List (List ℕ))
+        → map string_bytes words.now ≢ decimal n ∷ rest }
 {
     let (word, rest) = words.split_first()?;
     let number = number_in(word.as_str(), lowest, most)?;

@@ -1,5 +1,6 @@
 // A source and a sink in memory whose calls fail by a list, for trying what happens then.
-ghost use Rattle.std.specs.Prelude.{◌≡◌, ◌↔◌, ◌⊎◌, ◌-◌, ◌<◌, ◌++◌, [], length, take, drop, min, Some, IfOk, OnErr, IsErr, IsTrue, Contains};
+ghost use Rattle.std.specs.Prelude.{◌≡◌, ◌↔◌, ◌⊎◌, ◌-◌, ◌<◌, ◌++◌, []};
+ghost use Rattle.std.specs.Prelude.{length, take, drop, min, Some, IfOk, OnErr, IsErr, IsTrue, Contains};
 ghost use Rattle.std.specs.Io.{ReadsAtMost, WritesAtMost};
 ghost use Rattle.std.specs.Io.KnownBytes.{ReadConsumes, WriteAppends};
 ghost use Rattle.zeus_io.specs.Bytes.{WritesInRoom};

@@ -1,11 +1,13 @@
 //! Leases while they run.
-ghost use Rattle.std.specs.Prelude.{◌≡◌, ◌<◌, ◌≤◌, ◌+◌, ◌*◌, ◌^◌, ℕ, suc, All, IfOk, OnErr, Some, None, nat_le, length, slice_get};
+ghost use Rattle.std.specs.Prelude.{◌≡◌, ◌<◌, ◌≤◌, ◌+◌, ◌*◌, ◌^◌};
+ghost use Rattle.std.specs.Prelude.{ℕ, suc, All, IfOk, OnErr, Some, None, nat_le, length, slice_get};
 ghost use Rattle.zeus_base.specs.Nodes.{has};
 ghost use Rattle.zeus_base.specs.declared.step.Step.TheVariants.{View as ViewStep};
 ghost use Rattle.zeus_model.specs.Tables.{nth};
 ghost use Rattle.zeus_model.specs.World.{happens as world_does, last_view};
 ghost use Rattle.zeus_lease.specs.Kept.{IsKept, shown};
-ghost use Rattle.zeus_lease.specs.Machine.{act, act_by, ask, happens, hear, is_below_end, is_skewed, later, may_act, no_node, node, pass_or_not, seen, skew, skewed_beside, start, stepped, take, take_by, view, wait, went_on};
+ghost use Rattle.zeus_lease.specs.Machine.{act, act_by, ask, happens, hear, is_below_end, is_skewed, later, may_act, no_node, node};
+ghost use Rattle.zeus_lease.specs.Machine.{pass_or_not, seen, skew, skewed_beside, start, stepped, take, take_by, view, wait, went_on};
 ghost use Rattle.zeus_lease.specs.Scripts.{FitsNumbers, FitsStep};
 ghost use Rattle.zeus_lease.specs.declared.answer.LeaseAnswer.TheVariants.{Skewed};
 
@@ -226,7 +228,8 @@ impl State {
     fn hear(&mut self, number: u32) -> Result<LeaseAnswer, NoMemory>
         requires kept { IsKept (shown self.old) }
         requires few { self.old.steps < 50000 }
-        ensures did { IfOk result (λ a. record { machine = shown self.new; answer = a } ≡ hear (shown self.old) number (slice_get self.old.asks.items number)) }
+        ensures did { IfOk result (λ a. record { machine = shown self.new; answer = a }
+            ≡ hear (shown self.old) number (slice_get self.old.asks.items number)) }
         ensures err { OnErr result (shown self.new ≡ shown self.old) }
     {
         let Some(ask) = self.ask_at(number) else {

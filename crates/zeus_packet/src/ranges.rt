@@ -1,7 +1,8 @@
 //! Which letters keep the ranges of a configuration's limits.
 ghost use Rattle.std.specs.Prelude.{◌≡◌, ◌==◌, ◌<◌, ◌↔◌, IsTrue, All};
 ghost use Rattle.std.specs.List.{list_all, list_any};
-ghost use Rattle.zeus_packet.specs.Fits.{are_once, body_fits, cause_fits, content_fits, fits, inv_fits, nodes_fit, object_fits, place_fits, proposal_fits, stamp_fits, stream_fits, value_fits, want_fits, write_fits, writes_fit};
+ghost use Rattle.zeus_packet.specs.Fits.{are_once, body_fits, cause_fits, content_fits, fits, inv_fits, nodes_fit, object_fits};
+ghost use Rattle.zeus_packet.specs.Fits.{place_fits, proposal_fits, stamp_fits, stream_fits, value_fits, want_fits, write_fits, writes_fit};
 
 use crate::letter::{Body, Cause, Letter, RInv};
 use crate::place::{Place, Proposal, Want};

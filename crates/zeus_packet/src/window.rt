@@ -1,5 +1,6 @@
 //! Lists of at most 16 items that grow at their end and are taken from at their front.
-ghost use Rattle.std.specs.Prelude.{◌≡◌, ◌<◌, ◌≤◌, ◌↔◌, [], ◌∷◌, ◌++◌, IfErr, IfOk, IsOk, OnOk, drop, length, option_copied, slice_get, slice_set};
+ghost use Rattle.std.specs.Prelude.{◌≡◌, ◌<◌, ◌≤◌, ◌↔◌, [], ◌∷◌, ◌++◌};
+ghost use Rattle.std.specs.Prelude.{IfErr, IfOk, IsOk, OnOk, drop, length, option_copied, slice_get, slice_set};
 ghost use Rattle.std.specs.Borrow.{LendsSo, sem};
 ghost use Rattle.std.specs.Option.{OnSome, option_copied_mut};
 
@@ -38,7 +39,9 @@ pub trait Window<T> {
 
     /// The item at this place from 0, to write to; none exactly past the end. All other items stay.
     fn get_mut(&mut self, place: u32) -> Option<&mut T>
-        ensures* writes_back { sem 𝓛 (LendsSo Self.row T.row self.entry result (λ n w. OnSome result (items n ≡ slice_set (items self.old) place w)) (λ n. items n ≡ items self.old)) }
+        ensures* writes_back { sem 𝓛 (LendsSo Self.row T.row self.entry result
+            (λ n w. OnSome result (items n ≡ slice_set (items self.old) place w))
+            (λ n. items n ≡ items self.old)) }
         ensures value { option_copied_mut result ≡ slice_get (items self.old) place };
 
     /// How many items there are.

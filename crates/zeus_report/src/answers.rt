@@ -1,6 +1,7 @@
 //! What steps answer.
 ghost use Rattle.std.specs.Prelude.{◌≡◌, ◌++◌, OnOk};
-ghost use Rattle.zeus_model.specs.ReportWords.{begin_text, tried_text, received_text, ticked_text, stopped_text, made_text, installed_text, answer_text, tx_state_text};
+ghost use Rattle.zeus_model.specs.ReportWords.{begin_text, tried_text, received_text, ticked_text, stopped_text};
+ghost use Rattle.zeus_model.specs.ReportWords.{made_text, installed_text, answer_text, tx_state_text};
 
 use crate::letters::write_cause;
 use crate::words::{state_text, write_stamped};

@@ -1,7 +1,8 @@
 //! What packets say.
 ghost use Rattle.std.specs.Prelude.{◌≡◌, ◌++◌, OnOk};
 ghost use Rattle.zeus_model.specs.ReportText.{packet_lines};
-ghost use Rattle.zeus_model.specs.ReportWords.{number, named_object, stream_text, cause_text, writes_text, want_text, place_text, proposal_text, content_text, body_text};
+ghost use Rattle.zeus_model.specs.ReportWords.{number, named_object, stream_text, cause_text, writes_text};
+ghost use Rattle.zeus_model.specs.ReportWords.{want_text, place_text, proposal_text, content_text, body_text};
 ghost use Rattle.zeus_model.specs.Spelling.{word};
 ghost use Rattle.zeus_report.specs.Lines.{packet_line, write_text};
 

@@ -1,6 +1,7 @@
 //! How a world stands at the end: its history, its transactions, its objects and their copies.
 ghost use Rattle.std.specs.Prelude.{◌≡◌, ◌<◌, ◌≤◌, ◌++◌, OnOk, Some, length};
-ghost use Rattle.zeus_model.specs.ReportText.{points_text, history_line, tx_state_lines, copy_line, copy_lines, holders_text, object_text, objects_text, final_text};
+ghost use Rattle.zeus_model.specs.ReportText.{points_text, history_line, tx_state_lines, copy_line, copy_lines};
+ghost use Rattle.zeus_model.specs.ReportText.{holders_text, object_text, objects_text, final_text};
 ghost use Rattle.zeus_model.specs.ReportWords.{number};
 ghost use Rattle.zeus_model.specs.Readers.{live_among};
 ghost use Rattle.zeus_model.specs.Tables.{below};

@@ -1,7 +1,8 @@
 //! What a letter says, by its tag.
 ghost use Rattle.std.specs.Prelude.{◌≡◌, ◌≤◌};
 ghost use Rattle.zeus_wire.specs.Ranges.{AreLimits};
-ghost use Rattle.zeus_wire.specs.Reading.{IsRead, body_at, body_behind, cause_at, cause_behind, held_at, inv_at, kept_at, not_valid_at, oack_at, oinv_at, onack_at, oreq_at, oval_at, plain_cause, proposed_at, rack_at, rinv_at, rval_at, state_at, state_of};
+ghost use Rattle.zeus_wire.specs.Reading.{IsRead, body_at, body_behind, cause_at, cause_behind, held_at, inv_at, kept_at, not_valid_at, oack_at, oinv_at};
+ghost use Rattle.zeus_wire.specs.Reading.{onack_at, oreq_at, oval_at, plain_cause, proposed_at, rack_at, rinv_at, rval_at, state_at, state_of};
 
 use crate::fault::Fault;
 use crate::reading::fields::{

@@ -3,7 +3,8 @@ ghost use Rattle.std.specs.Prelude.{◌≡◌, ◌≤◌, ◌<◌};
 ghost use Rattle.zeus_base.specs.Bits.{nodes_of};
 ghost use Rattle.zeus_packet.specs.Fits.{nodes_fit};
 ghost use Rattle.zeus_wire.specs.Ranges.{AreLimits};
-ghost use Rattle.zeus_wire.specs.Reading.{IsRead, has_leaver, leaver_of, may_own, node_at, object_at, place_at, proposal_at, set_at, slot_at, stamp_at, stream_at, want_at, want_of};
+ghost use Rattle.zeus_wire.specs.Reading.{IsRead, has_leaver, leaver_of, may_own, node_at, object_at, place_at};
+ghost use Rattle.zeus_wire.specs.Reading.{proposal_at, set_at, slot_at, stamp_at, stream_at, want_at, want_of};
 
 use crate::fault::Fault;
 use crate::reading::input::Input;

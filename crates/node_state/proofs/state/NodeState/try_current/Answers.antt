@@ -32,11 +32,12 @@ invariant_of-self c =
     let there = rw (← c.self.view_is) at c.requires in
     let own = rw c.place.ensures at c.index_mut-own.ensures.value in
     let at = is_node_at n c.self.inside.copies c.args.slot _ there own refl c.self.invariant.held in
+    let does = c.try_current.ensures.does n at in
     let m = with_tables n c.args.slot c.try_current.new.copies.copies c.try_current.new.self in
     rw c.place.ensures
     (IsKept-becomes c.self.inside _ m (tables_put n c.args.slot _ _ there) refl refl c.self.invariant
-    (tried_ranges (limits_of n) n c.args.slot _ m there (c.try_current.ensures.tried n at) c.self.invariant.ranges)
-    (c.try_current.ensures.held n at))
+    (tried_ranges (limits_of n) n c.args.slot _ m there does.tried c.self.invariant.ranges)
+    does.held)
 
 pub returns : goal.returns
 returns c =
@@ -44,4 +45,4 @@ returns c =
     let there = rw (← c.self.view_is) at c.requires in
     let own = rw c.place.ensures at c.index_mut-own.ensures.value in
     let at = is_node_at n c.self.inside.copies c.args.slot _ there own refl c.self.invariant.held in
-    rw (← c.self.view_is, c.place.ensures, tables_put n c.args.slot c.try_current.new.copies.copies c.try_current.new.self there) (c.try_current.ensures.tried n at)
+    rw (← c.self.view_is, c.place.ensures, tables_put n c.args.slot c.try_current.new.copies.copies c.try_current.new.self there) (c.try_current.ensures.does n at).tried
