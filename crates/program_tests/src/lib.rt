@@ -1,4 +1,4 @@
-//! Tests of the whole program: what it answers and writes for words and input.
+//! Tests of storms, leases and audits: what the program answers and writes for each.
 #![tactic(auto)]
 
 #[cfg(test)]

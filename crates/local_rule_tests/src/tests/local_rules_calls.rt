@@ -7,6 +7,7 @@ ghost use Rattle.zeus_txn.specs.Tx.{IsTx};
 
 use local_rules::{Begin, Effect, NodeState, Tried, begin, try_slot};
 use std::alloc::{AllocError, Global};
+use std::process::Abort;
 use std::test::Fail;
 use zeus_base::{Config, NodeId, NodeSet, ObjId, ObjectDecl, ObjectList, SlotId, TxId, Value};
 use zeus_packet::{Body, Letter, Want};
@@ -76,6 +77,52 @@ fn transaction(alloc: Global, ops: &[Op]) -> Option<Tx>
     }
 }
 
+/// Node `me`, whose slot has begun transaction 7 with these operations.
+fn begun(
+    rt: &impl Abort,
+    alloc: Global,
+    degree: Option<u8>,
+    me: NodeId,
+    ops: &[Op],
+) -> Result<NodeState, Fail>
+    requires degree { IfSome degree (λ d. (1 ≤ d) × (d ≤ 8)) }
+    requires me { me < 2 }
+    ensures { IfOk result (λ node. length node.slots ≡ 1) }
+{
+    let mut node = start(alloc, degree, me)?;
+    let tx = transaction(alloc, ops).expect(rt, "a transaction");
+    assert_eq!(rt; begin(&mut node, SLOT, TxId(7), &tx), Begin::Begun);
+    assert!(rt; node.slot_count() == 1);
+    Ok(node)
+}
+
+/// A node that has tried its slot, with what it answered and what it sent.
+#[derive(Drop)]
+struct Trial {
+    node: NodeState,
+    out: Effect,
+    tried: Tried,
+}
+
+/// Node `me` begins transaction 7 with these operations and tries it.
+fn first_try(
+    rt: &impl Abort,
+    alloc: Global,
+    degree: Option<u8>,
+    me: NodeId,
+    ops: &[Op],
+) -> Result<Trial, Fail>
+    requires degree { IfSome degree (λ d. (1 ≤ d) × (d ≤ 8)) }
+    requires me { me < 2 }
+    ensures { IfOk result (λ trial. length trial.node.slots ≡ 1) }
+{
+    let mut out = Effect::new(alloc)?;
+    let mut node = begun(rt, alloc, degree, me, ops)?;
+    let tried = try_slot(&mut node, SLOT, &mut out);
+    assert!(rt; node.slot_count() == 1);
+    Ok(Trial { node, out, tried })
+}
+
 /// The first letter asks node 0 for the object.
 fn asks(letters: &[Letter], object: ObjId, want: Want) -> bool {
     match letters.first() {
@@ -89,68 +136,44 @@ fn asks(letters: &[Letter], object: ObjId, want: Want) -> bool {
 
 #[test]
 fn an_owner_commits_and_tells_its_follower(rt: HostRuntime) -> Result<(), Fail> {
-    let alloc = rt.alloc();
-    let mut node = start(alloc, None, NodeId(0))?;
-    let mut out = Effect::new(alloc)?;
-    let tx = transaction(alloc, &[Op::Add(X, 3)]).expect(&rt, "a transaction");
-    assert_eq!(rt; begin(&mut node, SLOT, TxId(7), &tx), Begin::Begun);
-    assert!(rt; node.slot_count() == 1);
-    let tried = try_slot(&mut node, SLOT, &mut out);
-    assert!(rt; matches!(tried, Tried::Committed(TxId(7), 0, _)));
-    let to = out.sent.as_slice().first().map(|letter| letter.to);
+    let mut trial = first_try(&rt, rt.alloc(), None, NodeId(0), &[Op::Add(X, 3)])?;
+    assert!(rt; matches!(trial.tried, Tried::Committed(TxId(7), 0, _)));
+    let to = trial.out.sent.as_slice().first().map(|letter| letter.to);
     assert_eq!(rt; to, Some(NodeId(1)));
-    assert_eq!(rt; out.sent.len(), 1);
-    assert_eq!(rt; out.passed.len(), 0);
-    out.clear();
-    assert!(rt; node.slot_count() == 1);
-    assert!(rt; matches!(try_slot(&mut node, SLOT, &mut out), Tried::Nothing));
+    assert_eq!(rt; trial.out.sent.len(), 1);
+    assert_eq!(rt; trial.out.passed.len(), 0);
+    trial.out.clear();
+    let again = try_slot(&mut trial.node, SLOT, &mut trial.out);
+    assert!(rt; matches!(again, Tried::Nothing));
     Ok(())
 }
 
 #[test]
 fn a_node_asks_for_what_it_does_not_own(rt: HostRuntime) -> Result<(), Fail> {
-    let alloc = rt.alloc();
-    let mut node = start(alloc, None, NodeId(1))?;
-    let mut out = Effect::new(alloc)?;
-    let tx = transaction(alloc, &[Op::Add(X, 3)]).expect(&rt, "a transaction");
-    assert_eq!(rt; begin(&mut node, SLOT, TxId(7), &tx), Begin::Begun);
-    assert!(rt; node.slot_count() == 1);
-    assert!(rt; matches!(try_slot(&mut node, SLOT, &mut out), Tried::NotOwner(X)));
-    assert!(rt; asks(out.sent.as_slice(), X, Want::Own));
-    assert!(rt; node.slot_count() == 1);
-    assert!(rt; node.current(SLOT).is_some());
+    let trial = first_try(&rt, rt.alloc(), None, NodeId(1), &[Op::Add(X, 3)])?;
+    assert!(rt; matches!(trial.tried, Tried::NotOwner(X)));
+    assert!(rt; asks(trial.out.sent.as_slice(), X, Want::Own));
+    assert!(rt; trial.node.current(SLOT).is_some());
     Ok(())
 }
 
 #[test]
 fn a_read_without_a_copy_is_refused(rt: HostRuntime) -> Result<(), Fail> {
-    let alloc = rt.alloc();
-    let mut node = start(alloc, None, NodeId(1))?;
-    let mut out = Effect::new(alloc)?;
-    let tx = transaction(alloc, &[Op::Get(X), Op::Get(Y)]).expect(&rt, "a transaction");
-    assert_eq!(rt; begin(&mut node, SLOT, TxId(7), &tx), Begin::Begun);
-    assert!(rt; node.slot_count() == 1);
-    let tried = try_slot(&mut node, SLOT, &mut out);
-    assert!(rt; matches!(tried, Tried::NoCopy(TxId(7), Y)));
-    assert_eq!(rt; out.sent.len(), 0);
-    assert!(rt; node.slot_count() == 1);
-    assert!(rt; node.current(SLOT).is_none());
+    let ops = [Op::Get(X), Op::Get(Y)];
+    let trial = first_try(&rt, rt.alloc(), None, NodeId(1), &ops)?;
+    assert!(rt; matches!(trial.tried, Tried::NoCopy(TxId(7), Y)));
+    assert_eq!(rt; trial.out.sent.len(), 0);
+    assert!(rt; trial.node.current(SLOT).is_none());
     Ok(())
 }
 
 #[test]
 fn with_a_degree_it_asks_for_copies(rt: HostRuntime) -> Result<(), Fail> {
-    let alloc = rt.alloc();
-    let mut node = start(alloc, Some(1), NodeId(1))?;
-    let mut out = Effect::new(alloc)?;
-    let tx = transaction(alloc, &[Op::Get(X), Op::Get(Y)]).expect(&rt, "a transaction");
-    assert_eq!(rt; begin(&mut node, SLOT, TxId(7), &tx), Begin::Begun);
-    assert!(rt; node.slot_count() == 1);
-    let tried = try_slot(&mut node, SLOT, &mut out);
-    assert!(rt; matches!(tried, Tried::NoCopy(TxId(7), Y)));
-    assert!(rt; asks(out.sent.as_slice(), Y, Want::Read));
-    assert_eq!(rt; out.sent.len(), 1);
-    assert!(rt; node.slot_count() == 1);
-    assert!(rt; node.current(SLOT).is_some());
+    let ops = [Op::Get(X), Op::Get(Y)];
+    let trial = first_try(&rt, rt.alloc(), Some(1), NodeId(1), &ops)?;
+    assert!(rt; matches!(trial.tried, Tried::NoCopy(TxId(7), Y)));
+    assert!(rt; asks(trial.out.sent.as_slice(), Y, Want::Read));
+    assert_eq!(rt; trial.out.sent.len(), 1);
+    assert!(rt; trial.node.current(SLOT).is_some());
     Ok(())
 }

@@ -1,6 +1,6 @@
 //! Audits of a worked run and its report, as they stand and with a line injured.
-use super::examples::{TWO_NODES, TWO_NODES_REPORT};
 use super::words;
+use example_reports::{TWO_NODES, TWO_NODES_REPORT};
 use std::test::Fail;
 use zeus_cli::zeus_top;
 use zeus_io::{SafeSink, SafeSource, Status};

@@ -1,6 +1,8 @@
 //! The scripts of `examples/`, and the whole reports that they have, from an independent program.
+#![tactic(auto)]
 
-pub(super) const LATE_VALIDATION: &str = "\
+/// The script `examples/late-validation.zeus`.
+pub const LATE_VALIDATION: &str = "\
 zeus 1\n\
 nodes 2\n\
 slots 1\n\
@@ -21,7 +23,8 @@ try 1 0\n\
 end\n\
 ";
 
-pub(super) const LATE_VALIDATION_REPORT: &str = "\
+/// What a run of `LATE_VALIDATION` prints.
+pub const LATE_VALIDATION_REPORT: &str = "\
 report 1\n\
 0 begin 0 = begun\n\
 1 try 0 0 = committed 0\n\
@@ -49,7 +52,8 @@ copy x 1 valid 1 8\n\
 end\n\
 ";
 
-pub(super) const ONE_NODE: &str = "\
+/// The script `examples/one-node.zeus`.
+pub const ONE_NODE: &str = "\
 zeus 1\n\
 nodes 1\n\
 slots 1\n\
@@ -62,7 +66,8 @@ try 0 0\n\
 end\n\
 ";
 
-pub(super) const ONE_NODE_REPORT: &str = "\
+/// What a run of `ONE_NODE` prints.
+pub const ONE_NODE_REPORT: &str = "\
 report 1\n\
 0 begin 0 = begun\n\
 1 try 0 0 = committed 0\n\
@@ -75,7 +80,8 @@ copy x 0 valid 1 8\n\
 end\n\
 ";
 
-pub(super) const OWNERSHIP_MOVES: &str = "\
+/// The script `examples/ownership-moves.zeus`.
+pub const OWNERSHIP_MOVES: &str = "\
 zeus 1\n\
 nodes 3\n\
 slots 1\n\
@@ -94,7 +100,8 @@ try 2 0\n\
 end\n\
 ";
 
-pub(super) const OWNERSHIP_MOVES_REPORT: &str = "\
+/// What a run of `OWNERSHIP_MOVES` prints.
+pub const OWNERSHIP_MOVES_REPORT: &str = "\
 report 1\n\
 0 begin 0 = begun\n\
 1 try 2 0 = not owner x\n\
@@ -121,7 +128,8 @@ copy x 2 write 1 6\n\
 end\n\
 ";
 
-pub(super) const READER_COMES_AND_GOES: &str = "\
+/// The script `examples/reader-comes-and-goes.zeus`.
+pub const READER_COMES_AND_GOES: &str = "\
 zeus 1\n\
 nodes 3\n\
 slots 1\n\
@@ -146,7 +154,8 @@ deliver 2 0 2\n\
 end\n\
 ";
 
-pub(super) const READER_COMES_AND_GOES_REPORT: &str = "\
+/// What a run of `READER_COMES_AND_GOES` prints.
+pub const READER_COMES_AND_GOES_REPORT: &str = "\
 report 1\n\
 0 begin 0 = begun\n\
 1 try 2 0 = no copy x\n\
@@ -180,7 +189,8 @@ copy x 1 valid 0 5\n\
 end\n\
 ";
 
-pub(super) const REPEATED_PACKETS: &str = "\
+/// The script `examples/repeated-packets.zeus`.
+pub const REPEATED_PACKETS: &str = "\
 zeus 1\n\
 nodes 2\n\
 slots 1\n\
@@ -199,7 +209,8 @@ deliver 1 0 1\n\
 end\n\
 ";
 
-pub(super) const REPEATED_PACKETS_REPORT: &str = "\
+/// What a run of `REPEATED_PACKETS` prints.
+pub const REPEATED_PACKETS_REPORT: &str = "\
 report 1\n\
 0 begin 0 = begun\n\
 1 try 0 0 = committed 0\n\
@@ -224,7 +235,8 @@ copy x 1 invalid 1 8\n\
 end\n\
 ";
 
-pub(super) const SECOND_ENTRY_FIRST: &str = "\
+/// The script `examples/second-entry-first.zeus`.
+pub const SECOND_ENTRY_FIRST: &str = "\
 zeus 1\n\
 nodes 2\n\
 slots 1\n\
@@ -245,7 +257,8 @@ deliver 1 0 0\n\
 end\n\
 ";
 
-pub(super) const SECOND_ENTRY_FIRST_REPORT: &str = "\
+/// What a run of `SECOND_ENTRY_FIRST` prints.
+pub const SECOND_ENTRY_FIRST_REPORT: &str = "\
 report 1\n\
 0 begin 0 = begun\n\
 1 try 0 0 = committed 0\n\
@@ -274,7 +287,8 @@ copy x 1 invalid 2 9\n\
 end\n\
 ";
 
-pub(super) const SURVIVOR_REPLAYS: &str = "\
+/// The script `examples/survivor-replays.zeus`.
+pub const SURVIVOR_REPLAYS: &str = "\
 zeus 1\n\
 nodes 3\n\
 slots 1\n\
@@ -303,7 +317,8 @@ try 1 0\n\
 end\n\
 ";
 
-pub(super) const SURVIVOR_REPLAYS_REPORT: &str = "\
+/// What a run of `SURVIVOR_REPLAYS` prints.
+pub const SURVIVOR_REPLAYS_REPORT: &str = "\
 report 1\n\
 0 begin 0 = begun\n\
 1 try 0 0 = committed 0\n\
@@ -346,7 +361,8 @@ copy x 2 valid 1 6\n\
 end\n\
 ";
 
-pub(super) const TEXTS_AS_VALUES: &str = "\
+/// The script `examples/texts-as-values.zeus`.
+pub const TEXTS_AS_VALUES: &str = "\
 zeus 2\n\
 nodes 2\n\
 slots 1\n\
@@ -364,7 +380,8 @@ deliver 1 0 0\n\
 end\n\
 ";
 
-pub(super) const TEXTS_AS_VALUES_REPORT: &str = "\
+/// What a run of `TEXTS_AS_VALUES` prints.
+pub const TEXTS_AS_VALUES_REPORT: &str = "\
 report 2\n\
 0 begin 0 = begun\n\
 1 try 0 0 = committed 0\n\
@@ -388,7 +405,8 @@ copy x 1 invalid 1 'busy\n\
 end\n\
 ";
 
-pub(super) const TWO_DRIVERS: &str = "\
+/// The script `examples/two-drivers.zeus`.
+pub const TWO_DRIVERS: &str = "\
 zeus 1\n\
 nodes 4\n\
 slots 1\n\
@@ -417,7 +435,8 @@ deliver 0 1 0\n\
 end\n\
 ";
 
-pub(super) const TWO_DRIVERS_REPORT: &str = "\
+/// What a run of `TWO_DRIVERS` prints.
+pub const TWO_DRIVERS_REPORT: &str = "\
 report 1\n\
 0 begin 0 = begun\n\
 1 try 0 0 = not owner x\n\
@@ -464,7 +483,8 @@ copy x 3 valid 0 5\n\
 end\n\
 ";
 
-pub(super) const TWO_NODES: &str = "\
+/// The script `examples/two-nodes.zeus`.
+pub const TWO_NODES: &str = "\
 zeus 1\n\
 nodes 2\n\
 slots 1\n\
@@ -483,7 +503,8 @@ try 1 0\n\
 end\n\
 ";
 
-pub(super) const TWO_NODES_REPORT: &str = "\
+/// What a run of `TWO_NODES` prints.
+pub const TWO_NODES_REPORT: &str = "\
 report 1\n\
 0 begin 0 = begun\n\
 1 try 0 0 = committed 0\n\
@@ -508,8 +529,8 @@ copy x 1 valid 1 8\n\
 end\n\
 ";
 
-// No transaction and no step.
-pub(super) const NO_STEP: &str = "\
+/// A script of no transaction and no step.
+pub const NO_STEP: &str = "\
 zeus 1\n\
 nodes 2\n\
 slots 1\n\
@@ -519,8 +540,8 @@ run\n\
 end\n\
 ";
 
-// What a run of it prints.
-pub(super) const NO_STEP_REPORT: &str = "\
+/// What a run of `NO_STEP` prints.
+pub const NO_STEP_REPORT: &str = "\
 report 1\n\
 history\n\
 object x 0 0,1\n\

@@ -1,3 +1,2 @@
 mod script_lang_calls;
-mod zeus_lease_calls;
 mod zeus_text_calls;

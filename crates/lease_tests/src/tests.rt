@@ -1,0 +1,1 @@
+mod zeus_lease_calls;
