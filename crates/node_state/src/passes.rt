@@ -40,6 +40,9 @@ impl NodeState {
         ensures acted { IsActed (advance_kept self.old stream.now) self.new out.old out.new }
         ensures limits { limits_of self.new ≡ limits_of self.old }
     {
+        let Some(_first) = self.stored(*stream, 0) else {
+            return;
+        };
         let advance = self.advance_kept(*stream);
         self.tell(stream, &advance, out);
     }

@@ -1,5 +1,9 @@
-use Rattle.node_state.proofs.Passing.{passes-kept}
+use Rattle.std.proofs.Common.{sym}
+use Rattle.node_state.proofs.Passing.{passes-kept, passes-none}
 use Rattle.node_state.proofs.state.NodeState.pass_kept.Goals as goal
+
+pub returns-in_default-clause-acted : goal.returns-in_default-clause-acted
+returns-in_default-clause-acted c = passes-none c.args.self.now c.args.stream.now c.args.out.now (sym c.in_default.ensures) c.requires.sent
 
 pub returns-clause-acted : goal.returns-clause-acted
 returns-clause-acted c =
