@@ -4,6 +4,8 @@ use Rattle.std.specs.List.{filter}
 use Rattle.std.proofs.lemmas.Bool.Decides.{nat_tests}
 use Rattle.std.proofs.lemmas.List.{append-nil}
 use Rattle.std.proofs.lemmas.List.Elements.{filter-append}
+use Rattle.zeus_base.proofs.NodeBits.{IsNodeSet-nodes_of}
+use Rattle.zeus_base.specs.Bits.{bits_of, nodes_of}
 use Rattle.zeus_base.specs.Nodes.{has, with_node, without, meet}
 use Rattle.zeus_base.specs.NodeLaws.{IsNodeSet, has-with_node, length-below}
 use Rattle.zeus_model.specs.declared.state.Pending.{Pending}
@@ -166,6 +168,10 @@ length-sends_of number (p ∷ ps) h =
 -- a set of nodes has at most 8 of them
 pub few_nodes : (ns : List ℕ) → IsNodeSet ns → length ns ≤ 8
 few_nodes ns h = omega (arith, length-below 0 8 ns h.rising h.below (omega arith))
+
+-- what a byte shows has at most 8 nodes
+pub few_shown : (ns : List ℕ) → nodes_of (bits_of ns) ≡ ns → length ns ≤ 8
+few_shown ns shown = few_nodes ns (rw (← shown) (IsNodeSet-nodes_of (bits_of ns)))
 
 -- if an entry with at most 8 followers comes behind such entries, then all have at most 8
 pub HaveFewFollowers-append : (ps : List Pending) (p : Pending) → HaveFewFollowers ps → length p.followers ≤ 8 → HaveFewFollowers (ps ++ p ∷ [])

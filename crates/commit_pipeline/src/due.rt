@@ -52,8 +52,6 @@ impl DueList {
         ensures added { self.new ≡ self.old ++ sends number (apart followers acks) }
         ensures few { length followers ≤ 8 }
     {
-        // The contract of the count says that a set has at most 8 nodes, and so that there is room.
-        let _ = followers.count();
         for node in followers {
             if !acks.has(node) {
                 self.sends.push_reserved(Due { number, to: node });

@@ -1,6 +1,6 @@
 use Rattle.std.proofs.Common.{◌≡◌, ◌+◌, [], ◌∷◌, ◌∙◌, true, false, length, refl, sym, length-append, arith}
 use Rattle.zeus_base.specs.Nodes.{has}
-use Rattle.commit_pipeline.proofs.Sends.{few_nodes, sends-acked, sends-lacking, sends-none}
+use Rattle.commit_pipeline.proofs.Sends.{few_shown, sends-acked, sends-lacking, sends-none}
 use Rattle.commit_pipeline.proofs.due.DueList.add.Goals as goal
 
 pub loop-node-preserved-then-not-has : goal.loop-node-preserved-then-not-has
@@ -29,7 +29,7 @@ loop-node-preserved c =
 
 pub loop-node-init : goal.loop-node-init
 loop-node-init c =
-    let few = few_nodes c.args.followers c.count.ensures.set in
+    let few = few_shown c.args.followers c.well_formed.1.1.0.1.0.0 in
     let room = rw (← c.self.view_is) at c.requires in
     record {
       items = rw c.into_iter-node-iterator.ensures.into_iter_gives refl;
@@ -38,7 +38,7 @@ loop-node-init c =
     }
 
 pub returns-clause-few : goal.returns-clause-few
-returns-clause-few c = few_nodes c.args.followers c.count.ensures.set
+returns-clause-few c = few_shown c.args.followers c.well_formed.1.1.0.1.0.0
 
 pub returns-clause-added : goal.returns-clause-added
 returns-clause-added c =
