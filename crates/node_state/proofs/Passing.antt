@@ -1,5 +1,5 @@
 -- A stream that advances, with what is told and noted of it.
-use Rattle.std.proofs.Common.{ℕ, ◌≡◌, ◌<◌, ◌≤◌, List, [], ◌∷◌, Option, None, length, refl, ap}
+use Rattle.std.proofs.Common.{ℕ, ◌≡◌, ◌<◌, ◌≤◌, List, [], ◌∷◌, None, length, refl, ap}
 use Rattle.std.specs.Prelude.{slice_get}
 use Rattle.zeus_base.specs.declared.order.Stream.{Stream}
 use Rattle.zeus_packet.specs.declared.letter.Body.TheVariants.{RVal}
