@@ -22,9 +22,15 @@ fn a_script_has_no_explanation(rt: HostRuntime) -> Result<(), Fail> {
 #[test]
 fn a_line_that_does_not_fit_its_place_is_told(rt: HostRuntime) -> Result<(), Fail> {
     for (lines, wanted) in [
-        ("", "line 6, \"\": the input ends here; wanted: object tx run\n"),
+        (
+            "",
+            "line 6, \"\": the input ends here; wanted: object tx run\n",
+        ),
         ("run", "line 6, \"run\": no line feed ends this line\n"),
-        ("run\nend\nmore\n", "line 8, \"more\": nothing may follow the line 'end'\n"),
+        (
+            "run\nend\nmore\n",
+            "line 8, \"more\": nothing may follow the line 'end'\n",
+        ),
         (
             "run\nwalk\n",
             "line 7, \"walk\": the word \"walk\" does not fit; wanted: end begin try deliver tick stop view install\n",
@@ -43,13 +49,34 @@ fn a_line_that_does_not_fit_its_place_is_told(rt: HostRuntime) -> Result<(), Fai
 #[test]
 fn a_wrong_word_is_named(rt: HostRuntime) -> Result<(), Fail> {
     for (lines, front) in [
-        ("object y ' 0\n", "line 6, \"object y ' 0\": the word \"'\" has no text "),
-        ("tx 00 0 get x\n", "line 6, \"tx 00 0 get x\": the word \"00\" is no number: "),
-        ("run\nbegin 0\n", "line 7, \"begin 0\": the word \"0\" is out of its range; wanted: begin TX\n"),
-        ("object 1y 5 0\n", "line 6, \"object 1y 5 0\": the word \"1y\" is no name: "),
-        ("object y 5 1 1\n", "line 6, \"object y 5 1 1\": the word \"1\" comes a second time"),
-        ("tx 0 0 get y\n", "line 6, \"tx 0 0 get y\": the word \"y\" is the name of no object"),
-        ("run\ntry  0\n", "line 7, \"try  0\": the word \"\" is no number: "),
+        (
+            "object y ' 0\n",
+            "line 6, \"object y ' 0\": the word \"'\" has no text ",
+        ),
+        (
+            "tx 00 0 get x\n",
+            "line 6, \"tx 00 0 get x\": the word \"00\" is no number: ",
+        ),
+        (
+            "run\nbegin 0\n",
+            "line 7, \"begin 0\": the word \"0\" is out of its range; wanted: begin TX\n",
+        ),
+        (
+            "object 1y 5 0\n",
+            "line 6, \"object 1y 5 0\": the word \"1y\" is no name: ",
+        ),
+        (
+            "object y 5 1 1\n",
+            "line 6, \"object y 5 1 1\": the word \"1\" comes a second time",
+        ),
+        (
+            "tx 0 0 get y\n",
+            "line 6, \"tx 0 0 get y\": the word \"y\" is the name of no object",
+        ),
+        (
+            "run\ntry  0\n",
+            "line 7, \"try  0\": the word \"\" is no number: ",
+        ),
     ] {
         let text = behind_head(rt.alloc(), lines)?;
         assert!(rt; text.as_slice().starts_with(front.as_bytes()));
@@ -60,16 +87,46 @@ fn a_wrong_word_is_named(rt: HostRuntime) -> Result<(), Fail> {
 #[test]
 fn a_wrong_keyword_is_named_and_a_word_too_few_is_told(rt: HostRuntime) -> Result<(), Fail> {
     for (lines, front) in [
-        ("tx 0 0 gte x\n", "line 6, \"tx 0 0 gte x\": the word \"gte\" does not fit; wanted: tx NODE SLOT"),
-        ("tx 0 0 get x , get x\n", "line 6, \"tx 0 0 get x , get x\": the word \",\" does not fit; wanted: tx NODE SLOT"),
-        ("tx 0 0 get x ; sub x\n", "line 6, \"tx 0 0 get x ; sub x\": the word \"sub\" does not fit; wanted: tx NODE SLOT"),
-        ("tx 0 0 after get x\n", "line 6, \"tx 0 0 after get x\": the word \"get\" is no number: "),
-        ("tx 0 0 get x ;\n", "line 6, \"tx 0 0 get x ;\": the end of the line does not fit; wanted: tx NODE SLOT"),
-        ("tx 0 0\n", "line 6, \"tx 0 0\": the end of the line does not fit; wanted: tx NODE SLOT"),
-        ("tx\n", "line 6, \"tx\": the end of the line does not fit; wanted: tx NODE SLOT"),
-        ("run 1\n", "line 6, \"run 1\": the word \"1\" does not fit; wanted: run alone\n"),
-        ("run\ntick 0 0\n", "line 7, \"tick 0 0\": the word \"0\" does not fit; wanted: tick NODE\n"),
-        ("run\ninstall 0\n", "line 7, \"install 0\": the end of the line does not fit; wanted: install NODE EPOCH\n"),
+        (
+            "tx 0 0 gte x\n",
+            "line 6, \"tx 0 0 gte x\": the word \"gte\" does not fit; wanted: tx NODE SLOT",
+        ),
+        (
+            "tx 0 0 get x , get x\n",
+            "line 6, \"tx 0 0 get x , get x\": the word \",\" does not fit; wanted: tx NODE SLOT",
+        ),
+        (
+            "tx 0 0 get x ; sub x\n",
+            "line 6, \"tx 0 0 get x ; sub x\": the word \"sub\" does not fit; wanted: tx NODE SLOT",
+        ),
+        (
+            "tx 0 0 after get x\n",
+            "line 6, \"tx 0 0 after get x\": the word \"get\" is no number: ",
+        ),
+        (
+            "tx 0 0 get x ;\n",
+            "line 6, \"tx 0 0 get x ;\": the end of the line does not fit; wanted: tx NODE SLOT",
+        ),
+        (
+            "tx 0 0\n",
+            "line 6, \"tx 0 0\": the end of the line does not fit; wanted: tx NODE SLOT",
+        ),
+        (
+            "tx\n",
+            "line 6, \"tx\": the end of the line does not fit; wanted: tx NODE SLOT",
+        ),
+        (
+            "run 1\n",
+            "line 6, \"run 1\": the word \"1\" does not fit; wanted: run alone\n",
+        ),
+        (
+            "run\ntick 0 0\n",
+            "line 7, \"tick 0 0\": the word \"0\" does not fit; wanted: tick NODE\n",
+        ),
+        (
+            "run\ninstall 0\n",
+            "line 7, \"install 0\": the end of the line does not fit; wanted: install NODE EPOCH\n",
+        ),
     ] {
         let text = behind_head(rt.alloc(), lines)?;
         assert!(rt; text.as_slice().starts_with(front.as_bytes()));
@@ -108,12 +165,16 @@ fn sizes_are_told(rt: HostRuntime) -> Result<(), Fail> {
     }
     line.push_str("\n")?;
     let text = behind_head(alloc, line.as_str())?;
-    let front = b"line 6, \"tx 0 0 get x ; get x ; get x ; get x ; get x ; get x ; get x\" ..: the word \"get\" is one more than there may be; ";
+    let front =
+        b"line 6, \"tx 0 0 get x ; get x ; get x ; get x ; get x ; get x ; get x\" ..: the word \"get\" is one more than there may be; ";
     assert!(rt; text.as_slice().starts_with(front));
 
     let zeros = vec![in alloc; 0; 4_194_305]?;
     let text = explain(alloc, &zeros)?;
-    assert_eq!(rt; text.as_slice(), b"a script has at most 4,194,304 bytes\n".as_slice());
+    assert_eq!(rt;
+        text.as_slice(),
+        b"a script has at most 4,194,304 bytes\n".as_slice()
+    );
     Ok(())
 }
 

@@ -37,12 +37,7 @@ fn is_alike(fault: &ScriptFault, other: &ScriptFault) -> bool
 
 /// Whether this text has a fault that is like this one, if its last line ends so.
 #[tactic(auto, unfolding(crate::specs::WrongWord::fails_alike))]
-fn fails(
-    alloc: Global,
-    fault: &ScriptFault,
-    text: &[u8],
-    ending: &[u8],
-) -> Result<bool, NoMemory>
+fn fails(alloc: Global, fault: &ScriptFault, text: &[u8], ending: &[u8]) -> Result<bool, NoMemory>
     ensures { IfOk result (λ failed. failed ≡ fails fault.now text.now ending.now) }
 {
     let mut front = Vec::new(alloc);
