@@ -8,7 +8,7 @@ use Rattle.zeus_model.specs.declared.fault.Kind.{Kind}
 use Rattle.zeus_model.specs.declared.fault.Kind.TheVariants as kinds
 use Rattle.zeus_model.specs.declared.fault.ScriptFault.{ScriptFault}
 use Rattle.zeus_model.specs.declared.script.Script.{Script}
-use Rattle.script_diagnostic.specs.WrongWord.{line_at, faulty_word}
+use Rattle.zeus_model.specs.Tables.{nth}
 
 -- ---- bytes
 
@@ -61,6 +61,10 @@ form_text w =
     (if bytes_eq w (codes "view") then codes "view and rising nodes" else
     (if bytes_eq w (codes "install") then codes "install NODE EPOCH" else codes "end alone"))))))))))))))
 
+-- line n of bytes, counted from 1; there is none before the first, and none behind the last
+abbrev pub line_at : List ℕ → ℕ → List ℕ
+line_at bytes n = nth [] ([] ∷ cut 10 bytes) n
+
 -- the first word of line n
 abbrev pub opening_word : List ℕ → ℕ → List ℕ
 opening_word bytes n = first_word (cut 32 (line_at bytes n))
@@ -75,33 +79,27 @@ wanted bytes n = codes "; wanted: " ++ line_form (opening_word bytes n) (opening
 
 -- ---- the fault
 
--- the word that does not fit
-unfoldable pub word_text : Option (List ℕ) → List ℕ
-word_text None = codes "the end of the line"
-word_text (Some w) = codes "the word " ++ quoted w
-
--- what is wrong with it, or with the line
+-- what is wrong with a line
 unfoldable pub cause_text : Kind → List ℕ
 cause_text kinds.Missing = codes "the input ends here"
 cause_text kinds.LineEnd = codes "no line feed ends this line"
-cause_text kinds.Word = codes " does not fit"
-cause_text kinds.Text = codes " has no text of 1 to 32 bytes from ! to ~ behind its '"
-cause_text kinds.Number = codes " is no number: digits without sign and leading zero, below 2^64"
-cause_text kinds.Range = codes " is out of its range"
-cause_text kinds.Name = codes " is no name: a letter and then letters, digits and _, at most 16 in all"
-cause_text kinds.Twice = codes " comes a second time, or out of order"
-cause_text kinds.Unknown = codes " is the name of no object that is declared above"
-cause_text kinds.Long = codes " is one more than there may be"
+cause_text kinds.Word = codes "a word does not fit, or one is missing"
+cause_text kinds.Text = codes "a value has no text of 1 to 32 bytes from ! to ~ behind its '"
+cause_text kinds.Number = codes "a number is wanted: digits without sign and leading zero, below 2^64"
+cause_text kinds.Range = codes "a number is out of its range"
+cause_text kinds.Name = codes "a name is wanted: a letter and then letters, digits and _, at most 16 in all"
+cause_text kinds.Twice = codes "something comes a second time, or out of order"
+cause_text kinds.Unknown = codes "a name is that of no object that is declared above"
+cause_text kinds.Long = codes "there is more here than there may be"
 cause_text kinds.Extra = codes "nothing may follow the line 'end'"
-cause_text kinds.Live = codes " is not for a live run"
+cause_text kinds.Live = codes "a live run has no such line"
 cause_text kinds.Size = codes "a script has at most 4,194,304 bytes"
 
--- the fault, and what may stand there
-unfoldable pub fault_text : List ℕ → ScriptFault → Kind → List ℕ
-fault_text bytes f kinds.Missing = cause_text kinds.Missing ++ wanted bytes f.line
-fault_text bytes f kinds.LineEnd = cause_text kinds.LineEnd
-fault_text bytes f kinds.Extra = cause_text kinds.Extra
-fault_text bytes f kind = word_text (faulty_word bytes f) ++ cause_text kind ++ wanted bytes f.line
+-- what is wrong with line n, and what may stand there; a line that does not end, or is one too many, has nothing that may
+unfoldable pub fault_text : List ℕ → ℕ → Kind → List ℕ
+fault_text bytes n kinds.LineEnd = cause_text kinds.LineEnd
+fault_text bytes n kinds.Extra = cause_text kinds.Extra
+fault_text bytes n kind = cause_text kind ++ wanted bytes n
 
 -- line n with this text
 unfoldable pub line_text : ℕ → List ℕ → List ℕ
@@ -129,7 +127,7 @@ size_line = cause_text kinds.Size ++ line_end
 unfoldable pub explanation : List ℕ → ScriptFault → List ℕ
 explanation bytes f =
     if f.line == 0 then size_line else
-    line_text f.line (line_at bytes f.line) ++ fault_text bytes f f.kind ++ return_hint (line_at bytes f.line) ++ mark_hint bytes ++ line_end
+    line_text f.line (line_at bytes f.line) ++ fault_text bytes f.line f.kind ++ return_hint (line_at bytes f.line) ++ mark_hint bytes ++ line_end
 
 -- the line that explains the first fault of bytes; nothing, if they are a script
 unfoldable pub explained : List ℕ → Result Script ScriptFault → List ℕ

@@ -1,5 +1,5 @@
-//! The one line that says what is wrong with a script: where its first fault is, the word that does not fit, and what may
-//! stand there.
+//! The one line that says what is wrong with a script: where its first fault is, the text of that
+//! line, what is wrong, and what may stand there.
 #![tactic(auto)]
 
 mod forms;
@@ -7,7 +7,6 @@ mod lines;
 mod message;
 mod program;
 mod shown;
-mod wrong_word;
 
 pub use message::explain;
 pub use program::explain_input;

@@ -1,14 +1,9 @@
 //! The lines of bytes.
-ghost use Rattle.std.specs.Prelude.{◌≡◌, [], drop, IfOk};
-ghost use Rattle.zeus_model.specs.FirstFault.{first_lines};
+ghost use Rattle.std.specs.Prelude.{◌≡◌, [], drop};
 ghost use Rattle.zeus_model.specs.Tables.{nth};
-ghost use Rattle.script_diagnostic.specs.Text.{opening_word};
-ghost use Rattle.script_diagnostic.specs.WrongWord.{line_at};
+ghost use Rattle.script_diagnostic.specs.Text.{line_at, opening_word};
 
 use script_lang::Parts;
-use std::alloc::Global;
-use zeus_base::NoMemory;
-use zeus_text::append_byte;
 
 /// The next part; an empty one if there is none.
 #[tactic(auto, unfolding(zeus_base::specs::Tables::nth))]
@@ -39,22 +34,4 @@ pub(crate) fn opening_word(bytes: &[u8], number: u32) -> &[u8]
     ensures { result.now ≡ opening_word bytes.now number }
 {
     next_part(&mut Parts::new(line_at(bytes, number), b' '))
-}
-
-/// The first lines of bytes, so many, with their ends.
-pub(crate) fn first_lines(alloc: Global, bytes: &[u8], count: u32) -> Result<Vec<u8>, NoMemory>
-    ensures { IfOk result (λ lines. lines.items ≡ first_lines count bytes.now) }
-{
-    let mut lines = Vec::new(alloc);
-    let mut left = count;
-    for byte in bytes {
-        if left == 0 {
-            return Ok(lines);
-        }
-        append_byte(&mut lines, *byte)?;
-        if *byte == b'\n' {
-            left -= 1;
-        }
-    }
-    Ok(lines)
 }

@@ -1,19 +1,17 @@
 //! The line that explains the first fault of bytes.
 ghost use Rattle.std.specs.Prelude.{◌≡◌, ◌++◌, ◌<◌, false, IfOk, OnOk};
 ghost use Rattle.script_lang.specs.Reading.{script_read};
-ghost use Rattle.script_diagnostic.specs.Text.{cause_text, word_text, wanted, line_text, fault_text, return_hint, mark_hint, size_line, explanation, explained};
-ghost use Rattle.script_diagnostic.specs.WrongWord.{seen};
+ghost use Rattle.script_diagnostic.specs.Text.{cause_text, wanted, line_text, fault_text, return_hint, mark_hint, size_line, explanation, explained};
 
 use crate::forms::line_form;
 use crate::lines::{line_at, opening_word};
 use crate::shown::write_quoted;
-use crate::wrong_word::faulty_word;
 use script_lang::{Kind, ReadScript, ScriptFault, read_script};
 use std::alloc::Global;
 use zeus_base::NoMemory;
 use zeus_text::{append, write_decimal, write_line_end};
 
-/// What is wrong with a word, or with a line.
+/// What is wrong with a line.
 #[tactic(auto, unfolding(crate::specs::Text::cause_text))]
 fn cause_text(kind: Kind) -> &'static [u8]
     ensures { result.now ≡ cause_text kind }
@@ -21,31 +19,18 @@ fn cause_text(kind: Kind) -> &'static [u8]
     match kind {
         Kind::Missing => b"the input ends here",
         Kind::LineEnd => b"no line feed ends this line",
-        Kind::Word => b" does not fit",
-        Kind::Text => b" has no text of 1 to 32 bytes from ! to ~ behind its '",
-        Kind::Number => b" is no number: digits without sign and leading zero, below 2^64",
-        Kind::Range => b" is out of its range",
-        Kind::Name => b" is no name: a letter and then letters, digits and _, at most 16 in all",
-        Kind::Twice => b" comes a second time, or out of order",
-        Kind::Unknown => b" is the name of no object that is declared above",
-        Kind::Long => b" is one more than there may be",
+        Kind::Word => b"a word does not fit, or one is missing",
+        Kind::Text => b"a value has no text of 1 to 32 bytes from ! to ~ behind its '",
+        Kind::Number => b"a number is wanted: digits without sign and leading zero, below 2^64",
+        Kind::Range => b"a number is out of its range",
+        Kind::Name =>
+            b"a name is wanted: a letter and then letters, digits and _, at most 16 in all",
+        Kind::Twice => b"something comes a second time, or out of order",
+        Kind::Unknown => b"a name is that of no object that is declared above",
+        Kind::Long => b"there is more here than there may be",
         Kind::Extra => b"nothing may follow the line 'end'",
-        Kind::Live => b" is not for a live run",
+        Kind::Live => b"a live run has no such line",
         Kind::Size => b"a script has at most 4,194,304 bytes",
-    }
-}
-
-/// Writes the word that does not fit.
-#[tactic(auto, unfolding(crate::specs::Text::word_text, crate::specs::WrongWord::seen))]
-fn write_word(out: &mut Vec<u8>, word: Option<&[u8]>) -> Result<(), NoMemory>
-    ensures { OnOk result (out.new.items ≡ out.old.items ++ word_text (seen word.entry)) }
-{
-    match word {
-        None => append(out, b"the end of the line"),
-        Some(word) => {
-            append(out, b"the word ")?;
-            write_quoted(out, word)
-        }
     }
 }
 
@@ -71,28 +56,15 @@ fn write_line(out: &mut Vec<u8>, number: u32, line: &[u8]) -> Result<(), NoMemor
     append(out, b": ")
 }
 
-/// Writes the fault, and what may stand there.
+/// Writes what is wrong with a line, and what may stand there.
 #[tactic(auto, unfolding(crate::specs::Text::fault_text))]
-fn write_fault(
-    alloc: Global,
-    out: &mut Vec<u8>,
-    bytes: &[u8],
-    fault: &ScriptFault,
-) -> Result<(), NoMemory>
-    ensures { OnOk result (out.new.items ≡ out.old.items ++ fault_text bytes.now fault.now fault.now.kind) }
+fn write_fault(out: &mut Vec<u8>, bytes: &[u8], number: u32, kind: Kind) -> Result<(), NoMemory>
+    ensures { OnOk result (out.new.items ≡ out.old.items ++ fault_text bytes.now number kind) }
 {
-    match fault.kind {
-        Kind::Missing => {
-            append(out, cause_text(Kind::Missing))?;
-            write_wanted(out, bytes, fault.line)
-        }
-        Kind::LineEnd => append(out, cause_text(Kind::LineEnd)),
-        Kind::Extra => append(out, cause_text(Kind::Extra)),
-        kind => {
-            write_word(out, faulty_word(alloc, bytes, fault)?)?;
-            append(out, cause_text(kind))?;
-            write_wanted(out, bytes, fault.line)
-        }
+    append(out, cause_text(kind))?;
+    match kind {
+        Kind::LineEnd | Kind::Extra => Ok(()),
+        _ => write_wanted(out, bytes, number),
     }
 }
 
@@ -144,7 +116,7 @@ fn explanation(alloc: Global, bytes: &[u8], fault: &ScriptFault) -> Result<Vec<u
     let line = line_at(bytes, fault.line);
     let mut out = Vec::new(alloc);
     write_line(&mut out, fault.line, line)?;
-    write_fault(alloc, &mut out, bytes, fault)?;
+    write_fault(&mut out, bytes, fault.line, fault.kind)?;
     write_return_hint(&mut out, line)?;
     write_mark_hint(&mut out, bytes)?;
     write_line_end(&mut out)?;

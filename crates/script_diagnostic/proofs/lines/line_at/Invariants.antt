@@ -5,4 +5,4 @@ use Rattle.zeus_model.specs.Words.{cut}
 use Rattle.script_diagnostic.proofs.lines.line_at.Given as goal
 
 abbrev pub invariant-loop-turn : goal.invariant-loop-turn
-invariant-loop-turn l = nth [] (l.line.now ∷ l.lines) (l.fn.number - l._turn) ≡ nth [] ([] ∷ cut 10 l.fn.bytes) l.fn.number
+invariant-loop-turn l = nth [] (l.line ∷ l.lines) (l.fn.number - l._turn) ≡ nth [] ([] ∷ cut 10 l.fn.bytes) l.fn.number
