@@ -174,19 +174,19 @@ due 'an audit of another reply' 7 'audit 4 reply' 'breaks the rule'
 fault 'lines that end with CR and LF' 's/$/\r/' 'script 1 word' 'CR and LF'
 fault 'one line that ends with CR and LF' '6s/$/\r/' 'script 6 number' 'CR and LF'
 fault 'a byte order mark' '1s/^/\xef\xbb\xbf/' 'script 1 word' 'byte order mark'
-fault 'an empty line in front' '1s/^/\n/' 'script 1 word' 'line 1 of the script, ""'
+fault 'an empty line in front' '1s/^/\n/' 'script 1 word' 'line 1, "": a word does not fit, or one is missing; wanted: zeus'
 fault 'an empty line in between' '4s/$/\n/' 'script 5 word'
 fault 'an empty line behind' '$s/$/\n/' 'script 17 extra' "nothing may follow the line 'end'"
 fault 'a comment' '5s/^/# /' 'script 5 word' '"# object x 5 0 1"'
 fault 'a script twice' '$r '"$two" 'script 17 extra' '"zeus 1"'
-fault 'no line end' '$d' 'script 16 missing' "at least to its line 'end'"
+fault 'no line end' '$d' 'script 16 missing' 'the input ends here; wanted: end begin try'
 fault 'a tab for a space' '2s/ /\t/' 'script 2 word'
 fault 'two spaces' '2s/ /  /' 'script 2 number' 'a number is wanted'
 fault 'a space at the end' '2s/$/ /' 'script 2 word'
 fault 'a space in front' '2s/^/ /' 'script 2 word'
 fault 'great letters' '2s/.*/NODES 2/' 'script 2 word'
 fault 'version 3' '1s/1/3/' 'script 1 word'
-fault 'no version' '1s/ 1//' 'script 1 word'
+fault 'no version' '1s/ 1//' 'script 1 word' 'or one is missing; wanted: zeus 1'
 fault 'no nodes' '2s/2/0/' 'script 2 range' 'out of its range'
 fault 'nine nodes' '2s/2/9/' 'script 2 range'
 fault 'a sign' '2s/2/+2/' 'script 2 number'
@@ -198,7 +198,7 @@ fault 'a directory node that there is not' '4s/0/2/' 'script 4 range'
 fault 'a directory node twice' '4s/0/0 0/' 'script 4 twice'
 fault 'an empty directory' '4s/ 0//' 'script 4 word'
 fault 'a degree of none' '4s/$/\ndegree 0/' 'script 5 range'
-fault 'a name with a dash' '5s/x/x-y/' 'script 5 name' 'a name is a letter'
+fault 'a name with a dash' '5s/x/x-y/' 'script 5 name' 'a name is wanted: a letter'
 fault 'a name that begins with a digit' '5s/x/1x/' 'script 5 name'
 fault 'a name of 17 letters' '5s/x/abcdefghijklmnopq/' 'script 5 name'
 fault 'a name declared twice' '5s/.*/&\n&/' 'script 6 twice'
@@ -206,18 +206,18 @@ fault 'an owner that there is not' '5s/5 0 1/5 2/' 'script 5 range'
 fault 'the owner among the replicas' '5s/5 0 1/5 0 0/' 'script 5 twice'
 fault 'a value of 2^64' '5s/5/18446744073709551616/' 'script 5 number'
 fault 'a text in version 1' "5s/5/'a/" 'script 5 number'
-fault 'an object that is not declared' '6s/ x/ y/' 'script 6 unknown' 'no object of that name'
-fault 'an operation that there is not' '6s/add/sub/' 'script 6 word'
+fault 'an object that is not declared' '6s/ x/ y/' 'script 6 unknown' 'a name is that of no object'
+fault 'an operation that there is not' '6s/add/sub/' 'script 6 word' 'a word does not fit, or one is missing; wanted: tx NODE SLOT'
 fault 'no operation' '6s/ add x 3//' 'script 6 word'
 fault 'a semicolon without a space' '6s/$/; get x/' 'script 6 number'
 fault 'behind itself' '6s/0 0/0 0 after 0/' 'script 6 range'
-fault 'a step that there is not' '10s/try/tries/' 'script 10 word'
+fault 'a step that there is not' '10s/try/tries/' 'script 10 word' 'a word does not fit, or one is missing; wanted: end begin try'
 fault 'a transaction that there is not' '9s/0/2/' 'script 9 range'
 fault 'an epoch of none' '9s/.*/install 0 0/' 'script 9 range'
-fault 'a text without bytes' "1s/1/2/;5s/5/'/" 'script 5 text' 'a text is'
+fault 'a text without bytes' "1s/1/2/;5s/5/'/" 'script 5 text' 'has no text of 1 to 32 bytes'
 sed "6s/\$/$(printf ' ; get x%.0s' $(seq 16))/" "$two" >"$folder/in"
 go run <"$folder/in"
-due 'seventeen operations' 3 'script 6 long' 'more here than a script may have'
+due 'seventeen operations' 3 'script 6 long' 'there is more here than there may be'
 head -c -1 "$two" >"$folder/in"
 go run <"$folder/in"
 due 'a last line that does not end' 3 'script 16 line end' 'no line feed'
@@ -377,8 +377,8 @@ due 'four side by side' 0 @four
 # ---- copies of the checkout, with the program
 copy="$folder/a copy"
 mkdir "$copy"
-(cd "$home" && tar -cf - --exclude=.git --exclude=proofs --exclude=must-fail crates.txt HANDLES zeus README.md $(find crates -path crates/zeus/out -prune -o -name out -prune -o \
-    -type f -print) crates/zeus/out/zeus crates/zeus/out/made-of) | (cd "$copy" && tar -xmf -)
+(cd "$home" && tar -cf - --exclude=.git --exclude=proofs --exclude=must-fail crates.txt HANDLES zeus README.md $(find crates -name out -prune -o -type f -print) \
+    crates/zeus/out/zeus crates/zeus_explain/out/zeus_explain crates/zeus/out/made-of) | (cd "$copy" && tar -xmf -)
 zeus=$copy/zeus
 PATH=/usr/bin:/bin go run <"$one"
 due 'a copied checkout is not stale' 0 @one

@@ -1,0 +1,5 @@
+//! Tests of the line that explains the first fault of a script.
+#![tactic(auto)]
+
+#[cfg(test)]
+mod tests;

@@ -1,0 +1,4 @@
+pub mod Among
+pub mod Bytes
+pub mod LineLaws
+pub mod Sizes
