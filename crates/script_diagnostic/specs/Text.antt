@@ -1,7 +1,7 @@
 -- The line that explains a fault.
 use Rattle.std.specs.Prelude.{ℕ, ◌+◌, ◌-◌, ◌/◌, ◌%◌, Bool, ◌&&◌, ◌==◌, nat_lt, nat_le, List, [], ◌∷◌, ◌++◌, length, take, drop, Option, Some, None, Result, Ok, Err, codes, decimal, if◌then◌else◌}
 use Rattle.std.specs.Str.{bytes_eq}
-use Rattle.script_diagnostic.specs.Fitting.{line_at, words_at, fitting}
+use Rattle.script_diagnostic.specs.Fitting.{line_at, words_at, is_word, fitting}
 use Rattle.zeus_model.specs.Faults.{word_of}
 use Rattle.zeus_model.specs.Places.{first_word}
 use Rattle.zeus_model.specs.ReportText.{line_end}
@@ -97,9 +97,12 @@ unfoldable pub word_text : Option (List ℕ) → ℕ → Kind → List ℕ
 word_text None j kind = codes "a word is missing at its end"
 word_text (Some w) j kind = codes "word " ++ decimal (j + 1) ++ codes ", " ++ quoted w ++ codes ", " ++ cause_text kind
 
--- what is wrong with the first word of line n that does not fit
-abbrev pub faulty_text : List ℕ → ℕ → Kind → List ℕ
-faulty_text bytes n kind = word_text (word_of (words_at bytes n) (fitting bytes n kind)) (fitting bytes n kind) kind
+-- what is wrong with the first word of line n that does not fit; where the bytes have no room for one more word, a word that does
+-- not fit is not told from one that is missing
+unfoldable pub faulty_text : List ℕ → ℕ → Kind → List ℕ
+faulty_text bytes n kind =
+    if is_word kind && nat_lt 4194298 (length bytes) then codes "a word does not fit, or one is missing" else
+    word_text (word_of (words_at bytes n) (fitting bytes n kind)) (fitting bytes n kind) kind
 
 -- what is wrong with line n, and what may stand there; a line that does not end, or is one too many, has nothing that may
 unfoldable pub fault_text : List ℕ → ℕ → Kind → List ℕ

@@ -39,7 +39,7 @@ fn write_parts(out: &mut Vec<u8>, bytes: &[u8], separator: u8, count: u32) -> Re
 
 /// Whether a fault is that a word does not fit, or is missing.
 #[tactic(auto, unfolding(crate::specs::Fitting::is_word))]
-fn is_word(kind: Kind) -> bool
+pub(crate) fn is_word(kind: Kind) -> bool
     ensures { result ≡ is_word kind }
 {
     match kind {

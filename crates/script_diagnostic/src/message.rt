@@ -3,11 +3,11 @@ ghost use Rattle.std.specs.Prelude.{◌≡◌, ◌++◌, ◌<◌, false, IfOk, O
 ghost use Rattle.script_lang.specs.Reading.{script_read};
 ghost use Rattle.script_diagnostic.specs.Text.{cause_text, word_text, faulty_text, wanted, line_text, fault_text, return_hint, mark_hint, size_line, explanation, explained};
 
-use crate::fitting::{fitting, word_at};
+use crate::fitting::{fitting, is_word, word_at};
 use crate::forms::line_form;
 use crate::lines::{line_at, opening_word};
 use crate::shown::write_quoted;
-use script_lang::{Kind, ReadScript, ScriptFault, read_script};
+use script_lang::{Kind, MOST_BYTES, ReadScript, ScriptFault, read_script};
 use std::alloc::Global;
 use zeus_base::NoMemory;
 use zeus_text::{append, write_decimal, write_line_end};
@@ -56,6 +56,7 @@ fn write_word(
 }
 
 /// Writes what is wrong with the first word of line n that does not fit.
+#[tactic(auto, unfolding(crate::specs::Text::faulty_text))]
 fn write_faulty(
     alloc: Global,
     out: &mut Vec<u8>,
@@ -65,6 +66,9 @@ fn write_faulty(
 ) -> Result<(), NoMemory>
     ensures { OnOk result (out.new.items ≡ out.old.items ++ faulty_text bytes.now number kind) }
 {
+    if is_word(kind) && bytes.len() > MOST_BYTES - 6 {
+        return append(out, b"a word does not fit, or one is missing");
+    }
     let before = fitting(alloc, bytes, number, kind)?;
     write_word(out, word_at(line_at(bytes, number), before), before, kind)
 }
