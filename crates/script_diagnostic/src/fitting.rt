@@ -3,7 +3,7 @@ ghost use Rattle.std.specs.Prelude.{◌≡◌, ◌++◌, ◌+◌, ◌≤◌, fal
 ghost use Rattle.script_lang.specs.Reading.{script_read};
 ghost use Rattle.zeus_model.specs.Faults.{word_of};
 ghost use Rattle.zeus_model.specs.Words.{cut};
-ghost use Rattle.script_diagnostic.specs.Fitting.{ended, shortened, is_word, is_like, is_told, is_other, fits, widened, fitting};
+ghost use Rattle.script_diagnostic.specs.Fitting.{ended, is_word, is_like, is_told, is_other, fits, widened, fitting};
 
 use crate::lines::line_at;
 use crate::shown::front;

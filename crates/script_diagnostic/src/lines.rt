@@ -1,7 +1,7 @@
 //! The lines of bytes.
 ghost use Rattle.std.specs.Prelude.{◌≡◌, [], drop};
 ghost use Rattle.zeus_model.specs.Tables.{nth};
-ghost use Rattle.script_diagnostic.specs.Fitting.{line_at, ended};
+ghost use Rattle.script_diagnostic.specs.Fitting.{line_at};
 ghost use Rattle.script_diagnostic.specs.Text.{opening_word};
 
 use script_lang::Parts;
