@@ -157,6 +157,48 @@ fn a_first_line_is_explained(rt: HostRuntime) -> Result<(), Fail> {
 }
 
 #[test]
+fn a_faulty_word_is_told_by_what_the_lines_before_say(rt: HostRuntime) -> Result<(), Fail> {
+    for (bytes, front) in [
+        (
+            "zeus 1 1\n",
+            "line 1, \"zeus 1 1\": word 3, \"1\", does not fit;",
+        ),
+        (
+            "zeus 1\nnodes 2\nslots 1\ndirectory\n",
+            "line 4, \"directory\": a word is missing at its end;",
+        ),
+        (
+            "zeus 1\nnodes 2\nslots 1\ndirectory 0 2\n",
+            "line 4, \"directory 0 2\": word 3, \"2\", is out of its range;",
+        ),
+        (
+            "zeus 1\nnodes 2\nslots 1\ndirectory 0 1 1\n",
+            "line 4, \"directory 0 1 1\": word 4, \"1\", does not fit;",
+        ),
+        (
+            "zeus 1\nnodes 1\nslots 1\ndirectory 0\nobject x 5 0\ntx 0 0 get x ; same x 5\n",
+            "line 6, \"tx 0 0 get x ; same x 5\": word 7, \"same\", does not fit;",
+        ),
+        (
+            "zeus 2\nnodes 1\nslots 1\ndirectory 0\nobject x 5 0\ntx 0 0 get x ; same x\n",
+            "line 6, \"tx 0 0 get x ; same x\": a word is missing at its end;",
+        ),
+        (
+            "zeus 2\nnodes 1\nslots 1\ndirectory 0\nobject x 5 0\ntx 0 0 get x\ntx 0 0 after 1 get x\n",
+            "line 7, \"tx 0 0 after 1 get x\": word 5, \"1\", is out of its range;",
+        ),
+        (
+            "zeus 2\nnodes 1\nslots 1\ndirectory 0\nobject x 5 0\ntx 0 0 get x\ntx 0 0 after 0 gets x\n",
+            "line 7, \"tx 0 0 after 0 gets x\": word 6, \"gets\", does not fit;",
+        ),
+    ] {
+        let text = explain(rt.alloc(), bytes.as_bytes())?;
+        assert!(rt; text.as_slice().starts_with(front.as_bytes()));
+    }
+    Ok(())
+}
+
+#[test]
 fn sizes_are_told(rt: HostRuntime) -> Result<(), Fail> {
     let alloc = rt.alloc();
     let mut line = String::from_str(alloc, "tx 0 0 get x")?;
@@ -187,5 +229,26 @@ fn the_program_writes_the_line(rt: HostRuntime) -> Result<(), Fail> {
     assert!(rt; status.number() == Status::Done.number());
     let wanted = b"line 1, \"zeus\": a word is missing at its end; wanted: zeus 1 or zeus 2\n";
     assert_eq!(rt; sink.bytes(), wanted.as_slice());
+    Ok(())
+}
+
+#[test]
+fn no_word_is_named_where_there_is_no_room_to_try_one(rt: HostRuntime) -> Result<(), Fail> {
+    let alloc = rt.alloc();
+    for (most, wanted) in [
+        (
+            4_194_298,
+            b"line 1, \"walk\": word 1, \"walk\", does not fit; wanted: zeus\n".as_slice(),
+        ),
+        (
+            4_194_299,
+            b"line 1, \"walk\": a word does not fit, or one is missing; wanted: zeus\n".as_slice(),
+        ),
+    ] {
+        let mut bytes = Vec::from_slice(alloc, b"walk\n")?;
+        bytes.resize(most, 0)?;
+        let text = explain(alloc, &bytes)?;
+        assert_eq!(rt; text.as_slice(), wanted);
+    }
     Ok(())
 }
