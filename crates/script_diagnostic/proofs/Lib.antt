@@ -2,3 +2,4 @@ pub mod Among
 pub mod Bytes
 pub mod LineLaws
 pub mod Sizes
+pub mod WordLaws

@@ -1,6 +1,8 @@
 -- The line that explains a fault.
 use Rattle.std.specs.Prelude.{ℕ, ◌+◌, ◌-◌, ◌/◌, ◌%◌, Bool, ◌&&◌, ◌==◌, nat_lt, nat_le, List, [], ◌∷◌, ◌++◌, length, take, drop, Option, Some, None, Result, Ok, Err, codes, decimal, if◌then◌else◌}
 use Rattle.std.specs.Str.{bytes_eq}
+use Rattle.script_diagnostic.specs.Fitting.{line_at, words_at, is_word, fitting}
+use Rattle.zeus_model.specs.Faults.{word_of}
 use Rattle.zeus_model.specs.Places.{first_word}
 use Rattle.zeus_model.specs.ReportText.{line_end}
 use Rattle.zeus_model.specs.Words.{cut, is_among}
@@ -8,7 +10,6 @@ use Rattle.zeus_model.specs.declared.fault.Kind.{Kind}
 use Rattle.zeus_model.specs.declared.fault.Kind.TheVariants as kinds
 use Rattle.zeus_model.specs.declared.fault.ScriptFault.{ScriptFault}
 use Rattle.zeus_model.specs.declared.script.Script.{Script}
-use Rattle.zeus_model.specs.Tables.{nth}
 
 -- ---- bytes
 
@@ -61,13 +62,9 @@ form_text w =
     (if bytes_eq w (codes "view") then codes "view and rising nodes" else
     (if bytes_eq w (codes "install") then codes "install NODE EPOCH" else codes "end alone"))))))))))))))
 
--- line n of bytes, counted from 1; there is none before the first, and none behind the last
-abbrev pub line_at : List ℕ → ℕ → List ℕ
-line_at bytes n = nth [] ([] ∷ cut 10 bytes) n
-
 -- the first word of line n
 abbrev pub opening_word : List ℕ → ℕ → List ℕ
-opening_word bytes n = first_word (cut 32 (line_at bytes n))
+opening_word bytes n = first_word (words_at bytes n)
 
 -- the form of a line with this first word, if it may stand behind a line with that one; else the words that may
 unfoldable pub line_form : List ℕ → List ℕ → List ℕ
@@ -79,27 +76,40 @@ wanted bytes n = codes "; wanted: " ++ line_form (opening_word bytes n) (opening
 
 -- ---- the fault
 
--- what is wrong with a line
+-- what is wrong with a word or a line
 unfoldable pub cause_text : Kind → List ℕ
 cause_text kinds.Missing = codes "the input ends here"
 cause_text kinds.LineEnd = codes "no line feed ends this line"
-cause_text kinds.Word = codes "a word does not fit, or one is missing"
-cause_text kinds.Text = codes "a value has no text of 1 to 32 bytes from ! to ~ behind its '"
-cause_text kinds.Number = codes "a number is wanted: digits without sign and leading zero, below 2^64"
-cause_text kinds.Range = codes "a number is out of its range"
-cause_text kinds.Name = codes "a name is wanted: a letter and then letters, digits and _, at most 16 in all"
-cause_text kinds.Twice = codes "something comes a second time, or out of order"
-cause_text kinds.Unknown = codes "a name is that of no object that is declared above"
-cause_text kinds.Long = codes "there is more here than there may be"
+cause_text kinds.Word = codes "does not fit"
+cause_text kinds.Text = codes "has no text of 1 to 32 bytes from ! to ~ behind its '"
+cause_text kinds.Number = codes "is no number: digits without sign and leading zero, below 2^64"
+cause_text kinds.Range = codes "is out of its range"
+cause_text kinds.Name = codes "is no name: a letter and then letters, digits and _, at most 16 in all"
+cause_text kinds.Twice = codes "comes a second time, or out of order"
+cause_text kinds.Unknown = codes "is the name of no object that is declared above"
+cause_text kinds.Long = codes "is more than there may be"
 cause_text kinds.Extra = codes "nothing may follow the line 'end'"
-cause_text kinds.Live = codes "a live run has no such line"
+cause_text kinds.Live = codes "begins a line that no live run has"
 cause_text kinds.Size = codes "a script has at most 4,194,304 bytes"
+
+-- what is wrong with word j of a line, counted from 0; where there is none, one is missing
+unfoldable pub word_text : Option (List ℕ) → ℕ → Kind → List ℕ
+word_text None j kind = codes "a word is missing at its end"
+word_text (Some w) j kind = codes "word " ++ decimal (j + 1) ++ codes ", " ++ quoted w ++ codes ", " ++ cause_text kind
+
+-- what is wrong with the first word of line n that does not fit; where the bytes have no room for one more word, a word that does
+-- not fit is not told from one that is missing
+unfoldable pub faulty_text : List ℕ → ℕ → Kind → List ℕ
+faulty_text bytes n kind =
+    if is_word kind && nat_lt 4194298 (length bytes) then codes "a word does not fit, or one is missing" else
+    word_text (word_of (words_at bytes n) (fitting bytes n kind)) (fitting bytes n kind) kind
 
 -- what is wrong with line n, and what may stand there; a line that does not end, or is one too many, has nothing that may
 unfoldable pub fault_text : List ℕ → ℕ → Kind → List ℕ
 fault_text bytes n kinds.LineEnd = cause_text kinds.LineEnd
 fault_text bytes n kinds.Extra = cause_text kinds.Extra
-fault_text bytes n kind = cause_text kind ++ wanted bytes n
+fault_text bytes n kinds.Missing = cause_text kinds.Missing ++ wanted bytes n
+fault_text bytes n kind = faulty_text bytes n kind ++ wanted bytes n
 
 -- line n with this text
 unfoldable pub line_text : ℕ → List ℕ → List ℕ

@@ -1,7 +1,8 @@
 //! The one line that says what is wrong with a script: where its first fault is, the text of that
-//! line, what is wrong, and what may stand there.
+//! line, which word is wrong and how, and what may stand there.
 #![tactic(auto)]
 
+mod fitting;
 mod forms;
 mod lines;
 mod message;

@@ -1,7 +1,8 @@
 //! The lines of bytes.
 ghost use Rattle.std.specs.Prelude.{◌≡◌, [], drop};
 ghost use Rattle.zeus_model.specs.Tables.{nth};
-ghost use Rattle.script_diagnostic.specs.Text.{line_at, opening_word};
+ghost use Rattle.script_diagnostic.specs.Fitting.{line_at};
+ghost use Rattle.script_diagnostic.specs.Text.{opening_word};
 
 use script_lang::Parts;
 
