@@ -42,7 +42,8 @@ plain-keeps y z u f (hears n m l body sender r c) h txs book = ownership-invaria
 pub move-invariant : (y z : RunState) (u : Witness) → DataInvariant y u → RunMove y z → HasDataInvariant z
 move-invariant y z u f (plain move is txs book) = plain-keeps y z u f move is txs book
 move-invariant y z u f (stutters same txs book steps) = (u, stutters-invariant y z u f same txs book steps)
-move-invariant y z u f (begins n s id c named tx at in_slot within fresh free ch txs book) = (u, begins-invariant y z u f n s id c named tx at in_slot fresh ch txs book)
+move-invariant y z u f (begins n s id c named tx at in_slot within fresh free ch txs book) =
+    (u, begins-invariant y z u f n s id c record { named = named; tx = tx; at_node = at; at_slot = in_slot; fresh = fresh; change = ch; txs = txs; book = book })
 move-invariant y z u f (reads n s c is reader clear ch txs book) = (u, reads-invariant y z u f n s c is reader clear ch txs book)
 move-invariant y z u f (refuses n s c is reader ch txs book) = (u, refuses-invariant y z u f n s c is ch txs book)
 move-invariant y z u f (commits_tx n s c within is writer clear ch txs book) =

@@ -167,25 +167,35 @@ begin_points y u id b none =
       ];
     }
 
+-- the declared transaction of a number is begun, for the first time, at the slot of the node that it is declared for
+pub record BeginsTx (y z : RunState) (n s id : ℕ) (c : Current) : Type 0 where
+  pub named : c.id ≡ id
+  pub tx : c.tx ≡ (nth no_tx y.txs id).tx
+  pub at_node : (nth no_tx y.txs id).node ≡ n
+  pub at_slot : (nth no_tx y.txs id).slot ≡ s
+  pub fresh : (record_of y.book id).begun ≡ None
+  pub change : Changes y.system z.system n (with_current (y.system.node n) s (Some c)) nothing
+  pub txs : z.txs ≡ y.txs
+  pub book : z.book ≡ book_begin y.book id
+
 -- if a slot begins a declared transaction that has not begun, then the invariant stays
-pub begins-invariant : (y z : RunState) (u : Witness) → DataInvariant y u → (n s id : ℕ) (c : Current) → c.id ≡ id → c.tx ≡ (nth no_tx y.txs id).tx → (nth no_tx y.txs id).node ≡ n → (nth no_tx y.txs id).slot ≡ s
-    → (record_of y.book id).begun ≡ None → Changes y.system z.system n (with_current (y.system.node n) s (Some c)) nothing → z.txs ≡ y.txs → z.book ≡ book_begin y.book id → DataInvariant z u
-begins-invariant y z u f n s id c named tx at_node at_slot none ch txs book =
-    let new = fresh y u id f.booked none in
-    let after : record_of z.book id ≡ record (record_of y.book id) { begun = Some y.book.steps } = ap (λ (k : Book). record_of k id) book ∙ begin_here y id in
-    let node : (nth no_tx z.txs id).node ≡ n = ap (λ (l : List TxDecl). (nth no_tx l id).node) txs ∙ at_node in
-    let slot_is : (nth no_tx z.txs id).slot ≡ s = ap (λ (l : List TxDecl). (nth no_tx l id).slot) txs ∙ at_slot in
-    let ops : c.tx ≡ tx_ops z id = tx ∙ sym (ap (λ (l : List TxDecl). (nth no_tx l id).tx) txs) in
-    slot-invariant y z u f n s id (Some c) ch txs
+pub begins-invariant : (y z : RunState) (u : Witness) → DataInvariant y u → (n s id : ℕ) (c : Current) → BeginsTx y z n s id c → DataInvariant z u
+begins-invariant y z u f n s id c begins =
+    let new = fresh y u id f.booked begins.fresh in
+    let after : record_of z.book id ≡ record (record_of y.book id) { begun = Some y.book.steps } = ap (λ (k : Book). record_of k id) begins.book ∙ begin_here y id in
+    let node : (nth no_tx z.txs id).node ≡ n = ap (λ (l : List TxDecl). (nth no_tx l id).node) begins.txs ∙ begins.at_node in
+    let slot_is : (nth no_tx z.txs id).slot ≡ s = ap (λ (l : List TxDecl). (nth no_tx l id).slot) begins.txs ∙ begins.at_slot in
+    let ops : c.tx ≡ tx_ops z id = begins.tx ∙ sym (ap (λ (l : List TxDecl). (nth no_tx l id).tx) begins.txs) in
+    slot-invariant y z u f n s id (Some c) begins.change begins.txs
     record {
-      others = λ j other. ap (λ (k : Book). record_of k j) book ∙ begin_others y id j other;
+      others = λ j other. ap (λ (k : Book). record_of k j) begins.book ∙ begin_others y id j other;
       before = new.entry;
       after = ap (λ (r : TxRecord). r.entry) after ∙ new.entry;
       node = node;
       slot = slot_is;
     }
     (λ a is.
-    let same : id ≡ a.id = sym named ∙ ap (λ (d : Current). d.id) (some_same c a is) in
+    let same : id ≡ a.id = sym begins.named ∙ ap (λ (d : Current). d.id) (some_same c a is) in
     let whole : IsCurrent z n s record { id = id; tx = a.tx } = (
       sym (ap (λ (d : Current). d.tx) (some_same c a is)) ∙ ops,
       ap (λ (r : TxRecord). is_some r.begun) after,
@@ -196,8 +206,8 @@ begins-invariant y z u f n s id c named tx at_node at_slot none ch txs book =
       slot_is,
     ) in
     subst (λ (k : ℕ). IsCurrent z n s record { id = k; tx = a.tx }) same whole)
-    (same_left (resaid y z) z.system.node z.book (ap (λ (k : Book). k.points) book))
-    (λ b. points-history (resaid y z) u z.system.node z.book b (subst (λ (k : Book). SamePoints y.book k) (sym book) (begin_points y u id f.booked none)))
+    (same_left (resaid y z) z.system.node z.book (ap (λ (k : Book). k.points) begins.book))
+    (λ b. points-history (resaid y z) u z.system.node z.book b (subst (λ (k : Book). SamePoints y.book k) (sym begins.book) (begin_points y u id f.booked begins.fresh)))
 
 -- ---- a refusal
 

@@ -34,14 +34,19 @@ ownership-invariant y z u f (stops n c) h txs book = (u, stops-invariant y z u f
 ownership-invariant y z u f (installs n e later within c) h txs book = (u, installs-invariant y z u f n e (installs n e later within c) c txs book)
 ownership-invariant y z u f (tells n c) h txs book = (u, tells-invariant y z u f n (tells n c) c txs book)
 ownership-invariant y z u f (turns n s cu c) h txs book = absurd h
-ownership-invariant y z u f (settles n x stamp place l r is above c) h txs book = (u, settles-invariant y z u f n x stamp place l (settles n x stamp place l r is above c) r is above c txs book)
+ownership-invariant y z u f (settles n x stamp place l r is above c) h txs book = (
+  u,
+  settles-invariant y z u f n x stamp place record { letter = l; receivable = r; settling = is; above = above }
+      record { move = settles n x stamp place l r is above c; change = c; txs = txs; book = book },
+)
 ownership-invariant y z u f (drives n x requester want may c acked) h txs book = (u, drives-invariant y z u f n x requester want (drives n x requester want may c acked) may c txs book)
 ownership-invariant y z u f (accepts n x p may c acked) h txs book = (u, accepts-invariant y z u f n x p (accepts n x p may c acked) may c acked txs book)
 ownership-invariant y z u f (redrives n x p held opened sourced c) h txs book = (u, redrives-invariant y z u f n x p (redrives n x p held opened sourced c) held opened c txs book)
 ownership-invariant y z u f (gathers n x from p co l body sender r below greatest c) h txs book =
     (u, gathers-invariant y z u f n x (Some (noted (gather_for p (gather (y.system.node n) x)) from co)) (gathers n x from p co l body sender r below greatest c) c txs book)
 ownership-invariant y z u f (decides n x g co gathered decidable content c) h txs book =
-    decides-invariant y z u f n x g co (decides n x g co gathered decidable content c) gathered decidable content c txs book
+    decides-invariant y z u f n x g co record { gathered = gathered; decidable = decidable; content = content }
+    record { move = decides n x g co gathered decidable content c; change = c; txs = txs; book = book }
 ownership-invariant y z u f (raises n d s l foreign r is above c) h txs book = absurd h
 ownership-invariant y z u f (stores n r l foreign g body low number room c) h txs book = absurd h
 ownership-invariant y z u f (notes_own n s i from l r sender body within c) h txs book = (u, notes_own-invariant y z u f n s i from (notes_own n s i from l r sender body within c) within c txs book)
