@@ -182,13 +182,20 @@ noting_kept n s i from =
       kept = put no_kept (log n s).kept i (acked_kept (nth no_kept (log n s).kept i) from);
     }
 
-acked_letter : (old : SystemState) (t : Stream) (n k from : ℕ) (l : Letter) → IsReceivable old n l → l.from ≡ from → l.body ≡ RAck t k
-    → In (Stored from k) (stream_state old t).letters
+-- a letter tells the node n that its sender stores the entry k of the stream t
+pub record HearsStored (old : SystemState) (n : ℕ) (t : Stream) (k : ℕ) : Type 0 where
+  pub from : ℕ
+  pub letter : Letter
+  pub receivable : IsReceivable old n letter
+  pub sender : letter.from ≡ from
+  pub body : letter.body ≡ RAck t k
+
+acked_letter : (old : SystemState) (t : Stream) (n k : ℕ) (heard : HearsStored old n t k) → In (Stored heard.from k) (stream_state old t).letters
 unfolding stream_state
-acked_letter old t n k from l g sender body =
-    let says_it : In (Stored l.from k) (says t l) = rw body (says-rack t l.from l.to l.epoch k) in
-    let said = about-in t (Stored l.from k) l old.letters g.2 says_it in
-    rw (← sender) said
+acked_letter old t n k heard =
+    let says_it : In (Stored heard.letter.from k) (says t heard.letter) = rw heard.body (says-rack t heard.letter.from heard.letter.to heard.letter.epoch k) in
+    let said = about-in t (Stored heard.letter.from k) heard.letter old.letters heard.receivable.2 says_it in
+    rw (← heard.sender) said
 
 -- acknowledging a pending entry is acknowledging what it shares with a stored one
 noted-map : (ps : List Pending) (i from : ℕ) → i < length ps
@@ -210,24 +217,24 @@ kept_noted o n i d from ks done_is kept_is =
     let back : d + i - o.done n ≡ i = rw done_is (omega arith) in
     rw (back, kept_is) refl
 
-note_own_here : (old new : SystemState) (n s i from : ℕ) (l : Letter) (t : Stream) → n ≡ t.node → s ≡ t.slot → IsReceivable old n l → l.from ≡ from
-    → l.body ≡ RAck t ((slot (old.node n) s).done + i) → i < length (slot (old.node n) s).pending
-    → Changes old new n (noting_own (old.node n) s i from) nothing → moves.NotesAck (stream_state old t) (stream_state new t) n ((slot (old.node n) s).done + i) from
+note_own_here : (old new : SystemState) (n s i : ℕ) (t : Stream) → n ≡ t.node → s ≡ t.slot → (heard : HearsStored old n t ((slot (old.node n) s).done + i))
+    → i < length (slot (old.node n) s).pending
+    → Changes old new n (noting_own (old.node n) s i heard.from) nothing → moves.NotesAck (stream_state old t) (stream_state new t) n ((slot (old.node n) s).done + i) heard.from
 unfolding own_kept
-note_own_here old new n s i from l t home at_slot g sender body within c = record {
+note_own_here old new n s i t home at_slot heard within c = record {
   acts = on_kept old new t n after c (same_standing (old.node n) after refl refl refl);
-  sent = acked_letter old t n ((slot (old.node n) s).done + i) from l g sender body;
+  sent = acked_letter old t n ((slot (old.node n) s).done + i) heard;
   has = within_noted (stream_state old t) n i (slot (old.node n) s).done (map as_kept (slot (old.node n) s).pending) done_is kept_is (rw (length-map (slot (old.node n) s).pending as_kept) within);
   done = (after_fields old new t n after c.node).3 ∙ own-done after t n home
       ∙ ap (λ (k : ℕ). (slot after k).done) (sym at_slot) ∙ ap (λ (k : Slot). k.done) slotted ∙ sym done_is;
   kept = (after_fields old new t n after c.node).4 ∙ own-kept after t n home
       ∙ ap (λ (k : ℕ). map as_kept (slot after k).pending) (sym at_slot) ∙ ap (λ (k : Slot). map as_kept k.pending) slotted
-      ∙ noted-map (slot (old.node n) s).pending i from within
-      ∙ kept_noted (stream_state old t) n i (slot (old.node n) s).done from (map as_kept (slot (old.node n) s).pending) done_is kept_is;
+      ∙ noted-map (slot (old.node n) s).pending i heard.from within
+      ∙ kept_noted (stream_state old t) n i (slot (old.node n) s).done heard.from (map as_kept (slot (old.node n) s).pending) done_is kept_is;
 }
   where
     after : Node
-    after = noting_own (old.node n) s i from
+    after = noting_own (old.node n) s i heard.from
 
     done_is : (stream_state old t).done n ≡ (slot (old.node n) s).done
     done_is = own_done_is old t n home ∙ ap (λ (k : ℕ). (slot (old.node n) k).done) (sym at_slot)
@@ -235,15 +242,15 @@ note_own_here old new n s i from l t home at_slot g sender body within c = recor
     kept_is : (stream_state old t).kept n ≡ map as_kept (slot (old.node n) s).pending
     kept_is = own_kept_is old t n home ∙ ap (λ (k : ℕ). map as_kept (slot (old.node n) k).pending) (sym at_slot)
 
-    slotted : slot (noting_own (old.node n) s i from) s ≡ record {
+    slotted : slot (noting_own (old.node n) s i heard.from) s ≡ record {
       current = (slot (old.node n) s).current;
       done = (slot (old.node n) s).done;
-      pending = put no_pending (slot (old.node n) s).pending i (acked_pending (nth no_pending (slot (old.node n) s).pending i) from);
+      pending = put no_pending (slot (old.node n) s).pending i (acked_pending (nth no_pending (slot (old.node n) s).pending i) heard.from);
     }
     slotted = with_slot-same (old.node n) s record {
       current = (slot (old.node n) s).current;
       done = (slot (old.node n) s).done;
-      pending = put no_pending (slot (old.node n) s).pending i (acked_pending (nth no_pending (slot (old.node n) s).pending i) from);
+      pending = put no_pending (slot (old.node n) s).pending i (acked_pending (nth no_pending (slot (old.node n) s).pending i) heard.from);
     }
 
 -- a change of one slot is quiet for the streams of the others
@@ -258,62 +265,59 @@ other_slot n t me s l ne =
     stream_at k j = record { node = k; slot = j }
 
 -- if a node notes an acknowledgement of its own stream, then each stream sees a move
-pub sees_note_own : (old new : SystemState) (t : Stream) (n s i from passed : ℕ) (l : Letter) → IsReceivable old n l → l.from ≡ from
-    → l.body ≡ RAck record { node = n; slot = s } ((slot (old.node n) s).done + i) → i < length (slot (old.node n) s).pending
-    → Changes old new n (noting_own (old.node n) s i from) nothing → Seen (stream_state old t) (stream_state new t) passed
-sees_note_own old new t n s i from passed l g sender body within c =
+pub sees_note_own : (old new : SystemState) (t : Stream) (n s i passed : ℕ) (heard : HearsStored old n record { node = n; slot = s } ((slot (old.node n) s).done + i))
+    → i < length (slot (old.node n) s).pending → Changes old new n (noting_own (old.node n) s i heard.from) nothing → Seen (stream_state old t) (stream_state new t) passed
+sees_note_own old new t n s i passed heard within c =
     elim (stream_cases record { node = n; slot = s } t) [
-      | inr other ↦ sees_nothing old new t n passed (noting_own (old.node n) s i from) c
+      | inr other ↦ sees_nothing old new t n passed (noting_own (old.node n) s i heard.from) c
           (other_slot (old.node n) t n s record {
             current = (slot (old.node n) s).current;
             done = (slot (old.node n) s).done;
-            pending = put no_pending (slot (old.node n) s).pending i (acked_pending (nth no_pending (slot (old.node n) s).pending i) from);
+            pending = put no_pending (slot (old.node n) s).pending i (acked_pending (nth no_pending (slot (old.node n) s).pending i) heard.from);
           } other)
       | inl same ↦ subst (λ (u : Stream). Seen (stream_state old u) (stream_state new u) passed) same
-          (noted n ((slot (old.node n) s).done + i) from (note_own_here old new n s i from l record { node = n; slot = s } refl refl g sender body within c))
+          (noted n ((slot (old.node n) s).done + i) heard.from (note_own_here old new n s i record { node = n; slot = s } refl refl heard within c))
     ]
 
-note_kept_here : (old new : SystemState) (s : Stream) (n i from : ℕ) (l : Letter) → s.node ≢ n → IsReceivable old n l → l.from ≡ from
-    → l.body ≡ RAck s ((log (old.node n) s).done + i) → i < length (log (old.node n) s).kept
-    → Changes old new n (noting_kept (old.node n) s i from) nothing → moves.NotesAck (stream_state old s) (stream_state new s) n ((log (old.node n) s).done + i) from
-note_kept_here old new s n i from l foreign g sender body within c = record {
+note_kept_here : (old new : SystemState) (s : Stream) (n i : ℕ) → s.node ≢ n → (heard : HearsStored old n s ((log (old.node n) s).done + i)) → i < length (log (old.node n) s).kept
+    → Changes old new n (noting_kept (old.node n) s i heard.from) nothing → moves.NotesAck (stream_state old s) (stream_state new s) n ((log (old.node n) s).done + i) heard.from
+note_kept_here old new s n i foreign heard within c = record {
   acts = on_kept old new s n after c (same_standing (old.node n) after refl refl refl);
-  sent = acked_letter old s n ((log (old.node n) s).done + i) from l g sender body;
+  sent = acked_letter old s n ((log (old.node n) s).done + i) heard;
   has = within_noted (stream_state old s) n i (log (old.node n) s).done (log (old.node n) s).kept (log_done_is old s n away) (log_kept_is old s n away) within;
   done = (after_fields old new s n after c.node).3 ∙ log-done after s n away ∙ ap (λ (k : StreamLog). k.done) logged ∙ sym (log_done_is old s n away);
   kept = (after_fields old new s n after c.node).4 ∙ log-kept after s n away ∙ ap (λ (k : StreamLog). k.kept) logged
-      ∙ kept_noted (stream_state old s) n i (log (old.node n) s).done from (log (old.node n) s).kept (log_done_is old s n away) (log_kept_is old s n away);
+      ∙ kept_noted (stream_state old s) n i (log (old.node n) s).done heard.from (log (old.node n) s).kept (log_done_is old s n away) (log_kept_is old s n away);
 }
   where
     away : n ≢ s.node
     away = λ e. foreign (sym e)
 
     after : Node
-    after = noting_kept (old.node n) s i from
+    after = noting_kept (old.node n) s i heard.from
 
-    logged : log (noting_kept (old.node n) s i from) s ≡ record {
+    logged : log (noting_kept (old.node n) s i heard.from) s ≡ record {
       done = (log (old.node n) s).done;
-      kept = put no_kept (log (old.node n) s).kept i (acked_kept (nth no_kept (log (old.node n) s).kept i) from);
+      kept = put no_kept (log (old.node n) s).kept i (acked_kept (nth no_kept (log (old.node n) s).kept i) heard.from);
     }
     logged = with_log-same (old.node n) s record {
       done = (log (old.node n) s).done;
-      kept = put no_kept (log (old.node n) s).kept i (acked_kept (nth no_kept (log (old.node n) s).kept i) from);
+      kept = put no_kept (log (old.node n) s).kept i (acked_kept (nth no_kept (log (old.node n) s).kept i) heard.from);
     }
 
 -- if a node notes an acknowledgement of the stored stream of another, then each stream sees a move
-pub sees_note_kept : (old new : SystemState) (t s : Stream) (n i from passed : ℕ) (l : Letter) → s.node ≢ n → IsReceivable old n l → l.from ≡ from
-    → l.body ≡ RAck s ((log (old.node n) s).done + i) → i < length (log (old.node n) s).kept
-    → Changes old new n (noting_kept (old.node n) s i from) nothing → Seen (stream_state old t) (stream_state new t) passed
-sees_note_kept old new t s n i from passed l foreign g sender body within c =
+pub sees_note_kept : (old new : SystemState) (t s : Stream) (n i passed : ℕ) → s.node ≢ n → (heard : HearsStored old n s ((log (old.node n) s).done + i))
+    → i < length (log (old.node n) s).kept → Changes old new n (noting_kept (old.node n) s i heard.from) nothing → Seen (stream_state old t) (stream_state new t) passed
+sees_note_kept old new t s n i passed foreign heard within c =
     elim (stream_cases s t) [
-      | inr other ↦ sees_nothing old new t n passed (noting_kept (old.node n) s i from) c
-          (logs-quiet (old.node n) (noting_kept (old.node n) s i from) t n refl refl refl refl
+      | inr other ↦ sees_nothing old new t n passed (noting_kept (old.node n) s i heard.from) c
+          (logs-quiet (old.node n) (noting_kept (old.node n) s i heard.from) t n refl refl refl refl
           (with_log-other (old.node n) s t record {
             done = (log (old.node n) s).done;
-            kept = put no_kept (log (old.node n) s).kept i (acked_kept (nth no_kept (log (old.node n) s).kept i) from);
+            kept = put no_kept (log (old.node n) s).kept i (acked_kept (nth no_kept (log (old.node n) s).kept i) heard.from);
           } other))
       | inl same ↦ subst (λ (u : Stream). Seen (stream_state old u) (stream_state new u) passed) same
-          (noted n ((log (old.node n) s).done + i) from (note_kept_here old new s n i from l foreign g sender body within c))
+          (noted n ((log (old.node n) s).done + i) heard.from (note_kept_here old new s n i foreign heard within c))
     ]
 
 -- ---- an entry passes
