@@ -14,9 +14,9 @@ use Rattle.zeus_packet.specs.declared.place.Want.TheVariants.{Own, Read, Leave}
 use Rattle.zeus_packet.specs.declared.write.Content.{Content}
 use Rattle.zeus_txn.specs.Ops.{mentions}
 use Rattle.zeus_model.specs.Tables.{nth}
-use Rattle.zeus_model.specs.State.{Node, copy, entry, gather, owns, slot}
+use Rattle.zeus_model.specs.State.{Node, copy, entry, owns, slot}
 use Rattle.zeus_model.specs.Commit.{no_pending}
-use Rattle.zeus_model.specs.Ownership.{settle, is_decidable, bring, brought}
+use Rattle.zeus_model.specs.Ownership.{settle, bring, brought}
 use Rattle.zeus_model.specs.declared.state.Copy.{Copy}
 use Rattle.zeus_model.specs.declared.state.Gather.{Gather}
 use Rattle.machine_moves.specs.SystemState.{IsLive, Changes, nothing}
@@ -37,7 +37,7 @@ use Rattle.invariants.proofs.Frames.{settle-away, bring-quiet}
 use Rattle.invariants.proofs.StreamFrames.{stream-home, stream-stopped}
 use Rattle.invariants.proofs.ObjectKeeps.{sees_move as object_sees_move}
 use Rattle.invariants.proofs.ObjectMoves.{object-live}
-use Rattle.invariants.proofs.ObjectSeen.{same_or_not, decide_here}
+use Rattle.invariants.proofs.ObjectSeen.{HasGathered, same_or_not, decide_here}
 use Rattle.data_safety.specs.RunState.{RunState, Witness, place_now, Lives}
 use Rattle.data_safety.specs.DataInvariant.{DataInvariant, IsClean, left, content_of}
 use Rattle.data_safety.proofs.Consequences.{numbered, clean-copy, home-done, home-end}
@@ -342,17 +342,11 @@ module _ (y z : RunState) (u : Witness) (f : DataInvariant y u) (n x : ℕ) (p :
 
 -- ---- whatever it decides
 
--- the node n has gathered what decides a proposal for the object x, with its content
-pub record HasGathered (y : RunState) (n x : ℕ) (g : Gather) (co : Content) : Type 0 where
-  pub gathered : gather (y.system.node n) x ≡ Some g
-  pub decidable : is_decidable (y.system.node n) g ≡ true
-  pub content : g.content ≡ Some co
-
-decides-known : (y z : RunState) (u : Witness) (f : DataInvariant y u) (n x : ℕ) (g : Gather) (co : Content) → HasGathered y n x g co
+decides-known : (y z : RunState) (u : Witness) (f : DataInvariant y u) (n x : ℕ) (g : Gather) (co : Content) → HasGathered y.system n x g co
     → MovesAlone y z n (decided_node (y.system.node n) x g.proposal co) nothing → x < length y.system.config.objects → (v : Witness) × DataInvariant z v
 decides-known y z u f n x g co has_gathered alone within =
     let ownership : OwnershipInvariant (object y.system x) (u.chain x) = f.ownership x within in
-    let d : moves.Decides (object y.system x) (object z.system x) n g = decide_here y.system z.system n x g co (u.chain x) (numbered y u f) ownership has_gathered.gathered has_gathered.decidable has_gathered.content alone.change in
+    let d : moves.Decides (object y.system x) (object z.system x) n g = decide_here y.system z.system n x g co (u.chain x) (numbered y u f) ownership has_gathered alone.change in
     elim (keeps_Decides (object y.system x) (object z.system x) (u.chain x) ownership n g d) [
       | inl again ↦ (u, decides-again y z u f n x g.proposal co alone within again)
       | inr first ↦
@@ -363,7 +357,7 @@ decides-known y z u f n x g co has_gathered alone within =
     ]
 
 -- if a node decides a proposal that it gathered, then the invariant stays, with a chain that may be longer
-pub decides-invariant : (y z : RunState) (u : Witness) (f : DataInvariant y u) (n x : ℕ) (g : Gather) (co : Content) → HasGathered y n x g co
+pub decides-invariant : (y z : RunState) (u : Witness) (f : DataInvariant y u) (n x : ℕ) (g : Gather) (co : Content) → HasGathered y.system n x g co
     → MovesAlone y z n (decided_node (y.system.node n) x g.proposal co) nothing → (v : Witness) × DataInvariant z v
 decides-invariant y z u f n x g co has_gathered alone =
     elim (cases_lt x (length y.system.config.objects)) [

@@ -36,7 +36,7 @@ ownership-invariant y z u f (tells n c) h txs book = (u, tells-invariant y z u f
 ownership-invariant y z u f (turns n s cu c) h txs book = absurd h
 ownership-invariant y z u f (settles n x stamp place l r is above c) h txs book = (
   u,
-  settles-invariant y z u f n x stamp place record { letter = l; receivable = r; settling = is; above = above }
+  settles-invariant y z u f n x record { stamp = stamp; place = place; letter = l; receivable = r; settling = is; above = above }
       record { move = settles n x stamp place l r is above c; change = c; txs = txs; book = book },
 )
 ownership-invariant y z u f (drives n x requester want may c acked) h txs book = (u, drives-invariant y z u f n x requester want (drives n x requester want may c acked) may c txs book)
