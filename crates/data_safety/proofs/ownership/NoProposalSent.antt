@@ -15,7 +15,7 @@ use Rattle.zeus_model.specs.Commit.{no_kept, no_pending, acked_kept, acked_pendi
 use Rattle.zeus_model.specs.declared.state.Gather.{Gather}
 use Rattle.zeus_model.specs.declared.state.Kept.{Kept}
 use Rattle.zeus_model.specs.declared.state.Pending.{Pending}
-use Rattle.machine_moves.specs.SystemState.{SystemState, Changes, NewView, nothing, view}
+use Rattle.machine_moves.specs.SystemState.{SystemState, NewView, nothing, view}
 use Rattle.machine_moves.specs.Move.{Move, IsTellable}
 use Rattle.ownership_safety.specs.Object.{Acknowledges, Validates}
 use Rattle.replication_safety.specs.StreamState.{entry_of}
@@ -39,42 +39,41 @@ silent-move : (y z : RunState) (u : Witness) (f : DataInvariant y u) (n : ℕ) (
 silent-move y z u f n after alone keeps = quiet-move y z u f n after nothing alone keeps (λ x l from to e p k none i. none)
 
 -- if a node stops, then the invariant stays
-pub stops-invariant : (y z : RunState) (u : Witness) (f : DataInvariant y u) (n : ℕ) → Move y.system z.system → Changes y.system z.system n (record (y.system.node n) { stopped = true }) nothing
-    → z.txs ≡ y.txs → z.book ≡ y.book → DataInvariant z u
-stops-invariant y z u f n move c txs book =
-    silent-move y z u f n (record (y.system.node n) { stopped = true }) record { move = move; change = c; txs = txs; book = book }
+pub stops-invariant : (y z : RunState) (u : Witness) (f : DataInvariant y u) (n : ℕ) → MovesAlone y z n (record (y.system.node n) { stopped = true }) nothing
+    → DataInvariant z u
+stops-invariant y z u f n alone =
+    silent-move y z u f n (record (y.system.node n) { stopped = true }) alone
     record { me = refl; copies = refl; entries = refl; rows = same-rows (y.system.node n) (record (y.system.node n) { stopped = true }) refl refl }
 
 -- if a node installs a later epoch, then the invariant stays
-pub installs-invariant : (y z : RunState) (u : Witness) (f : DataInvariant y u) (n e : ℕ) → Move y.system z.system → Changes y.system z.system n (installed_node y.system n e) nothing
-    → z.txs ≡ y.txs → z.book ≡ y.book → DataInvariant z u
-installs-invariant y z u f n e move c txs book =
-    silent-move y z u f n (installed_node y.system n e) record { move = move; change = c; txs = txs; book = book }
+pub installs-invariant : (y z : RunState) (u : Witness) (f : DataInvariant y u) (n e : ℕ) → MovesAlone y z n (installed_node y.system n e) nothing
+    → DataInvariant z u
+installs-invariant y z u f n e alone =
+    silent-move y z u f n (installed_node y.system n e) alone
     record { me = refl; copies = refl; entries = refl; rows = same-rows (y.system.node n) (installed_node y.system n e) refl refl }
 
 -- if a node's gather changes, then the invariant stays
-pub gathers-invariant : (y z : RunState) (u : Witness) (f : DataInvariant y u) (n x : ℕ) (g : Option Gather) → Move y.system z.system → Changes y.system z.system n (with_gather (y.system.node n) x g) nothing
-    → z.txs ≡ y.txs → z.book ≡ y.book → DataInvariant z u
-gathers-invariant y z u f n x g move c txs book =
-    silent-move y z u f n (with_gather (y.system.node n) x g) record { move = move; change = c; txs = txs; book = book }
+pub gathers-invariant : (y z : RunState) (u : Witness) (f : DataInvariant y u) (n x : ℕ) (g : Option Gather) → MovesAlone y z n (with_gather (y.system.node n) x g) nothing
+    → DataInvariant z u
+gathers-invariant y z u f n x g alone =
+    silent-move y z u f n (with_gather (y.system.node n) x g) alone
     record { me = refl; copies = refl; entries = refl; rows = same-rows (y.system.node n) (with_gather (y.system.node n) x g) refl refl }
 
 -- if a node notes that one has reported, then the invariant stays
-pub reports-invariant : (y z : RunState) (u : Witness) (f : DataInvariant y u) (n m : ℕ) → Move y.system z.system
-    → Changes y.system z.system n (record (y.system.node n) { reported = with_node m (y.system.node n).reported }) nothing
-    → z.txs ≡ y.txs → z.book ≡ y.book → DataInvariant z u
-reports-invariant y z u f n m move c txs book =
-    silent-move y z u f n (record (y.system.node n) { reported = with_node m (y.system.node n).reported }) record { move = move; change = c; txs = txs; book = book }
+pub reports-invariant : (y z : RunState) (u : Witness) (f : DataInvariant y u) (n m : ℕ) → MovesAlone y z n (record (y.system.node n) { reported = with_node m (y.system.node n).reported }) nothing
+    → DataInvariant z u
+reports-invariant y z u f n m alone =
+    silent-move y z u f n (record (y.system.node n) { reported = with_node m (y.system.node n).reported }) alone
     record { me = refl; copies = refl; entries = refl; rows = same-rows (y.system.node n) (record (y.system.node n) { reported = with_node m (y.system.node n).reported }) refl refl }
 
 not_validates : (n to e : ℕ) (p : Proposal) (k : Content) (t : Stamp) (place : Place) → Acknowledges n to e p (Some k) ≡ Validates t place → ⊥
 not_validates n to e p k t place is = cc
 
 -- if a node sends letters that it may send without a change of its state, then the invariant stays
-pub tells-invariant : (y z : RunState) (u : Witness) (f : DataInvariant y u) (n : ℕ) → Move y.system z.system → Changes y.system z.system n (y.system.node n) (IsTellable (y.system.node n))
-    → z.txs ≡ y.txs → z.book ≡ y.book → DataInvariant z u
-tells-invariant y z u f n move c txs book =
-    quiet-move y z u f n (y.system.node n) (IsTellable (y.system.node n)) record { move = move; change = c; txs = txs; book = book }
+pub tells-invariant : (y z : RunState) (u : Witness) (f : DataInvariant y u) (n : ℕ) → MovesAlone y z n (y.system.node n) (IsTellable (y.system.node n))
+    → DataInvariant z u
+tells-invariant y z u f n alone =
+    quiet-move y z u f n (y.system.node n) (IsTellable (y.system.node n)) alone
     record { me = refl; copies = refl; entries = refl; rows = same-rows (y.system.node n) (y.system.node n) refl refl }
     (λ x l from to e p k tellable i.
     not_validates from to e p k (entry (y.system.node n) x).stamp (entry (y.system.node n) x).place
@@ -131,10 +130,10 @@ own-noted n s i from inside = record {
 }
 
 -- if a node notes an acknowledgement of its own stream, then the invariant stays
-pub notes_own-invariant : (y z : RunState) (u : Witness) (f : DataInvariant y u) (n s i from : ℕ) → Move y.system z.system → i < length (slot (y.system.node n) s).pending
-    → Changes y.system z.system n (with_slot (y.system.node n) s (noted_slot (y.system.node n) s i from)) nothing → z.txs ≡ y.txs → z.book ≡ y.book → DataInvariant z u
-notes_own-invariant y z u f n s i from move inside c txs book =
-    silent-move y z u f n (with_slot (y.system.node n) s (noted_slot (y.system.node n) s i from)) record { move = move; change = c; txs = txs; book = book }
+pub notes_own-invariant : (y z : RunState) (u : Witness) (f : DataInvariant y u) (n s i from : ℕ) → i < length (slot (y.system.node n) s).pending → MovesAlone y z n (with_slot (y.system.node n) s (noted_slot (y.system.node n) s i from)) nothing
+    → DataInvariant z u
+notes_own-invariant y z u f n s i from inside alone =
+    silent-move y z u f n (with_slot (y.system.node n) s (noted_slot (y.system.node n) s i from)) alone
     record { me = refl; copies = refl; entries = refl; rows = own-noted (y.system.node n) s i from inside }
 
 log-noted : (n : Node) (t : Stream) (i from : ℕ) → i < length (log n t).kept → SameRows n (with_log n t (noted_log n t i from))
@@ -158,10 +157,10 @@ log-noted n t i from inside = record {
 }
 
 -- if a node notes an acknowledgement of the stored stream of another node, then the invariant stays
-pub notes_kept-invariant : (y z : RunState) (u : Witness) (f : DataInvariant y u) (n i from : ℕ) (t : Stream) → Move y.system z.system → i < length (log (y.system.node n) t).kept
-    → Changes y.system z.system n (with_log (y.system.node n) t (noted_log (y.system.node n) t i from)) nothing → z.txs ≡ y.txs → z.book ≡ y.book → DataInvariant z u
-notes_kept-invariant y z u f n i from t move inside c txs book =
-    silent-move y z u f n (with_log (y.system.node n) t (noted_log (y.system.node n) t i from)) record { move = move; change = c; txs = txs; book = book }
+pub notes_kept-invariant : (y z : RunState) (u : Witness) (f : DataInvariant y u) (n i from : ℕ) (t : Stream) → i < length (log (y.system.node n) t).kept → MovesAlone y z n (with_log (y.system.node n) t (noted_log (y.system.node n) t i from)) nothing
+    → DataInvariant z u
+notes_kept-invariant y z u f n i from t inside alone =
+    silent-move y z u f n (with_log (y.system.node n) t (noted_log (y.system.node n) t i from)) alone
     record { me = refl; copies = refl; entries = refl; rows = log-noted (y.system.node n) t i from inside }
 
 -- ---- views

@@ -18,8 +18,8 @@ use Rattle.zeus_model.specs.Commit.{no_pending}
 use Rattle.zeus_model.specs.Ownership.{holding, driven, is_node, is_source, own_content, content_of}
 use Rattle.zeus_model.specs.declared.state.Copy.{Copy}
 use Rattle.zeus_model.specs.declared.state.Entry.{Entry}
-use Rattle.machine_moves.specs.SystemState.{IsLive, Changes}
-use Rattle.machine_moves.specs.Move.{Move, IsAboutProposal, to_arbiter, to_collector, HasAcked, MayDrive, MayAccept}
+use Rattle.machine_moves.specs.SystemState.{IsLive}
+use Rattle.machine_moves.specs.Move.{IsAboutProposal, to_arbiter, to_collector, HasAcked, MayDrive, MayAccept}
 use Rattle.ownership_safety.specs.Object.{Invalidates, Acknowledges, HasGiven, IsSaid, Letter as Said, place_at}
 use Rattle.ownership_safety.specs.Moves as moves
 use Rattle.ownership_safety.specs.OwnershipInvariant.{OwnershipInvariant, IsHeld}
@@ -177,24 +177,23 @@ holding-owned y u f n x p none = record {
 -- ---- the moves
 
 -- if a node drives a request, then the invariant stays
-pub drives-invariant : (y z : RunState) (u : Witness) (f : DataInvariant y u) (n x requester : ℕ) (want : Want) → Move y.system z.system → MayDrive y.system n x requester want
-    → Changes y.system z.system n (holding (y.system.node n) x (driven (y.system.node n) x requester want)) (IsAboutProposal (y.system.node n) x (driven (y.system.node n) x requester want))
-    → z.txs ≡ y.txs → z.book ≡ y.book → DataInvariant z u
-drives-invariant y z u f n x requester want move may c txs book =
-    proposal-move y z u f n x (driven (y.system.node n) x requester want) (holding (y.system.node n) x (driven (y.system.node n) x requester want))
-    record { move = move; change = c; txs = txs; book = book }
+pub drives-invariant : (y z : RunState) (u : Witness) (f : DataInvariant y u) (n x requester : ℕ) (want : Want) → MayDrive y.system n x requester want
+    → MovesAlone y z n (holding (y.system.node n) x (driven (y.system.node n) x requester want)) (IsAboutProposal (y.system.node n) x (driven (y.system.node n) x requester want))
+    → DataInvariant z u
+drives-invariant y z u f n x requester want may alone =
+    proposal-move y z u f n x (driven (y.system.node n) x requester want) (holding (y.system.node n) x (driven (y.system.node n) x requester want)) alone
     record {
       copies = refl;
       stamps = holding-stamp (y.system.node n) x (driven (y.system.node n) x requester want);
       rows = same-rows (y.system.node n) (holding (y.system.node n) x (driven (y.system.node n) x requester want)) refl refl;
       keeps = holding-owned y u f n x (driven (y.system.node n) x requester want)
-          (λ a i inside m own. unheld (y.system.node n) x (unready-none (y.system.node n) x (may.ready (owns-source y u f n x c.live own))).1 a i inside m);
+          (λ a i inside m own. unheld (y.system.node n) x (unready-none (y.system.node n) x (may.ready (owns-source y u f n x alone.change.live own))).1 a i inside m);
     }
     record {
-      live = c.live;
+      live = alone.change.live;
       opened = may.opened;
       base = λ within last.
-          let is : (object y.system x).entry n ≡ entry (y.system.node n) x = object-entry y.system x n (f.steady.nodes n c.live).within in
+          let is : (object y.system x).entry n ≡ entry (y.system.node n) x = object-entry y.system x n (f.steady.nodes n alone.change.live).within in
           let place : (entry (y.system.node n) x).place ≡ place_at (object y.system x) (u.chain x) (entry (y.system.node n) x).stamp.ver = rw is at ((f.ownership x within).settled n).place in
           place ∙ ap (λ (v : ℕ). place_at (object y.system x) (u.chain x) v) last;
     }
@@ -205,11 +204,10 @@ said-base y u f x e p within said last =
     ((f.ownership x within).proposals p e said).base_place ∙ ap (λ (v : ℕ). place_at (object y.system x) (u.chain x) v) last
 
 -- if a node accepts a proposal, then the invariant stays
-pub accepts-invariant : (y z : RunState) (u : Witness) (f : DataInvariant y u) (n x : ℕ) (p : Proposal) → Move y.system z.system → MayAccept y.system n x p
-    → Changes y.system z.system n (holding (y.system.node n) x p) (IsAboutProposal (y.system.node n) x p) → HasAcked z.system (y.system.node n) x p
-    → z.txs ≡ y.txs → z.book ≡ y.book → DataInvariant z u
-accepts-invariant y z u f n x p move may c acked txs book =
-    proposal-move y z u f n x p (holding (y.system.node n) x p) record { move = move; change = c; txs = txs; book = book }
+pub accepts-invariant : (y z : RunState) (u : Witness) (f : DataInvariant y u) (n x : ℕ) (p : Proposal) → MayAccept y.system n x p → HasAcked z.system (y.system.node n) x p
+    → MovesAlone y z n (holding (y.system.node n) x p) (IsAboutProposal (y.system.node n) x p) → DataInvariant z u
+accepts-invariant y z u f n x p may acked alone =
+    proposal-move y z u f n x p (holding (y.system.node n) x p) alone
     record {
       copies = refl;
       stamps = holding-stamp (y.system.node n) x p;
@@ -217,31 +215,31 @@ accepts-invariant y z u f n x p move may c acked txs book =
       keeps = holding-owned y u f n x p (λ a i inside m own.
           let within : x < length y.system.config.objects = pending-within y u f n a i x inside m in
           let ownership : OwnershipInvariant (object y.system x) (u.chain x) = f.ownership x within in
-          let step = accept_here y.system z.system n x p (u.chain x) (numbered y u f) ownership may c acked in
-          let settled = settled-base (object y.system x) (u.chain x) ownership n p (object-live y.system x n c.live) step.said step.arbiter step.not_below_base step.below in
-          let is : (object y.system x).entry n ≡ entry (y.system.node n) x = object-entry y.system x n (f.steady.nodes n c.live).within in
+          let step = accept_here y.system z.system n x p (u.chain x) (numbered y u f) ownership may alone.change acked in
+          let settled = settled-base (object y.system x) (u.chain x) ownership n p (object-live y.system x n alone.change.live) step.said step.arbiter step.not_below_base step.below in
+          let is : (object y.system x).entry n ≡ entry (y.system.node n) x = object-entry y.system x n (f.steady.nodes n alone.change.live).within in
           let place : (entry (y.system.node n) x).place ≡ p.base_place = ap (λ (e : Entry). e.place) (sym is) ∙ settled.1 in
-          let is_the_source : is_source (y.system.node n) p.base_place ≡ true = sym (ap (λ (pl : Place). is_source (y.system.node n) pl) place) ∙ owns-source y u f n x c.live own in
+          let is_the_source : is_source (y.system.node n) p.base_place ≡ true = sym (ap (λ (pl : Place). is_source (y.system.node n) pl) place) ∙ owns-source y u f n x alone.change.live own in
           unheld (y.system.node n) x (unready-none (y.system.node n) x (may.ready is_the_source)).1 a i inside m);
     }
     record {
-      live = c.live;
+      live = alone.change.live;
       opened = may.opened;
-      base = λ within last. let a = accept_here y.system z.system n x p (u.chain x) (numbered y u f) (f.ownership x within) may c acked in said-base y u f x ((object y.system x).epoch n) p within a.said last;
+      base = λ within last. let a = accept_here y.system z.system n x p (u.chain x) (numbered y u f) (f.ownership x within) may alone.change acked in said-base y u f x ((object y.system x).epoch n) p within a.said last;
     }
 
 -- if a node says again the proposal that it holds, then the invariant stays
-pub redrives-invariant : (y z : RunState) (u : Witness) (f : DataInvariant y u) (n x : ℕ) (p : Proposal) → Move y.system z.system → (entry (y.system.node n) x).proposal ≡ Some p
-    → is_open (y.system.node n) ≡ true → Changes y.system z.system n (y.system.node n) (IsAboutProposal (y.system.node n) x p) → z.txs ≡ y.txs → z.book ≡ y.book → DataInvariant z u
-redrives-invariant y z u f n x p move held opened c txs book =
-    proposal-move y z u f n x p (y.system.node n) record { move = move; change = c; txs = txs; book = book }
+pub redrives-invariant : (y z : RunState) (u : Witness) (f : DataInvariant y u) (n x : ℕ) (p : Proposal) → (entry (y.system.node n) x).proposal ≡ Some p → is_open (y.system.node n) ≡ true
+    → MovesAlone y z n (y.system.node n) (IsAboutProposal (y.system.node n) x p) → DataInvariant z u
+redrives-invariant y z u f n x p held opened alone =
+    proposal-move y z u f n x p (y.system.node n) alone
     record { copies = refl; stamps = λ w. refl; rows = same-rows (y.system.node n) (y.system.node n) refl refl; keeps = record { owned = λ a i w inside m own. own } }
     record {
-      live = c.live;
+      live = alone.change.live;
       opened = opened;
       base = λ within last.
           let ownership : OwnershipInvariant (object y.system x) (u.chain x) = f.ownership x within in
-          let is : (object y.system x).entry n ≡ entry (y.system.node n) x = object-entry y.system x n (f.steady.nodes n c.live).within in
+          let is : (object y.system x).entry n ≡ entry (y.system.node n) x = object-entry y.system x n (f.steady.nodes n alone.change.live).within in
           let h : IsHeld (object y.system x) n p = ownership.held n p (ap (λ (e : Entry). e.proposal) is ∙ held) in
           said-base y u f x h.acked.0 p within (ack-said (object y.system x) (u.chain x) ownership n p h.acked.0 h.acked.2) last;
     }
