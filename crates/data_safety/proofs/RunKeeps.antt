@@ -44,7 +44,8 @@ move-invariant y z u f (plain move is txs book) = plain-keeps y z u f move is tx
 move-invariant y z u f (stutters same txs book steps) = (u, stutters-invariant y z u f same txs book steps)
 move-invariant y z u f (begins n s id c named tx at in_slot within fresh free ch txs book) =
     (u, begins-invariant y z u f n s id c record { named = named; tx = tx; at_node = at; at_slot = in_slot; fresh = fresh; change = ch; txs = txs; book = book })
-move-invariant y z u f (reads n s c is reader clear ch txs book) = (u, reads-invariant y z u f n s c is reader clear ch txs book)
+move-invariant y z u f (reads n s c is reader clear ch txs book) =
+    (u, reads-invariant y z u f n s c record { current = is; reader = reader; free = clear; change = ch; txs = txs; book = book })
 move-invariant y z u f (refuses n s c is reader ch txs book) = (u, refuses-invariant y z u f n s c is ch txs book)
 move-invariant y z u f (commits_tx n s c within is writer clear ch txs book) =
     (u, keeps_commit y z u f n s c record { within = within; current = is; writes = writer; free = clear; change = ch; txs = txs; book = book })
