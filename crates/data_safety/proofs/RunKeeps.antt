@@ -17,8 +17,10 @@ use Rattle.data_safety.proofs.stores.Store.{keeps_store}
 -- a move that writes nothing into the book
 plain-keeps : (y z : RunState) (u : Witness) → DataInvariant y u → (move : Move y.system z.system) → IsPlain y.system z.system move → z.txs ≡ y.txs → z.book ≡ y.book → HasDataInvariant z
 unfolding IsPlain IsOwnershipMove
-plain-keeps y z u f (raises n d s l foreign r is above c) h txs book = (u, keeps_raise y z u f n d s l foreign r is above c txs book)
-plain-keeps y z u f (stores n r l foreign g body low number room c) h txs book = (u, keeps_store y z u f n r l foreign g body low number room c txs book)
+plain-keeps y z u f (raises n d s l foreign r is above c) h txs book =
+    (u, keeps_raise y z u f n d s record { letter = l; receivable = r; foreign = foreign; raising = is; above = above } c txs book)
+plain-keeps y z u f (stores n r l foreign g body low number room c) h txs book =
+    (u, keeps_store y z u f n r record { letter = l; receivable = g; body = body; foreign = foreign; passed = low; number = number } room c txs book)
 plain-keeps y z u f (turns n s cu c) h txs book = absurd h
 plain-keeps y z u f (passes_own n s some ok c) h txs book = absurd h
 plain-keeps y z u f (passes_kept n s out foreign some ok c) h txs book = absurd h

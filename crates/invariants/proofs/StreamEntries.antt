@@ -75,34 +75,42 @@ on_kept old new t n after c st = record {
   sends = quiet_sends old new t n after c;
 }
 
+-- a letter tells the node n that more entries of another's stream have passed than n counts
+pub record HearsPassed (old : SystemState) (n : ℕ) (s : Stream) (d : ℕ) : Type 0 where
+  pub letter : Letter
+  pub receivable : IsReceivable old n letter
+  pub foreign : s.node ≢ n
+  pub raising : IsRaising s d letter
+  pub above : (log (old.node n) s).done < d
+
 -- if a node raises the count of the stored stream of another, then the stream sees the raise
-pub raise_here : (old new : SystemState) (s : Stream) (n d passed : ℕ) (l : Letter) → ReplicationInvariant (stream_state old s) passed → s.node ≢ n → In l old.letters
-    → IsRaising s d l → (log (old.node n) s).done < d → Changes old new n (raise (old.node n) s d) nothing → moves.Raises (stream_state old s) (stream_state new s) passed n d
-raise_here old new s n d passed l replication foreign i is above c = record {
+pub raise_here : (old new : SystemState) (s : Stream) (n d passed : ℕ) → ReplicationInvariant (stream_state old s) passed → HearsPassed old n s d
+    → Changes old new n (raise (old.node n) s d) nothing → moves.Raises (stream_state old s) (stream_state new s) passed n d
+raise_here old new s n d passed replication heard c = record {
   acts = on_kept old new s n (raise (old.node n) s d) c (raise-standing (old.node n) s d).0;
   foreign = λ e. away (e ∙ stream-home old s);
-  above = rw (log_done_is old s n away) above;
-  known = raise_known old s n d passed l replication i is;
+  above = rw (log_done_is old s n away) heard.above;
+  known = raise_known old s n d passed heard.letter replication heard.receivable.2 heard.raising;
   done = (after_fields old new s n (raise (old.node n) s d) c.node).3 ∙ log-done (raise (old.node n) s d) s n away
-      ∙ ap (λ (k : StreamLog). k.done) (raise-taken (old.node n) s d above);
+      ∙ ap (λ (k : StreamLog). k.done) (raise-taken (old.node n) s d heard.above);
   kept = (after_fields old new s n (raise (old.node n) s d) c.node).4 ∙ log-kept (raise (old.node n) s d) s n away
-      ∙ ap (λ (k : StreamLog). k.kept) (raise-taken (old.node n) s d above) ∙ rw (log_done_is old s n away, log_kept_is old s n away) refl;
+      ∙ ap (λ (k : StreamLog). k.kept) (raise-taken (old.node n) s d heard.above) ∙ rw (log_done_is old s n away, log_kept_is old s n away) refl;
 }
   where
     away : n ≢ s.node
-    away = λ e. foreign (sym e)
+    away = λ e. heard.foreign (sym e)
 
 -- if a node raises the count of the stored stream of another, then each stream sees a move
-pub sees_raise : (old new : SystemState) (t s : Stream) (n d passed : ℕ) (l : Letter) → ReplicationInvariant (stream_state old t) passed → s.node ≢ n → IsReceivable old n l
-    → IsRaising s d l → (log (old.node n) s).done < d → Changes old new n (raise (old.node n) s d) nothing → Seen (stream_state old t) (stream_state new t) passed
-sees_raise old new t s n d passed l replication foreign r is above c =
+pub sees_raise : (old new : SystemState) (t s : Stream) (n d passed : ℕ) → ReplicationInvariant (stream_state old t) passed → HearsPassed old n s d
+    → Changes old new n (raise (old.node n) s d) nothing → Seen (stream_state old t) (stream_state new t) passed
+sees_raise old new t s n d passed replication heard c =
     elim (stream_cases s t) [
       | inr other ↦
           let st = raise-standing (old.node n) s d in
           sees_nothing old new t n passed (raise (old.node n) s d) c
           (logs-quiet (old.node n) (raise (old.node n) s d) t n st.0.stopped st.0.epoch st.0.reported st.1 (raise-other (old.node n) s t d other))
       | inl same ↦ subst (λ (u : Stream). Seen (stream_state old u) (stream_state new u) passed) same
-          (raised n d (raise_here old new s n d passed l (subst (λ (u : Stream). ReplicationInvariant (stream_state old u) passed) (sym same) replication) foreign r.2 is above c))
+          (raised n d (raise_here old new s n d passed (subst (λ (u : Stream). ReplicationInvariant (stream_state old u) passed) (sym same) replication) heard c))
     ]
 
 -- ---- an entry is stored
@@ -119,13 +127,21 @@ stored_letter old n r l body g =
     let said = about-in r.stream (Stores l.from l.to l.epoch r.number r.done record { followers = r.followers; writes = r.writes }) l old.letters g.2 says_it in
     rw (← g.1, ← g.0) said
 
+-- a letter brings the node n the next entry of another's stream, where n counts all that has passed before it
+pub record HearsNext (old : SystemState) (n : ℕ) (r : Invalidation) : Type 0 where
+  pub letter : Letter
+  pub receivable : IsReceivable old n letter
+  pub body : letter.body ≡ RInv r
+  pub foreign : r.stream.node ≢ n
+  pub passed : r.done ≤ (log (old.node n) r.stream).done
+  pub number : r.number ≡ next_kept (log (old.node n) r.stream)
+
 -- if a node stores the next entry of the stream of another, then the stream sees it stored
-pub store_here : (old new : SystemState) (n : ℕ) (r : Invalidation) (l : Letter) → r.stream.node ≢ n → IsReceivable old n l → l.body ≡ RInv r
-    → r.done ≤ (log (old.node n) r.stream).done → r.number ≡ next_kept (log (old.node n) r.stream)
+pub store_here : (old new : SystemState) (n : ℕ) (r : Invalidation) → HearsNext old n r
     → Changes old new n (store (old.node n) r) nothing → moves.StoresNext (stream_state old r.stream) (stream_state new r.stream) n record { followers = r.followers; writes = r.writes }
-store_here old new n r l foreign g body low number c = record {
+store_here old new n r heard c = record {
   acts = on_kept old new r.stream n (store (old.node n) r) c (same_standing (old.node n) (store (old.node n) r) refl refl refl);
-  sent = (l.from, r.done, rw (log_done_is old r.stream n away) low, sent_top);
+  sent = (heard.letter.from, r.done, rw (log_done_is old r.stream n away) heard.passed, sent_top);
   done = (after_fields old new r.stream n (store (old.node n) r) c.node).3 ∙ log-done (store (old.node n) r) r.stream n away
       ∙ ap (λ (k : StreamLog). k.done) logged ∙ sym (log_done_is old r.stream n away);
   kept = (after_fields old new r.stream n (store (old.node n) r) c.node).4 ∙ log-kept (store (old.node n) r) r.stream n away
@@ -133,7 +149,7 @@ store_here old new n r l foreign g body low number c = record {
 }
   where
     away : n ≢ r.stream.node
-    away = λ e. foreign (sym e)
+    away = λ e. heard.foreign (sym e)
 
     entry_log : StreamLog
     entry_log = record { done = (log (old.node n) r.stream).done; kept = (log (old.node n) r.stream).kept ++ record { followers = r.followers; writes = r.writes; acks = [] } ∷ [] }
@@ -142,17 +158,16 @@ store_here old new n r l foreign g body low number c = record {
     logged = with_log-same (with_copies (old.node n) (each_write applied (old.node n).copies r.writes)) r.stream entry_log
 
     top_is : r.number ≡ top (stream_state old r.stream) n
-    top_is = number ∙ rw (log_done_is old r.stream n away, log_kept_is old r.stream n away) refl
+    top_is = heard.number ∙ rw (log_done_is old r.stream n away, log_kept_is old r.stream n away) refl
 
-    sent_top : In (Stores l.from n ((stream_state old r.stream).epoch n) (top (stream_state old r.stream) n) r.done record { followers = r.followers; writes = r.writes }) (stream_state old r.stream).letters
-    sent_top = subst (λ (k : ℕ). In (Stores l.from n ((stream_state old r.stream).epoch n) k r.done record { followers = r.followers; writes = r.writes }) (stream_state old r.stream).letters)
-        top_is (stored_letter old n r l body g)
+    sent_top : In (Stores heard.letter.from n ((stream_state old r.stream).epoch n) (top (stream_state old r.stream) n) r.done record { followers = r.followers; writes = r.writes }) (stream_state old r.stream).letters
+    sent_top = subst (λ (k : ℕ). In (Stores heard.letter.from n ((stream_state old r.stream).epoch n) k r.done record { followers = r.followers; writes = r.writes }) (stream_state old r.stream).letters)
+        top_is (stored_letter old n r heard.letter heard.body heard.receivable)
 
 -- if a node stores the next entry of the stream of another, then each stream sees a move
-pub sees_store : (old new : SystemState) (t : Stream) (n passed : ℕ) (r : Invalidation) (l : Letter) → r.stream.node ≢ n → IsReceivable old n l → l.body ≡ RInv r
-    → r.done ≤ (log (old.node n) r.stream).done → r.number ≡ next_kept (log (old.node n) r.stream)
+pub sees_store : (old new : SystemState) (t : Stream) (n passed : ℕ) (r : Invalidation) → HearsNext old n r
     → Changes old new n (store (old.node n) r) nothing → Seen (stream_state old t) (stream_state new t) passed
-sees_store old new t n passed r l foreign g body low number c =
+sees_store old new t n passed r heard c =
     elim (stream_cases r.stream t) [
       | inr other ↦
           sees_nothing old new t n passed (store (old.node n) r) c
@@ -160,7 +175,7 @@ sees_store old new t n passed r l foreign g body low number c =
           (with_log-other (with_copies (old.node n) (each_write applied (old.node n).copies r.writes)) r.stream t
           record { done = (log (old.node n) r.stream).done; kept = (log (old.node n) r.stream).kept ++ record { followers = r.followers; writes = r.writes; acks = [] } ∷ [] } other))
       | inl same ↦ subst (λ (u : Stream). Seen (stream_state old u) (stream_state new u) passed) same
-          (stored_next n record { followers = r.followers; writes = r.writes } (store_here old new n r l foreign g body low number c))
+          (stored_next n record { followers = r.followers; writes = r.writes } (store_here old new n r heard c))
     ]
 
 -- ---- an acknowledgement is noted

@@ -110,7 +110,7 @@ decided-entry n x w p c ne =
 
 -- ---- a decision, as far as other objects
 
--- the object x that a decision of the node n is about, if the chains of decided placements become those given: what holds of x then
+-- what holds of the object x when the node n decides a placement of it and the chains become those given: only the chain of x may be another
 record HoldsDecided (y z : RunState) (u : Witness) (chain : ℕ → List Proposal) (n x : ℕ) : Type 0 where
   others : (w : ℕ) → x ≢ w → chain w ≡ u.chain w
   object_is : x < length y.system.config.objects → IsSameObject y z u (with_chains u chain) x ⊎ IsRenewed y z u (with_chains u chain) x
