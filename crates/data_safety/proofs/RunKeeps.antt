@@ -17,8 +17,10 @@ use Rattle.data_safety.proofs.stores.Store.{keeps_store}
 -- a move that writes nothing into the book
 plain-keeps : (y z : RunState) (u : Witness) → DataInvariant y u → (move : Move y.system z.system) → IsPlain y.system z.system move → z.txs ≡ y.txs → z.book ≡ y.book → HasDataInvariant z
 unfolding IsPlain IsOwnershipMove
-plain-keeps y z u f (raises n d s l foreign r is above c) h txs book = (u, keeps_raise y z u f n d s l foreign r is above c txs book)
-plain-keeps y z u f (stores n r l foreign g body low number room c) h txs book = (u, keeps_store y z u f n r l foreign g body low number room c txs book)
+plain-keeps y z u f (raises n d s l foreign r is above c) h txs book =
+    (u, keeps_raise y z u f n d s record { letter = l; receivable = r; foreign = foreign; raising = is; above = above } c txs book)
+plain-keeps y z u f (stores n r l foreign g body low number room c) h txs book =
+    (u, keeps_store y z u f n r record { letter = l; receivable = g; body = body; foreign = foreign; passed = low; number = number } room c txs book)
 plain-keeps y z u f (turns n s cu c) h txs book = absurd h
 plain-keeps y z u f (passes_own n s some ok c) h txs book = absurd h
 plain-keeps y z u f (passes_kept n s out foreign some ok c) h txs book = absurd h
@@ -42,8 +44,10 @@ plain-keeps y z u f (hears n m l body sender r c) h txs book = ownership-invaria
 pub move-invariant : (y z : RunState) (u : Witness) → DataInvariant y u → RunMove y z → HasDataInvariant z
 move-invariant y z u f (plain move is txs book) = plain-keeps y z u f move is txs book
 move-invariant y z u f (stutters same txs book steps) = (u, stutters-invariant y z u f same txs book steps)
-move-invariant y z u f (begins n s id c named tx at in_slot within fresh free ch txs book) = (u, begins-invariant y z u f n s id c named tx at in_slot fresh ch txs book)
-move-invariant y z u f (reads n s c is reader clear ch txs book) = (u, reads-invariant y z u f n s c is reader clear ch txs book)
+move-invariant y z u f (begins n s id c named tx at in_slot within fresh free ch txs book) =
+    (u, begins-invariant y z u f n s id c record { named = named; tx = tx; at_node = at; at_slot = in_slot; fresh = fresh; change = ch; txs = txs; book = book })
+move-invariant y z u f (reads n s c is reader clear ch txs book) =
+    (u, reads-invariant y z u f n s c record { current = is; reader = reader; free = clear; change = ch; txs = txs; book = book })
 move-invariant y z u f (refuses n s c is reader ch txs book) = (u, refuses-invariant y z u f n s c is ch txs book)
 move-invariant y z u f (commits_tx n s c within is writer clear ch txs book) =
     (u, keeps_commit y z u f n s c record { within = within; current = is; writes = writer; free = clear; change = ch; txs = txs; book = book })

@@ -32,12 +32,16 @@ sees_move old new x chain numbered ownership (installs n e later within c) = see
 sees_move old new x chain numbered ownership (tells n c) =
     told n (tells_object old new x n (old.node n) (IsTellable (old.node n)) numbered c refl refl refl refl (λ l m t i. tellable-says (old.node n) x l m t i))
 sees_move old new x chain numbered ownership (turns n s cu c) = sees_nothing old new x n _ chain numbered c record { stopped = refl; epoch = refl; entry = refl; gather = refl }
-sees_move old new x chain numbered ownership (settles n y stamp place l r s above c) = sees_settle old new x n y chain stamp place l numbered ownership r s above c
+sees_move old new x chain numbered ownership (settles n y stamp place l r s above c) =
+    sees_settle old new x n y chain numbered ownership record { stamp = stamp; place = place; letter = l; receivable = r; settling = s; above = above } c
 sees_move old new x chain numbered ownership (drives n y requester want may c acked) = sees_drive old new x n y requester want chain numbered may c acked
 sees_move old new x chain numbered ownership (accepts n y p may c acked) = sees_accept old new x n y p chain numbered ownership may c acked
 sees_move old new x chain numbered ownership (redrives n y p held open_now sourced c) = sees_redrive old new x n y p chain numbered held c
-sees_move old new x chain numbered ownership (gathers n y from p co l body sender r below greatest c) = sees_gather old new x n y from p co l chain numbered body sender r below greatest c
-sees_move old new x chain numbered ownership (decides n y g co gathered decidable content c) = sees_decide old new x n y g co chain numbered ownership gathered decidable content c
+sees_move old new x chain numbered ownership (gathers n y from p co l body sender r below greatest c) =
+    sees_gather old new x n y chain numbered
+    record { from = from; proposal = p; content = co; letter = l; body = body; sender = sender; receivable = r; below = below; greatest = greatest } c
+sees_move old new x chain numbered ownership (decides n y g co gathered decidable content c) =
+    sees_decide old new x n y g co chain numbered ownership record { gathered = gathered; decidable = decidable; content = content } c
 sees_move old new x chain numbered ownership (raises n d s l foreign r is above c) = sees_nothing old new x n _ chain numbered c (raise-quiet (old.node n) s d x)
 sees_move old new x chain numbered ownership (stores n r l foreign is body low number room c) = sees_nothing old new x n _ chain numbered c record { stopped = refl; epoch = refl; entry = refl; gather = refl }
 sees_move old new x chain numbered ownership (notes_own n s i from l r sender body within c) = sees_nothing old new x n _ chain numbered c record { stopped = refl; epoch = refl; entry = refl; gather = refl }

@@ -178,24 +178,29 @@ settled_seen old new x n chain stamp place numbered is above c = record {
     later : (t s : Stamp) (chain : List Proposal) → s ≡ chain_stamp chain s.ver → is_below t s ≡ true → 1 ≤ s.ver
     later t s chain e h = nonzero s.ver (λ z. above-first t s h (e ∙ ap (λ (v : ℕ). chain_stamp chain v) z ∙ chain_stamp-zero chain))
 
-settles_here : (old new : SystemState) (x n y : ℕ) (chain : List Proposal) (stamp : Stamp) (place : Place) (l : Letter) → IsNumbered old
-    → OwnershipInvariant (object old x) chain → In l old.letters → IsSettling y stamp place l → is_below (entry (old.node n) y).stamp stamp ≡ true
-    → Changes old new n (settle (old.node n) y stamp place) nothing → y ≡ x → Seen (object old x) (object new x) chain
-settles_here old new x n y chain stamp place l numbered ownership i s above c same =
-    let s' : IsSettling x stamp place l = subst (λ (k : ℕ). IsSettling k stamp place l) same s in
-    let above' : is_below (entry (old.node n) x).stamp stamp ≡ true = subst (λ (k : ℕ). is_below (entry (old.node n) k).stamp stamp ≡ true) same above in
-    let c' : Changes old new n (settle (old.node n) x stamp place) nothing = subst (λ (k : ℕ). Changes old new n (settle (old.node n) k stamp place) nothing) same c in
-    let is : IsDecided (object old x) chain stamp place = settling-decided old x chain stamp place l ownership i s' in
-    settled n stamp.ver (settled_seen old new x n chain stamp place numbered is above' c')
+-- a letter tells the node n that a placement of the object x is decided, with a stamp above the one that n has settled
+pub record HearsDecided (old : SystemState) (n x : ℕ) : Type 0 where
+  pub stamp : Stamp
+  pub place : Place
+  pub letter : Letter
+  pub receivable : IsReceivable old n letter
+  pub settling : IsSettling x stamp place letter
+  pub above : is_below (entry (old.node n) x).stamp stamp ≡ true
+
+settles_here : (old new : SystemState) (x n : ℕ) (chain : List Proposal) → IsNumbered old → OwnershipInvariant (object old x) chain → (heard : HearsDecided old n x)
+    → Changes old new n (settle (old.node n) x heard.stamp heard.place) nothing → Seen (object old x) (object new x) chain
+settles_here old new x n chain numbered ownership heard c =
+    let is : IsDecided (object old x) chain heard.stamp heard.place = settling-decided old x chain heard.stamp heard.place heard.letter ownership heard.receivable.2 heard.settling in
+    settled n heard.stamp.ver (settled_seen old new x n chain heard.stamp heard.place numbered is heard.above c)
 
 -- if a node settles a placement that it was told, then each object sees a move
-pub sees_settle : (old new : SystemState) (x n y : ℕ) (chain : List Proposal) (stamp : Stamp) (place : Place) (l : Letter) → IsNumbered old
-    → OwnershipInvariant (object old x) chain → IsReceivable old n l → IsSettling y stamp place l → is_below (entry (old.node n) y).stamp stamp ≡ true
-    → Changes old new n (settle (old.node n) y stamp place) nothing → Seen (object old x) (object new x) chain
-sees_settle old new x n y chain stamp place l numbered ownership r s above c =
+pub sees_settle : (old new : SystemState) (x n y : ℕ) (chain : List Proposal) → IsNumbered old → OwnershipInvariant (object old x) chain → (heard : HearsDecided old n y)
+    → Changes old new n (settle (old.node n) y heard.stamp heard.place) nothing → Seen (object old x) (object new x) chain
+sees_settle old new x n y chain numbered ownership heard c =
     elim (same_or_not y x) [
-      | inr other ↦ sees_nothing old new x n (settle (old.node n) y stamp place) chain numbered c (settle-other (old.node n) y x stamp place above other)
-      | inl same ↦ settles_here old new x n y chain stamp place l numbered ownership r.2 s above c same
+      | inr other ↦ sees_nothing old new x n (settle (old.node n) y heard.stamp heard.place) chain numbered c (settle-other (old.node n) y x heard.stamp heard.place heard.above other)
+      | inl same ↦ subst (λ (k : ℕ). Seen (object old k) (object new k) chain) same
+          (settles_here old new y n chain numbered (subst (λ (k : ℕ). OwnershipInvariant (object old k) chain) (sym same) ownership) heard c)
     ]
 
 -- what a letter to a node says to the object is of the node's epoch
@@ -334,6 +339,18 @@ sees_redrive old new x n y p chain numbered held c =
       | inl same ↦ subst (λ (k : ℕ). Seen (object old k) (object new k) chain) same (redriven n p (redrive_here old new n y p numbered held c))
     ]
 
+-- a letter acknowledges to the node n a proposal for the object x that is above the settled stamp, and n gathers for no greater one
+pub record HearsAcknowledged (old : SystemState) (n x : ℕ) : Type 0 where
+  pub from : ℕ
+  pub proposal : Proposal
+  pub content : Option Content
+  pub letter : Letter
+  pub body : letter.body ≡ OAck x proposal content
+  pub sender : letter.from ≡ from
+  pub receivable : IsReceivable old n letter
+  pub below : is_below (entry (old.node n) x).stamp proposal.stamp ≡ true
+  pub greatest : greater_gather proposal.stamp (gather (old.node n) x) ≡ None
+
 gather_said : (old : SystemState) (x n from : ℕ) (p : Proposal) (co : Option Content) (l : Letter) → l.body ≡ OAck x p co → l.from ≡ from → IsReceivable old n l
     → In (Acknowledges from n ((object old x).epoch n) p co) (object old x).letters
 unfolding object
@@ -347,36 +364,32 @@ gather_said old x n from p co l body sender r =
     subst (λ (k : ℕ). In (Acknowledges k n (old.node n).epoch p co) (about x old.letters)) sender to_node
 
 -- the node once it has noted an acknowledgement in its gather
-abbrev pub noting : SystemState → ℕ → ℕ → ℕ → Proposal → Option Content → Node
-noting s n x from p co = with_gather (s.node n) x (Some (noted (gather_for p (gather (s.node n) x)) from co))
+abbrev pub noting : (old : SystemState) (n x : ℕ) → HearsAcknowledged old n x → Node
+noting old n x heard = with_gather (old.node n) x (Some (noted (gather_for heard.proposal (gather (old.node n) x)) heard.from heard.content))
 
-gather_here : (old new : SystemState) (n x from : ℕ) (p : Proposal) (co : Option Content) (l : Letter) → IsNumbered old
-    → l.body ≡ OAck x p co → l.from ≡ from → IsReceivable old n l
-    → is_below (entry (old.node n) x).stamp p.stamp ≡ true → greater_gather p.stamp (gather (old.node n) x) ≡ None
-    → Changes old new n (noting old n x from p co) nothing → moves.Notes (object old x) (object new x) n p from co
-gather_here old new n x from p co l numbered body sender r below greatest c = record {
-  acts = acts_object old new x n (noting old n x from p co) nothing c refl refl;
-  sent = gather_said old x n from p co l body sender r;
-  below = rw (entry_before old new x n (noting old n x from p co) nothing c numbered) below;
-  greatest = rw (gather_before old new x n (noting old n x from p co) nothing c numbered) greatest;
-  entry = entry_after old new x n (noting old n x from p co) nothing c numbered ∙ sym (entry_before old new x n (noting old n x from p co) nothing c numbered);
-  gather = gather_after old new x n (noting old n x from p co) nothing c numbered
-      ∙ nth-put_same None (old.node n).gathers x (Some (noted (gather_for p (gather (old.node n) x)) from co))
-      ∙ rw (gather_before old new x n (noting old n x from p co) nothing c numbered) refl;
-  sends = quiet_sends old new x n (noting old n x from p co) c;
+gather_here : (old new : SystemState) (n x : ℕ) → IsNumbered old → (heard : HearsAcknowledged old n x)
+    → Changes old new n (noting old n x heard) nothing → moves.Notes (object old x) (object new x) n heard.proposal heard.from heard.content
+gather_here old new n x numbered heard c = record {
+  acts = acts_object old new x n (noting old n x heard) nothing c refl refl;
+  sent = gather_said old x n heard.from heard.proposal heard.content heard.letter heard.body heard.sender heard.receivable;
+  below = rw (entry_before old new x n (noting old n x heard) nothing c numbered) heard.below;
+  greatest = rw (gather_before old new x n (noting old n x heard) nothing c numbered) heard.greatest;
+  entry = entry_after old new x n (noting old n x heard) nothing c numbered ∙ sym (entry_before old new x n (noting old n x heard) nothing c numbered);
+  gather = gather_after old new x n (noting old n x heard) nothing c numbered
+      ∙ nth-put_same None (old.node n).gathers x (Some (noted (gather_for heard.proposal (gather (old.node n) x)) heard.from heard.content))
+      ∙ rw (gather_before old new x n (noting old n x heard) nothing c numbered) refl;
+  sends = quiet_sends old new x n (noting old n x heard) c;
 }
 
 -- if a node notes an acknowledgement, then each object sees a move
-pub sees_gather : (old new : SystemState) (x n y from : ℕ) (p : Proposal) (co : Option Content) (l : Letter) (chain : List Proposal) → IsNumbered old
-    → l.body ≡ OAck y p co → l.from ≡ from → IsReceivable old n l
-    → is_below (entry (old.node n) y).stamp p.stamp ≡ true → greater_gather p.stamp (gather (old.node n) y) ≡ None
-    → Changes old new n (noting old n y from p co) nothing → Seen (object old x) (object new x) chain
-sees_gather old new x n y from p co l chain numbered body sender r below greatest c =
+pub sees_gather : (old new : SystemState) (x n y : ℕ) (chain : List Proposal) → IsNumbered old → (heard : HearsAcknowledged old n y)
+    → Changes old new n (noting old n y heard) nothing → Seen (object old x) (object new x) chain
+sees_gather old new x n y chain numbered heard c =
     elim (same_or_not y x) [
-      | inr other ↦ sees_nothing old new x n (noting old n y from p co) chain numbered c
-          (with_gather-other (old.node n) y x (Some (noted (gather_for p (gather (old.node n) y)) from co)) other)
+      | inr other ↦ sees_nothing old new x n (noting old n y heard) chain numbered c
+          (with_gather-other (old.node n) y x (Some (noted (gather_for heard.proposal (gather (old.node n) y)) heard.from heard.content)) other)
       | inl same ↦ subst (λ (k : ℕ). Seen (object old k) (object new k) chain) same
-          (noted_by n p from co (gather_here old new n y from p co l numbered body sender r below greatest c))
+          (noted_by n heard.proposal heard.from heard.content (gather_here old new n y numbered heard c))
     ]
 
 both_true : {a b : Bool} → (a && b) ≡ true → (a ≡ true) × (b ≡ true)
@@ -422,17 +435,22 @@ decidable-complete n g h =
 abbrev pub deciding : SystemState → ℕ → ℕ → Gather → Content → Node
 deciding s n x g co = bring (settle (s.node n) x g.proposal.stamp (new_place g.proposal)) x g.proposal co
 
+-- the node n has gathered what decides a proposal for the object x, with its content
+pub record HasGathered (old : SystemState) (n x : ℕ) (g : Gather) (co : Content) : Type 0 where
+  pub gathered : gather (old.node n) x ≡ Some g
+  pub decidable : is_decidable (old.node n) g ≡ true
+  pub content : g.content ≡ Some co
+
 -- if a node decides a gather, then its object sees that it decides it
 pub decide_here : (old new : SystemState) (n x : ℕ) (g : Gather) (co : Content) (chain : List Proposal) → IsNumbered old → OwnershipInvariant (object old x) chain
-    → gather (old.node n) x ≡ Some g → is_decidable (old.node n) g ≡ true → g.content ≡ Some co
-    → Changes old new n (deciding old n x g co) nothing → moves.Decides (object old x) (object new x) n g
-decide_here old new n x g co chain numbered ownership gathered decidable content c = record {
+    → HasGathered old n x g co → Changes old new n (deciding old n x g co) nothing → moves.Decides (object old x) (object new x) n g
+decide_here old new n x g co chain numbered ownership has_gathered c = record {
   acts = acts_object old new x n (deciding old n x g co) nothing c (quiet.stopped ∙ settle-stopped (old.node n) x g.proposal.stamp (new_place g.proposal))
       (quiet.epoch ∙ settle-epoch (old.node n) x g.proposal.stamp (new_place g.proposal));
-  gathered = rw gather_is gathered;
+  gathered = rw gather_is has_gathered.gathered;
   directory = (complete.directory.0, rw (← (actor old x n numbered c.live).directory) complete.directory.1, rw (← (actor old x n numbered c.live).members) complete.directory.2);
   source = (complete.source.0, rw (← (actor old x n numbered c.live).members) complete.source.1);
-  content = rw content refl;
+  content = rw has_gathered.content refl;
   complete = rw (← (actor old x n numbered c.live).directory, ← (actor old x n numbered c.live).members) complete.acks;
   entry = entry_after old new x n (deciding old n x g co) nothing c numbered ∙ quiet.entry
       ∙ settle-entry (old.node n) x g.proposal.stamp (new_place g.proposal) above ∙ rw entry_is refl;
@@ -445,7 +463,7 @@ decide_here old new n x g co chain numbered ownership gathered decidable content
     quiet = bring-quiet (settle (old.node n) x g.proposal.stamp (new_place g.proposal)) x x g.proposal co
 
     complete : IsComplete (old.node n) g
-    complete = decidable-complete (old.node n) g decidable
+    complete = decidable-complete (old.node n) g has_gathered.decidable
 
     entry_is : (object old x).entry n ≡ entry (old.node n) x
     entry_is = entry_before old new x n (deciding old n x g co) nothing c numbered
@@ -454,18 +472,17 @@ decide_here old new n x g co chain numbered ownership gathered decidable content
     gather_is = gather_before old new x n (deciding old n x g co) nothing c numbered
 
     above : is_below (entry (old.node n) x).stamp g.proposal.stamp ≡ true
-    above = rw (← entry_is) (ownership.gathers n g (gather_is ∙ gathered)).above
+    above = rw (← entry_is) (ownership.gathers n g (gather_is ∙ has_gathered.gathered)).above
 
 -- if a node decides a gather, then each object sees a move
 pub sees_decide : (old new : SystemState) (x n y : ℕ) (g : Gather) (co : Content) (chain : List Proposal) → IsNumbered old → OwnershipInvariant (object old x) chain
-    → gather (old.node n) y ≡ Some g → is_decidable (old.node n) g ≡ true → g.content ≡ Some co
-    → Changes old new n (deciding old n y g co) nothing → Seen (object old x) (object new x) chain
-sees_decide old new x n y g co chain numbered ownership gathered decidable content c =
+    → HasGathered old n y g co → Changes old new n (deciding old n y g co) nothing → Seen (object old x) (object new x) chain
+sees_decide old new x n y g co chain numbered ownership has_gathered c =
     elim (same_or_not y x) [
       | inr other ↦ sees_nothing old new x n (deciding old n y g co) chain numbered c
           (quiet-then (old.node n) (settle (old.node n) y g.proposal.stamp (new_place g.proposal)) (deciding old n y g co) x
           (settle-away (old.node n) y x g.proposal.stamp (new_place g.proposal) other)
           (bring-quiet (settle (old.node n) y g.proposal.stamp (new_place g.proposal)) y x g.proposal co))
       | inl same ↦ subst (λ (k : ℕ). Seen (object old k) (object new k) chain) same
-          (decided n g (decide_here old new n y g co chain numbered (subst (λ (k : ℕ). OwnershipInvariant (object old k) chain) (sym same) ownership) gathered decidable content c))
+          (decided n g (decide_here old new n y g co chain numbered (subst (λ (k : ℕ). OwnershipInvariant (object old k) chain) (sym same) ownership) has_gathered c))
     ]

@@ -75,34 +75,42 @@ on_kept old new t n after c st = record {
   sends = quiet_sends old new t n after c;
 }
 
+-- a letter tells the node n that more entries of another's stream have passed than n counts
+pub record HearsPassed (old : SystemState) (n : ℕ) (s : Stream) (d : ℕ) : Type 0 where
+  pub letter : Letter
+  pub receivable : IsReceivable old n letter
+  pub foreign : s.node ≢ n
+  pub raising : IsRaising s d letter
+  pub above : (log (old.node n) s).done < d
+
 -- if a node raises the count of the stored stream of another, then the stream sees the raise
-pub raise_here : (old new : SystemState) (s : Stream) (n d passed : ℕ) (l : Letter) → ReplicationInvariant (stream_state old s) passed → s.node ≢ n → In l old.letters
-    → IsRaising s d l → (log (old.node n) s).done < d → Changes old new n (raise (old.node n) s d) nothing → moves.Raises (stream_state old s) (stream_state new s) passed n d
-raise_here old new s n d passed l replication foreign i is above c = record {
+pub raise_here : (old new : SystemState) (s : Stream) (n d passed : ℕ) → ReplicationInvariant (stream_state old s) passed → HearsPassed old n s d
+    → Changes old new n (raise (old.node n) s d) nothing → moves.Raises (stream_state old s) (stream_state new s) passed n d
+raise_here old new s n d passed replication heard c = record {
   acts = on_kept old new s n (raise (old.node n) s d) c (raise-standing (old.node n) s d).0;
   foreign = λ e. away (e ∙ stream-home old s);
-  above = rw (log_done_is old s n away) above;
-  known = raise_known old s n d passed l replication i is;
+  above = rw (log_done_is old s n away) heard.above;
+  known = raise_known old s n d passed heard.letter replication heard.receivable.2 heard.raising;
   done = (after_fields old new s n (raise (old.node n) s d) c.node).3 ∙ log-done (raise (old.node n) s d) s n away
-      ∙ ap (λ (k : StreamLog). k.done) (raise-taken (old.node n) s d above);
+      ∙ ap (λ (k : StreamLog). k.done) (raise-taken (old.node n) s d heard.above);
   kept = (after_fields old new s n (raise (old.node n) s d) c.node).4 ∙ log-kept (raise (old.node n) s d) s n away
-      ∙ ap (λ (k : StreamLog). k.kept) (raise-taken (old.node n) s d above) ∙ rw (log_done_is old s n away, log_kept_is old s n away) refl;
+      ∙ ap (λ (k : StreamLog). k.kept) (raise-taken (old.node n) s d heard.above) ∙ rw (log_done_is old s n away, log_kept_is old s n away) refl;
 }
   where
     away : n ≢ s.node
-    away = λ e. foreign (sym e)
+    away = λ e. heard.foreign (sym e)
 
 -- if a node raises the count of the stored stream of another, then each stream sees a move
-pub sees_raise : (old new : SystemState) (t s : Stream) (n d passed : ℕ) (l : Letter) → ReplicationInvariant (stream_state old t) passed → s.node ≢ n → IsReceivable old n l
-    → IsRaising s d l → (log (old.node n) s).done < d → Changes old new n (raise (old.node n) s d) nothing → Seen (stream_state old t) (stream_state new t) passed
-sees_raise old new t s n d passed l replication foreign r is above c =
+pub sees_raise : (old new : SystemState) (t s : Stream) (n d passed : ℕ) → ReplicationInvariant (stream_state old t) passed → HearsPassed old n s d
+    → Changes old new n (raise (old.node n) s d) nothing → Seen (stream_state old t) (stream_state new t) passed
+sees_raise old new t s n d passed replication heard c =
     elim (stream_cases s t) [
       | inr other ↦
           let st = raise-standing (old.node n) s d in
           sees_nothing old new t n passed (raise (old.node n) s d) c
           (logs-quiet (old.node n) (raise (old.node n) s d) t n st.0.stopped st.0.epoch st.0.reported st.1 (raise-other (old.node n) s t d other))
       | inl same ↦ subst (λ (u : Stream). Seen (stream_state old u) (stream_state new u) passed) same
-          (raised n d (raise_here old new s n d passed l (subst (λ (u : Stream). ReplicationInvariant (stream_state old u) passed) (sym same) replication) foreign r.2 is above c))
+          (raised n d (raise_here old new s n d passed (subst (λ (u : Stream). ReplicationInvariant (stream_state old u) passed) (sym same) replication) heard c))
     ]
 
 -- ---- an entry is stored
@@ -119,13 +127,21 @@ stored_letter old n r l body g =
     let said = about-in r.stream (Stores l.from l.to l.epoch r.number r.done record { followers = r.followers; writes = r.writes }) l old.letters g.2 says_it in
     rw (← g.1, ← g.0) said
 
+-- a letter brings the node n the next entry of another's stream, where n counts all that has passed before it
+pub record HearsNext (old : SystemState) (n : ℕ) (r : Invalidation) : Type 0 where
+  pub letter : Letter
+  pub receivable : IsReceivable old n letter
+  pub body : letter.body ≡ RInv r
+  pub foreign : r.stream.node ≢ n
+  pub passed : r.done ≤ (log (old.node n) r.stream).done
+  pub number : r.number ≡ next_kept (log (old.node n) r.stream)
+
 -- if a node stores the next entry of the stream of another, then the stream sees it stored
-pub store_here : (old new : SystemState) (n : ℕ) (r : Invalidation) (l : Letter) → r.stream.node ≢ n → IsReceivable old n l → l.body ≡ RInv r
-    → r.done ≤ (log (old.node n) r.stream).done → r.number ≡ next_kept (log (old.node n) r.stream)
+pub store_here : (old new : SystemState) (n : ℕ) (r : Invalidation) → HearsNext old n r
     → Changes old new n (store (old.node n) r) nothing → moves.StoresNext (stream_state old r.stream) (stream_state new r.stream) n record { followers = r.followers; writes = r.writes }
-store_here old new n r l foreign g body low number c = record {
+store_here old new n r heard c = record {
   acts = on_kept old new r.stream n (store (old.node n) r) c (same_standing (old.node n) (store (old.node n) r) refl refl refl);
-  sent = (l.from, r.done, rw (log_done_is old r.stream n away) low, sent_top);
+  sent = (heard.letter.from, r.done, rw (log_done_is old r.stream n away) heard.passed, sent_top);
   done = (after_fields old new r.stream n (store (old.node n) r) c.node).3 ∙ log-done (store (old.node n) r) r.stream n away
       ∙ ap (λ (k : StreamLog). k.done) logged ∙ sym (log_done_is old r.stream n away);
   kept = (after_fields old new r.stream n (store (old.node n) r) c.node).4 ∙ log-kept (store (old.node n) r) r.stream n away
@@ -133,7 +149,7 @@ store_here old new n r l foreign g body low number c = record {
 }
   where
     away : n ≢ r.stream.node
-    away = λ e. foreign (sym e)
+    away = λ e. heard.foreign (sym e)
 
     entry_log : StreamLog
     entry_log = record { done = (log (old.node n) r.stream).done; kept = (log (old.node n) r.stream).kept ++ record { followers = r.followers; writes = r.writes; acks = [] } ∷ [] }
@@ -142,17 +158,16 @@ store_here old new n r l foreign g body low number c = record {
     logged = with_log-same (with_copies (old.node n) (each_write applied (old.node n).copies r.writes)) r.stream entry_log
 
     top_is : r.number ≡ top (stream_state old r.stream) n
-    top_is = number ∙ rw (log_done_is old r.stream n away, log_kept_is old r.stream n away) refl
+    top_is = heard.number ∙ rw (log_done_is old r.stream n away, log_kept_is old r.stream n away) refl
 
-    sent_top : In (Stores l.from n ((stream_state old r.stream).epoch n) (top (stream_state old r.stream) n) r.done record { followers = r.followers; writes = r.writes }) (stream_state old r.stream).letters
-    sent_top = subst (λ (k : ℕ). In (Stores l.from n ((stream_state old r.stream).epoch n) k r.done record { followers = r.followers; writes = r.writes }) (stream_state old r.stream).letters)
-        top_is (stored_letter old n r l body g)
+    sent_top : In (Stores heard.letter.from n ((stream_state old r.stream).epoch n) (top (stream_state old r.stream) n) r.done record { followers = r.followers; writes = r.writes }) (stream_state old r.stream).letters
+    sent_top = subst (λ (k : ℕ). In (Stores heard.letter.from n ((stream_state old r.stream).epoch n) k r.done record { followers = r.followers; writes = r.writes }) (stream_state old r.stream).letters)
+        top_is (stored_letter old n r heard.letter heard.body heard.receivable)
 
 -- if a node stores the next entry of the stream of another, then each stream sees a move
-pub sees_store : (old new : SystemState) (t : Stream) (n passed : ℕ) (r : Invalidation) (l : Letter) → r.stream.node ≢ n → IsReceivable old n l → l.body ≡ RInv r
-    → r.done ≤ (log (old.node n) r.stream).done → r.number ≡ next_kept (log (old.node n) r.stream)
+pub sees_store : (old new : SystemState) (t : Stream) (n passed : ℕ) (r : Invalidation) → HearsNext old n r
     → Changes old new n (store (old.node n) r) nothing → Seen (stream_state old t) (stream_state new t) passed
-sees_store old new t n passed r l foreign g body low number c =
+sees_store old new t n passed r heard c =
     elim (stream_cases r.stream t) [
       | inr other ↦
           sees_nothing old new t n passed (store (old.node n) r) c
@@ -160,7 +175,7 @@ sees_store old new t n passed r l foreign g body low number c =
           (with_log-other (with_copies (old.node n) (each_write applied (old.node n).copies r.writes)) r.stream t
           record { done = (log (old.node n) r.stream).done; kept = (log (old.node n) r.stream).kept ++ record { followers = r.followers; writes = r.writes; acks = [] } ∷ [] } other))
       | inl same ↦ subst (λ (u : Stream). Seen (stream_state old u) (stream_state new u) passed) same
-          (stored_next n record { followers = r.followers; writes = r.writes } (store_here old new n r l foreign g body low number c))
+          (stored_next n record { followers = r.followers; writes = r.writes } (store_here old new n r heard c))
     ]
 
 -- ---- an acknowledgement is noted
@@ -182,13 +197,20 @@ noting_kept n s i from =
       kept = put no_kept (log n s).kept i (acked_kept (nth no_kept (log n s).kept i) from);
     }
 
-acked_letter : (old : SystemState) (t : Stream) (n k from : ℕ) (l : Letter) → IsReceivable old n l → l.from ≡ from → l.body ≡ RAck t k
-    → In (Stored from k) (stream_state old t).letters
+-- a letter tells the node n that its sender stores the entry k of the stream t
+pub record HearsStored (old : SystemState) (n : ℕ) (t : Stream) (k : ℕ) : Type 0 where
+  pub from : ℕ
+  pub letter : Letter
+  pub receivable : IsReceivable old n letter
+  pub sender : letter.from ≡ from
+  pub body : letter.body ≡ RAck t k
+
+acked_letter : (old : SystemState) (t : Stream) (n k : ℕ) (heard : HearsStored old n t k) → In (Stored heard.from k) (stream_state old t).letters
 unfolding stream_state
-acked_letter old t n k from l g sender body =
-    let says_it : In (Stored l.from k) (says t l) = rw body (says-rack t l.from l.to l.epoch k) in
-    let said = about-in t (Stored l.from k) l old.letters g.2 says_it in
-    rw (← sender) said
+acked_letter old t n k heard =
+    let says_it : In (Stored heard.letter.from k) (says t heard.letter) = rw heard.body (says-rack t heard.letter.from heard.letter.to heard.letter.epoch k) in
+    let said = about-in t (Stored heard.letter.from k) heard.letter old.letters heard.receivable.2 says_it in
+    rw (← heard.sender) said
 
 -- acknowledging a pending entry is acknowledging what it shares with a stored one
 noted-map : (ps : List Pending) (i from : ℕ) → i < length ps
@@ -210,24 +232,24 @@ kept_noted o n i d from ks done_is kept_is =
     let back : d + i - o.done n ≡ i = rw done_is (omega arith) in
     rw (back, kept_is) refl
 
-note_own_here : (old new : SystemState) (n s i from : ℕ) (l : Letter) (t : Stream) → n ≡ t.node → s ≡ t.slot → IsReceivable old n l → l.from ≡ from
-    → l.body ≡ RAck t ((slot (old.node n) s).done + i) → i < length (slot (old.node n) s).pending
-    → Changes old new n (noting_own (old.node n) s i from) nothing → moves.NotesAck (stream_state old t) (stream_state new t) n ((slot (old.node n) s).done + i) from
+note_own_here : (old new : SystemState) (n s i : ℕ) (t : Stream) → n ≡ t.node → s ≡ t.slot → (heard : HearsStored old n t ((slot (old.node n) s).done + i))
+    → i < length (slot (old.node n) s).pending
+    → Changes old new n (noting_own (old.node n) s i heard.from) nothing → moves.NotesAck (stream_state old t) (stream_state new t) n ((slot (old.node n) s).done + i) heard.from
 unfolding own_kept
-note_own_here old new n s i from l t home at_slot g sender body within c = record {
+note_own_here old new n s i t home at_slot heard within c = record {
   acts = on_kept old new t n after c (same_standing (old.node n) after refl refl refl);
-  sent = acked_letter old t n ((slot (old.node n) s).done + i) from l g sender body;
+  sent = acked_letter old t n ((slot (old.node n) s).done + i) heard;
   has = within_noted (stream_state old t) n i (slot (old.node n) s).done (map as_kept (slot (old.node n) s).pending) done_is kept_is (rw (length-map (slot (old.node n) s).pending as_kept) within);
   done = (after_fields old new t n after c.node).3 ∙ own-done after t n home
       ∙ ap (λ (k : ℕ). (slot after k).done) (sym at_slot) ∙ ap (λ (k : Slot). k.done) slotted ∙ sym done_is;
   kept = (after_fields old new t n after c.node).4 ∙ own-kept after t n home
       ∙ ap (λ (k : ℕ). map as_kept (slot after k).pending) (sym at_slot) ∙ ap (λ (k : Slot). map as_kept k.pending) slotted
-      ∙ noted-map (slot (old.node n) s).pending i from within
-      ∙ kept_noted (stream_state old t) n i (slot (old.node n) s).done from (map as_kept (slot (old.node n) s).pending) done_is kept_is;
+      ∙ noted-map (slot (old.node n) s).pending i heard.from within
+      ∙ kept_noted (stream_state old t) n i (slot (old.node n) s).done heard.from (map as_kept (slot (old.node n) s).pending) done_is kept_is;
 }
   where
     after : Node
-    after = noting_own (old.node n) s i from
+    after = noting_own (old.node n) s i heard.from
 
     done_is : (stream_state old t).done n ≡ (slot (old.node n) s).done
     done_is = own_done_is old t n home ∙ ap (λ (k : ℕ). (slot (old.node n) k).done) (sym at_slot)
@@ -235,15 +257,15 @@ note_own_here old new n s i from l t home at_slot g sender body within c = recor
     kept_is : (stream_state old t).kept n ≡ map as_kept (slot (old.node n) s).pending
     kept_is = own_kept_is old t n home ∙ ap (λ (k : ℕ). map as_kept (slot (old.node n) k).pending) (sym at_slot)
 
-    slotted : slot (noting_own (old.node n) s i from) s ≡ record {
+    slotted : slot (noting_own (old.node n) s i heard.from) s ≡ record {
       current = (slot (old.node n) s).current;
       done = (slot (old.node n) s).done;
-      pending = put no_pending (slot (old.node n) s).pending i (acked_pending (nth no_pending (slot (old.node n) s).pending i) from);
+      pending = put no_pending (slot (old.node n) s).pending i (acked_pending (nth no_pending (slot (old.node n) s).pending i) heard.from);
     }
     slotted = with_slot-same (old.node n) s record {
       current = (slot (old.node n) s).current;
       done = (slot (old.node n) s).done;
-      pending = put no_pending (slot (old.node n) s).pending i (acked_pending (nth no_pending (slot (old.node n) s).pending i) from);
+      pending = put no_pending (slot (old.node n) s).pending i (acked_pending (nth no_pending (slot (old.node n) s).pending i) heard.from);
     }
 
 -- a change of one slot is quiet for the streams of the others
@@ -258,62 +280,59 @@ other_slot n t me s l ne =
     stream_at k j = record { node = k; slot = j }
 
 -- if a node notes an acknowledgement of its own stream, then each stream sees a move
-pub sees_note_own : (old new : SystemState) (t : Stream) (n s i from passed : ℕ) (l : Letter) → IsReceivable old n l → l.from ≡ from
-    → l.body ≡ RAck record { node = n; slot = s } ((slot (old.node n) s).done + i) → i < length (slot (old.node n) s).pending
-    → Changes old new n (noting_own (old.node n) s i from) nothing → Seen (stream_state old t) (stream_state new t) passed
-sees_note_own old new t n s i from passed l g sender body within c =
+pub sees_note_own : (old new : SystemState) (t : Stream) (n s i passed : ℕ) (heard : HearsStored old n record { node = n; slot = s } ((slot (old.node n) s).done + i))
+    → i < length (slot (old.node n) s).pending → Changes old new n (noting_own (old.node n) s i heard.from) nothing → Seen (stream_state old t) (stream_state new t) passed
+sees_note_own old new t n s i passed heard within c =
     elim (stream_cases record { node = n; slot = s } t) [
-      | inr other ↦ sees_nothing old new t n passed (noting_own (old.node n) s i from) c
+      | inr other ↦ sees_nothing old new t n passed (noting_own (old.node n) s i heard.from) c
           (other_slot (old.node n) t n s record {
             current = (slot (old.node n) s).current;
             done = (slot (old.node n) s).done;
-            pending = put no_pending (slot (old.node n) s).pending i (acked_pending (nth no_pending (slot (old.node n) s).pending i) from);
+            pending = put no_pending (slot (old.node n) s).pending i (acked_pending (nth no_pending (slot (old.node n) s).pending i) heard.from);
           } other)
       | inl same ↦ subst (λ (u : Stream). Seen (stream_state old u) (stream_state new u) passed) same
-          (noted n ((slot (old.node n) s).done + i) from (note_own_here old new n s i from l record { node = n; slot = s } refl refl g sender body within c))
+          (noted n ((slot (old.node n) s).done + i) heard.from (note_own_here old new n s i record { node = n; slot = s } refl refl heard within c))
     ]
 
-note_kept_here : (old new : SystemState) (s : Stream) (n i from : ℕ) (l : Letter) → s.node ≢ n → IsReceivable old n l → l.from ≡ from
-    → l.body ≡ RAck s ((log (old.node n) s).done + i) → i < length (log (old.node n) s).kept
-    → Changes old new n (noting_kept (old.node n) s i from) nothing → moves.NotesAck (stream_state old s) (stream_state new s) n ((log (old.node n) s).done + i) from
-note_kept_here old new s n i from l foreign g sender body within c = record {
+note_kept_here : (old new : SystemState) (s : Stream) (n i : ℕ) → s.node ≢ n → (heard : HearsStored old n s ((log (old.node n) s).done + i)) → i < length (log (old.node n) s).kept
+    → Changes old new n (noting_kept (old.node n) s i heard.from) nothing → moves.NotesAck (stream_state old s) (stream_state new s) n ((log (old.node n) s).done + i) heard.from
+note_kept_here old new s n i foreign heard within c = record {
   acts = on_kept old new s n after c (same_standing (old.node n) after refl refl refl);
-  sent = acked_letter old s n ((log (old.node n) s).done + i) from l g sender body;
+  sent = acked_letter old s n ((log (old.node n) s).done + i) heard;
   has = within_noted (stream_state old s) n i (log (old.node n) s).done (log (old.node n) s).kept (log_done_is old s n away) (log_kept_is old s n away) within;
   done = (after_fields old new s n after c.node).3 ∙ log-done after s n away ∙ ap (λ (k : StreamLog). k.done) logged ∙ sym (log_done_is old s n away);
   kept = (after_fields old new s n after c.node).4 ∙ log-kept after s n away ∙ ap (λ (k : StreamLog). k.kept) logged
-      ∙ kept_noted (stream_state old s) n i (log (old.node n) s).done from (log (old.node n) s).kept (log_done_is old s n away) (log_kept_is old s n away);
+      ∙ kept_noted (stream_state old s) n i (log (old.node n) s).done heard.from (log (old.node n) s).kept (log_done_is old s n away) (log_kept_is old s n away);
 }
   where
     away : n ≢ s.node
     away = λ e. foreign (sym e)
 
     after : Node
-    after = noting_kept (old.node n) s i from
+    after = noting_kept (old.node n) s i heard.from
 
-    logged : log (noting_kept (old.node n) s i from) s ≡ record {
+    logged : log (noting_kept (old.node n) s i heard.from) s ≡ record {
       done = (log (old.node n) s).done;
-      kept = put no_kept (log (old.node n) s).kept i (acked_kept (nth no_kept (log (old.node n) s).kept i) from);
+      kept = put no_kept (log (old.node n) s).kept i (acked_kept (nth no_kept (log (old.node n) s).kept i) heard.from);
     }
     logged = with_log-same (old.node n) s record {
       done = (log (old.node n) s).done;
-      kept = put no_kept (log (old.node n) s).kept i (acked_kept (nth no_kept (log (old.node n) s).kept i) from);
+      kept = put no_kept (log (old.node n) s).kept i (acked_kept (nth no_kept (log (old.node n) s).kept i) heard.from);
     }
 
 -- if a node notes an acknowledgement of the stored stream of another, then each stream sees a move
-pub sees_note_kept : (old new : SystemState) (t s : Stream) (n i from passed : ℕ) (l : Letter) → s.node ≢ n → IsReceivable old n l → l.from ≡ from
-    → l.body ≡ RAck s ((log (old.node n) s).done + i) → i < length (log (old.node n) s).kept
-    → Changes old new n (noting_kept (old.node n) s i from) nothing → Seen (stream_state old t) (stream_state new t) passed
-sees_note_kept old new t s n i from passed l foreign g sender body within c =
+pub sees_note_kept : (old new : SystemState) (t s : Stream) (n i passed : ℕ) → s.node ≢ n → (heard : HearsStored old n s ((log (old.node n) s).done + i))
+    → i < length (log (old.node n) s).kept → Changes old new n (noting_kept (old.node n) s i heard.from) nothing → Seen (stream_state old t) (stream_state new t) passed
+sees_note_kept old new t s n i passed foreign heard within c =
     elim (stream_cases s t) [
-      | inr other ↦ sees_nothing old new t n passed (noting_kept (old.node n) s i from) c
-          (logs-quiet (old.node n) (noting_kept (old.node n) s i from) t n refl refl refl refl
+      | inr other ↦ sees_nothing old new t n passed (noting_kept (old.node n) s i heard.from) c
+          (logs-quiet (old.node n) (noting_kept (old.node n) s i heard.from) t n refl refl refl refl
           (with_log-other (old.node n) s t record {
             done = (log (old.node n) s).done;
-            kept = put no_kept (log (old.node n) s).kept i (acked_kept (nth no_kept (log (old.node n) s).kept i) from);
+            kept = put no_kept (log (old.node n) s).kept i (acked_kept (nth no_kept (log (old.node n) s).kept i) heard.from);
           } other))
       | inl same ↦ subst (λ (u : Stream). Seen (stream_state old u) (stream_state new u) passed) same
-          (noted n ((log (old.node n) s).done + i) from (note_kept_here old new s n i from l foreign g sender body within c))
+          (noted n ((log (old.node n) s).done + i) heard.from (note_kept_here old new s n i foreign heard within c))
     ]
 
 -- ---- an entry passes

@@ -105,10 +105,14 @@ sees_move old new t passed numbered replication (decides n y g co gathered decid
     (quiet-then (old.node n) (settle (old.node n) y g.proposal.stamp (new_place g.proposal)) _ t n
     (settle_still (old.node n) y g.proposal.stamp (new_place g.proposal) t n)
     (bring_still (settle (old.node n) y g.proposal.stamp (new_place g.proposal)) y g.proposal co t n))
-sees_move old new t passed numbered replication (raises n d s l foreign r is above c) = sees_raise old new t s n d passed l replication foreign r is above c
-sees_move old new t passed numbered replication (stores n r l foreign g body low number room c) = sees_store old new t n passed r l foreign g body low number c
-sees_move old new t passed numbered replication (notes_own n s i from l r sender body within c) = sees_note_own old new t n s i from passed l r sender body within c
-sees_move old new t passed numbered replication (notes_kept n i from s l foreign r sender body within c) = sees_note_kept old new t s n i from passed l foreign r sender body within c
+sees_move old new t passed numbered replication (raises n d s l foreign r is above c) =
+    sees_raise old new t s n d passed replication record { letter = l; receivable = r; foreign = foreign; raising = is; above = above } c
+sees_move old new t passed numbered replication (stores n r l foreign g body low number room c) =
+    sees_store old new t n passed r record { letter = l; receivable = g; body = body; foreign = foreign; passed = low; number = number } c
+sees_move old new t passed numbered replication (notes_own n s i from l r sender body within c) =
+    sees_note_own old new t n s i passed record { from = from; letter = l; receivable = r; sender = sender; body = body } within c
+sees_move old new t passed numbered replication (notes_kept n i from s l foreign r sender body within c) =
+    sees_note_kept old new t s n i passed foreign record { from = from; letter = l; receivable = r; sender = sender; body = body } within c
 sees_move old new t passed numbered replication (passes_own n s some ok c) = sees_pass_own old new t n s passed numbered some ok c
 sees_move old new t passed numbered replication (passes_kept n s out foreign some ok c) = sees_pass_kept old new t s n passed numbered out foreign some ok c
 sees_move old new t passed numbered replication (reports n empty c) = sees_report old new t n passed numbered (own_member old t n passed numbered replication c.live) empty c

@@ -102,19 +102,36 @@ own_length : (n : Node) (s k : ℕ) → k < length (slot n s).pending → k < le
 unfolding own_kept
 own_length n s k h = rw (length-map (slot n s).pending as_kept) h
 
-may_entry : (o : StreamState) (n to from e k d : ℕ) (ks : List Kept) → o.done n ≡ d → o.kept n ≡ ks → o.epoch n ≡ e → from ≡ n → k < length ks
-    → has to (nth no_kept ks k).followers ≡ true → has to (Rattle.replication_safety.specs.StreamState.view o (o.epoch n)) ≡ true → to ≢ n
-    → (n ≡ o.home) ⊎ IsOut o (o.epoch n) o.home → moves.IsTellable o n (Stores from to e (d + k) d (entry_of (nth no_kept ks k)))
-may_entry o n to from e k d ks done_is kept_is epoch_is from_is within follower member other may =
-    let within' : k < length (o.kept n) = rw kept_is within in
-    let follower' : has to (nth no_kept (o.kept n) k).followers ≡ true = rw kept_is follower in
+-- what the node n writes into letters about a stream that it keeps: its number, its epoch, how many entries have passed, and those that it keeps
+record TellsKept (o : StreamState) (n : ℕ) : Type 0 where
+  me : ℕ
+  epoch : ℕ
+  done : ℕ
+  kept : List Kept
+  me_is : me ≡ n
+  epoch_is : o.epoch n ≡ epoch
+  done_is : o.done n ≡ done
+  kept_is : o.kept n ≡ kept
+
+-- another member that follows the entry of the place k
+record IsFollower (o : StreamState) (n to k : ℕ) (ks : List Kept) : Type 0 where
+  within : k < length ks
+  follower : has to (nth no_kept ks k).followers ≡ true
+  member : has to (Rattle.replication_safety.specs.StreamState.view o (o.epoch n)) ≡ true
+  other : to ≢ n
+
+may_entry : (o : StreamState) (n to k : ℕ) (tells : TellsKept o n) → IsFollower o n to k tells.kept → (n ≡ o.home) ⊎ IsOut o (o.epoch n) o.home
+    → moves.IsTellable o n (Stores tells.me to tells.epoch (tells.done + k) tells.done (entry_of (nth no_kept tells.kept k)))
+may_entry o n to k tells is may =
+    let within' : k < length (o.kept n) = rw tells.kept_is is.within in
+    let follower' : has to (nth no_kept (o.kept n) k).followers ≡ true = rw tells.kept_is is.follower in
     let back : o.done n + k - o.done n ≡ k = omega arith in
     let follower_at : has to (kept_at o n (o.done n + k)).followers ≡ true = rw back follower' in
     let told_it : moves.IsTellable o n (Stores n to (o.epoch n) (o.done n + k) (o.done n) (entry_of (kept_at o n (o.done n + k)))) =
-    moves.entry to (o.done n + k) (omega arith, omega arith) may follower_at member other in
+    moves.entry to (o.done n + k) (omega arith, omega arith) may follower_at is.member is.other in
     let told_k : moves.IsTellable o n (Stores n to (o.epoch n) (o.done n + k) (o.done n) (entry_of (nth no_kept (o.kept n) k))) =
     subst (λ (j : ℕ). moves.IsTellable o n (Stores n to (o.epoch n) (o.done n + k) (o.done n) (entry_of (nth no_kept (o.kept n) j)))) back told_it in
-    rw (from_is, ← done_is, ← kept_is, ← epoch_is) told_k
+    rw (tells.me_is, ← tells.done_is, ← tells.kept_is, ← tells.epoch_is) told_k
 
 -- what a node tells without a change of its state is what a stream's node may tell
 pub tellable-stream : (old : SystemState) (t : Stream) (n : ℕ) (l : Letter) (m : Said) → IsNumbered old → IsLive old n → has n (old.node n).members ≡ true → IsTellable (old.node n) l → In m (says t l)
@@ -134,18 +151,36 @@ tellable-stream old t n l m numbered live own_member (own_entry to s k within fo
     let a : IsActor old u n = actor old u n numbered live in
     let home : n ≡ (stream_state old u).home = sym a.me ∙ sym (stream-home old u) in
     subst (λ (v : Stream). moves.IsTellable (stream_state old v) n m) found.0
-    (rw found.1 (may_entry (stream_state old u) n to (old.node n).me (old.node n).epoch k (slot (old.node n) s).done (own_kept (old.node n) s)
-    (own_done_is old u n (sym a.me)) (own_kept_is old u n (sym a.me)) a.epoch a.me (own_length (old.node n) s k within) follower (rw (← a.members) member)
-    (λ e. other (e ∙ sym a.me)) (inl home)))
+    (rw found.1 (may_entry (stream_state old u) n to k
+    record {
+      me = (old.node n).me;
+      epoch = (old.node n).epoch;
+      done = (slot (old.node n) s).done;
+      kept = own_kept (old.node n) s;
+      me_is = a.me;
+      epoch_is = a.epoch;
+      done_is = own_done_is old u n (sym a.me);
+      kept_is = own_kept_is old u n (sym a.me);
+    }
+    record { within = own_length (old.node n) s k within; follower = follower; member = rw (← a.members) member; other = λ e. other (e ∙ sym a.me) } (inl home)))
 tellable-stream old t n l m numbered live own_member (kept_entry to k s out within follower member other) i =
     let found = only_of-from t s m (Stores (old.node n).me to (old.node n).epoch ((log (old.node n) s).done + k) (log (old.node n) s).done (entry_of (nth no_kept (log (old.node n) s).kept k))) i in
     let a : IsActor old s n = actor old s n numbered live in
     let away : n ≢ s.node = outsider n s.node (old.node n).members own_member out in
     let out_now : IsOut (stream_state old s) ((stream_state old s).epoch n) (stream_state old s).home = rw (stream-home old s, ← a.members) out in
     subst (λ (v : Stream). moves.IsTellable (stream_state old v) n m) found.0
-    (rw found.1 (may_entry (stream_state old s) n to (old.node n).me (old.node n).epoch k (log (old.node n) s).done (log (old.node n) s).kept
-    (log_done_is old s n away) (log_kept_is old s n away) a.epoch a.me within follower (rw (← a.members) member)
-    (λ e. other (e ∙ sym a.me)) (inr out_now)))
+    (rw found.1 (may_entry (stream_state old s) n to k
+    record {
+      me = (old.node n).me;
+      epoch = (old.node n).epoch;
+      done = (log (old.node n) s).done;
+      kept = (log (old.node n) s).kept;
+      me_is = a.me;
+      epoch_is = a.epoch;
+      done_is = log_done_is old s n away;
+      kept_is = log_kept_is old s n away;
+    }
+    record { within = within; follower = follower; member = rw (← a.members) member; other = λ e. other (e ∙ sym a.me) } (inr out_now)))
 tellable-stream old t n l m numbered live own_member (stored to k s foreign below) i =
     let found = only_of-from t s m (Stored (old.node n).me k) i in
     let a : IsActor old s n = actor old s n numbered live in

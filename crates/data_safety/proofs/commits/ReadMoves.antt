@@ -167,28 +167,39 @@ module _ (y : RunState) (u : Witness) (b : IsBooked y u) (id : ℕ) (reply : Rep
 
 -- ---- the move
 
+-- a slot's current read transaction is answered from the node's copies, with nothing that hinders it, and is gone from the slot
+pub record ReadsTx (y z : RunState) (n s : ℕ) (c : Current) : Type 0 where
+  pub current : (slot (y.system.node n) s).current ≡ Some c
+  pub reader : is_write c.tx ≡ false
+  pub free : hindrance (y.system.node n) c.tx ≡ None
+  pub change : Changes y.system z.system n (with_current (y.system.node n) s None) nothing
+  pub txs : z.txs ≡ y.txs
+  pub book : z.book ≡ (book_read y.book c.id (run_here (y.system.node n) c.tx).reply).book
+
 -- if nothing hinders a read transaction, and it is answered from the node's copies, then the invariant stays
-pub reads-invariant : (y z : RunState) (u : Witness) → DataInvariant y u → (n s : ℕ) (c : Current) → (slot (y.system.node n) s).current ≡ Some c → is_write c.tx ≡ false → hindrance (y.system.node n) c.tx ≡ None
-    → Changes y.system z.system n (with_current (y.system.node n) s None) nothing → z.txs ≡ y.txs → z.book ≡ (book_read y.book c.id (run_here (y.system.node n) c.tx).reply).book → DataInvariant z u
-reads-invariant y z u f n s c is reader none ch txs book =
+pub reads-invariant : (y z : RunState) (u : Witness) → DataInvariant y u → (n s : ℕ) (c : Current) → ReadsTx y z n s c → DataInvariant z u
+reads-invariant y z u f n s c reads =
     let x = resaid y z in
-    let g = resaid-invariant y z u f ch.config ch.views ch.sends txs in
+    let g = resaid-invariant y z u f reads.change.config reads.change.views reads.change.sends reads.txs in
     let gb : IsBooked x u = g.booked in
     let reply : Reply = (run_here (y.system.node n) c.tx).reply in
-    let was = gb.current n s c is in
-    let after = here x u gb c.id reply z.system.node z.book book was.1 was.3 in
+    let was = gb.current n s c reads.current in
+    let after = here x u gb c.id reply z.system.node z.book reads.book was.1 was.3 in
     let ran : (run (λ k. (left x k).value) c.tx).reply ≡ reply = ap (λ (r : Ran). r.reply)
     (read_run (y.system.node n) c.tx (left x)
-    (λ k d m at valid. ap (λ (e : Content). e.value) (read-valid x u g n k d (gb.objects c.id k (rw (← was.0) m)) ch.live at valid)) none) in
+    (λ k d m at valid. ap (λ (e : Content). e.value) (read-valid x u g n k d (gb.objects c.id k (rw (← was.0) m)) reads.change.live at valid)) reads.free) in
     let same_reply : (run (λ k. (left x k).value) (tx_ops x c.id)).reply ≡ reply = ap (λ (ops : List Op). (run (λ k. (left x k).value) ops).reply) (sym was.0) ∙ ran in
-    slot-invariant y z u f n s c.id None ch txs
-    record {
-      others = others x u gb c.id reply z.system.node z.book book was.1 was.3;
-      before = was.2;
-      after = ap (λ (r : TxRecord). r.entry) after ∙ was.2;
-      node = was.5;
-      slot = was.6;
+    slot-invariant y z u f n s c.id None record {
+      change = reads.change;
+      txs = reads.txs;
+      noted = record {
+        others = others x u gb c.id reply z.system.node z.book reads.book was.1 was.3;
+        before = was.2;
+        after = ap (λ (r : TxRecord). r.entry) after ∙ was.2;
+        node = was.5;
+        slot = was.6;
+      };
+      current = λ a no_one. absurd cc;
+      leaves = read-left x u gb c.id reply z.system.node z.book reads.book was.1 was.3 (ap (λ (ops : List Op). is_write ops) (sym was.0) ∙ reads.reader);
+      history = λ b. read-history x u b c.id reply z.system.node z.book reads.book was.1 was.3 same_reply;
     }
-    (λ a no_one. absurd cc)
-    (read-left x u gb c.id reply z.system.node z.book book was.1 was.3 (ap (λ (ops : List Op). is_write ops) (sym was.0) ∙ reader))
-    (λ b. read-history x u b c.id reply z.system.node z.book book was.1 was.3 same_reply)

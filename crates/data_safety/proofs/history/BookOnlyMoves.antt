@@ -102,16 +102,24 @@ stutters-invariant y z u f s txs book steps =
 
 -- ---- a slot turns
 
--- the moves of one slot, with what they write
-pub slot-invariant : (y z : RunState) (u : Witness) → DataInvariant y u → (n s id : ℕ) (c : Option Current) → Changes y.system z.system n (with_current (y.system.node n) s c) nothing → z.txs ≡ y.txs
-    → IsNoted (resaid y z) z.book n s id → ((a : Current) → c ≡ Some a → IsCurrent z n s a) → left z ≡ left (resaid y z) → (IsBooked (resaid y z) u → IsHistory z) → DataInvariant z u
-slot-invariant y z u f n s id c ch txs noted now same history =
+-- a slot turns to another transaction, or to none, and the book notes it at one transaction alone: the history is as it was, and so is what it leaves
+pub record TurnsNoted (y z : RunState) (u : Witness) (n s id : ℕ) (c : Option Current) : Type 0 where
+  pub change : Changes y.system z.system n (with_current (y.system.node n) s c) nothing
+  pub txs : z.txs ≡ y.txs
+  pub noted : IsNoted (resaid y z) z.book n s id
+  pub current : (a : Current) → c ≡ Some a → IsCurrent z n s a
+  pub leaves : left z ≡ left (resaid y z)
+  pub history : IsBooked (resaid y z) u → IsHistory z
+
+-- if a slot turns and the book notes it, then the invariant stays
+pub slot-invariant : (y z : RunState) (u : Witness) → DataInvariant y u → (n s id : ℕ) (c : Option Current) → TurnsNoted y z u n s id c → DataInvariant z u
+slot-invariant y z u f n s id c turned_slot =
     let x = resaid y z in
-    let g : DataInvariant x u = resaid-invariant y z u f ch.config ch.views ch.sends txs in
-    let t : TurnsSlot x z.system.node n s c = record { at = ch.node; others = ch.others } in
-    let move : Move y.system z.system = turns n s c ch in
-    turned-invariant x z.system.node z.book (slot_turns x z.system.node n s c t) u g same (move_keep y.system z.system move f.steady)
-    (noted-booked x u g.booked z.system.node z.book n s id c t noted now (history g.booked))
+    let g : DataInvariant x u = resaid-invariant y z u f turned_slot.change.config turned_slot.change.views turned_slot.change.sends turned_slot.txs in
+    let t : TurnsSlot x z.system.node n s c = record { at = turned_slot.change.node; others = turned_slot.change.others } in
+    let move : Move y.system z.system = turns n s c turned_slot.change in
+    turned-invariant x z.system.node z.book (slot_turns x z.system.node n s c t) u g turned_slot.leaves (move_keep y.system z.system move f.steady)
+    (noted-booked x u g.booked z.system.node z.book n s id c t turned_slot.noted turned_slot.current (turned_slot.history g.booked))
 
 some_same : {A : Type 0} (a b : A) → ◌≡◌ {A = Option A} (Some a) (Some b) → a ≡ b
 some_same a b e = cc
@@ -167,37 +175,50 @@ begin_points y u id b none =
       ];
     }
 
+-- the declared transaction of a number is begun, for the first time, at the slot of the node that it is declared for
+pub record BeginsTx (y z : RunState) (n s id : ℕ) (c : Current) : Type 0 where
+  pub named : c.id ≡ id
+  pub tx : c.tx ≡ (nth no_tx y.txs id).tx
+  pub at_node : (nth no_tx y.txs id).node ≡ n
+  pub at_slot : (nth no_tx y.txs id).slot ≡ s
+  pub fresh : (record_of y.book id).begun ≡ None
+  pub change : Changes y.system z.system n (with_current (y.system.node n) s (Some c)) nothing
+  pub txs : z.txs ≡ y.txs
+  pub book : z.book ≡ book_begin y.book id
+
 -- if a slot begins a declared transaction that has not begun, then the invariant stays
-pub begins-invariant : (y z : RunState) (u : Witness) → DataInvariant y u → (n s id : ℕ) (c : Current) → c.id ≡ id → c.tx ≡ (nth no_tx y.txs id).tx → (nth no_tx y.txs id).node ≡ n → (nth no_tx y.txs id).slot ≡ s
-    → (record_of y.book id).begun ≡ None → Changes y.system z.system n (with_current (y.system.node n) s (Some c)) nothing → z.txs ≡ y.txs → z.book ≡ book_begin y.book id → DataInvariant z u
-begins-invariant y z u f n s id c named tx at_node at_slot none ch txs book =
-    let new = fresh y u id f.booked none in
-    let after : record_of z.book id ≡ record (record_of y.book id) { begun = Some y.book.steps } = ap (λ (k : Book). record_of k id) book ∙ begin_here y id in
-    let node : (nth no_tx z.txs id).node ≡ n = ap (λ (l : List TxDecl). (nth no_tx l id).node) txs ∙ at_node in
-    let slot_is : (nth no_tx z.txs id).slot ≡ s = ap (λ (l : List TxDecl). (nth no_tx l id).slot) txs ∙ at_slot in
-    let ops : c.tx ≡ tx_ops z id = tx ∙ sym (ap (λ (l : List TxDecl). (nth no_tx l id).tx) txs) in
-    slot-invariant y z u f n s id (Some c) ch txs
-    record {
-      others = λ j other. ap (λ (k : Book). record_of k j) book ∙ begin_others y id j other;
-      before = new.entry;
-      after = ap (λ (r : TxRecord). r.entry) after ∙ new.entry;
-      node = node;
-      slot = slot_is;
+pub begins-invariant : (y z : RunState) (u : Witness) → DataInvariant y u → (n s id : ℕ) (c : Current) → BeginsTx y z n s id c → DataInvariant z u
+begins-invariant y z u f n s id c begins =
+    let new = fresh y u id f.booked begins.fresh in
+    let after : record_of z.book id ≡ record (record_of y.book id) { begun = Some y.book.steps } = ap (λ (k : Book). record_of k id) begins.book ∙ begin_here y id in
+    let node : (nth no_tx z.txs id).node ≡ n = ap (λ (l : List TxDecl). (nth no_tx l id).node) begins.txs ∙ begins.at_node in
+    let slot_is : (nth no_tx z.txs id).slot ≡ s = ap (λ (l : List TxDecl). (nth no_tx l id).slot) begins.txs ∙ begins.at_slot in
+    let ops : c.tx ≡ tx_ops z id = begins.tx ∙ sym (ap (λ (l : List TxDecl). (nth no_tx l id).tx) begins.txs) in
+    slot-invariant y z u f n s id (Some c) record {
+      change = begins.change;
+      txs = begins.txs;
+      noted = record {
+        others = λ j other. ap (λ (k : Book). record_of k j) begins.book ∙ begin_others y id j other;
+        before = new.entry;
+        after = ap (λ (r : TxRecord). r.entry) after ∙ new.entry;
+        node = node;
+        slot = slot_is;
+      };
+      current = λ a is.
+          let same : id ≡ a.id = sym begins.named ∙ ap (λ (d : Current). d.id) (some_same c a is) in
+          let whole : IsCurrent z n s record { id = id; tx = a.tx } = (
+            sym (ap (λ (d : Current). d.tx) (some_same c a is)) ∙ ops,
+            ap (λ (r : TxRecord). is_some r.begun) after,
+            ap (λ (r : TxRecord). r.entry) after ∙ new.entry,
+            ap (λ (r : TxRecord). r.point) after ∙ new.point,
+            ap (λ (r : TxRecord). r.refused) after ∙ new.refused,
+            node,
+            slot_is,
+          ) in
+          subst (λ (k : ℕ). IsCurrent z n s record { id = k; tx = a.tx }) same whole;
+      leaves = same_left (resaid y z) z.system.node z.book (ap (λ (k : Book). k.points) begins.book);
+      history = λ b. points-history (resaid y z) u z.system.node z.book b (subst (λ (k : Book). SamePoints y.book k) (sym begins.book) (begin_points y u id f.booked begins.fresh));
     }
-    (λ a is.
-    let same : id ≡ a.id = sym named ∙ ap (λ (d : Current). d.id) (some_same c a is) in
-    let whole : IsCurrent z n s record { id = id; tx = a.tx } = (
-      sym (ap (λ (d : Current). d.tx) (some_same c a is)) ∙ ops,
-      ap (λ (r : TxRecord). is_some r.begun) after,
-      ap (λ (r : TxRecord). r.entry) after ∙ new.entry,
-      ap (λ (r : TxRecord). r.point) after ∙ new.point,
-      ap (λ (r : TxRecord). r.refused) after ∙ new.refused,
-      node,
-      slot_is,
-    ) in
-    subst (λ (k : ℕ). IsCurrent z n s record { id = k; tx = a.tx }) same whole)
-    (same_left (resaid y z) z.system.node z.book (ap (λ (k : Book). k.points) book))
-    (λ b. points-history (resaid y z) u z.system.node z.book b (subst (λ (k : Book). SamePoints y.book k) (sym book) (begin_points y u id f.booked none)))
 
 -- ---- a refusal
 
@@ -231,14 +252,17 @@ pub refuses-invariant : (y z : RunState) (u : Witness) → DataInvariant y u →
 refuses-invariant y z u f n s c is ch txs book =
     let was = f.booked.current n s c is in
     let after : record_of z.book c.id ≡ record (record_of y.book c.id) { refused = true } = ap (λ (k : Book). record_of k c.id) book ∙ refuse_here y c.id in
-    slot-invariant y z u f n s c.id None ch txs
-    record {
-      others = λ j other. ap (λ (k : Book). record_of k j) book ∙ refuse_others y c.id j other;
-      before = was.2;
-      after = ap (λ (r : TxRecord). r.entry) after ∙ was.2;
-      node = ap (λ (l : List TxDecl). (nth no_tx l c.id).node) txs ∙ was.5;
-      slot = ap (λ (l : List TxDecl). (nth no_tx l c.id).slot) txs ∙ was.6;
+    slot-invariant y z u f n s c.id None record {
+      change = ch;
+      txs = txs;
+      noted = record {
+        others = λ j other. ap (λ (k : Book). record_of k j) book ∙ refuse_others y c.id j other;
+        before = was.2;
+        after = ap (λ (r : TxRecord). r.entry) after ∙ was.2;
+        node = ap (λ (l : List TxDecl). (nth no_tx l c.id).node) txs ∙ was.5;
+        slot = ap (λ (l : List TxDecl). (nth no_tx l c.id).slot) txs ∙ was.6;
+      };
+      current = λ a none. absurd cc;
+      leaves = same_left (resaid y z) z.system.node z.book (ap (λ (k : Book). k.points) book);
+      history = λ b. points-history (resaid y z) u z.system.node z.book b (subst (λ (k : Book). SamePoints y.book k) (sym book) (refuse_points y u c.id f.booked was.1));
     }
-    (λ a none. absurd cc)
-    (same_left (resaid y z) z.system.node z.book (ap (λ (k : Book). k.points) book))
-    (λ b. points-history (resaid y z) u z.system.node z.book b (subst (λ (k : Book). SamePoints y.book k) (sym book) (refuse_points y u c.id f.booked was.1)))

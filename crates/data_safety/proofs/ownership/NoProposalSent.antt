@@ -15,7 +15,7 @@ use Rattle.zeus_model.specs.Commit.{no_kept, no_pending, acked_kept, acked_pendi
 use Rattle.zeus_model.specs.declared.state.Gather.{Gather}
 use Rattle.zeus_model.specs.declared.state.Kept.{Kept}
 use Rattle.zeus_model.specs.declared.state.Pending.{Pending}
-use Rattle.machine_moves.specs.SystemState.{SystemState, Changes, NewView, nothing, view}
+use Rattle.machine_moves.specs.SystemState.{SystemState, NewView, nothing, view}
 use Rattle.machine_moves.specs.Move.{Move, IsTellable}
 use Rattle.ownership_safety.specs.Object.{Acknowledges, Validates}
 use Rattle.replication_safety.specs.StreamState.{entry_of}
@@ -32,53 +32,52 @@ use Rattle.data_safety.specs.DataInvariant.{DataInvariant}
 use Rattle.data_safety.proofs.Consequences.{numbered}
 use Rattle.data_safety.proofs.ownership.StreamsUnchanged.{SameRows, IsSamePending, same-rows, same-slots, same-pending, rows-done, rows-end}
 use Rattle.data_safety.proofs.ownership.OwnershipFrame.{IsFramed}
-use Rattle.data_safety.proofs.ownership.OwnershipMoves.{still-ownership, place-same, given-before, framed-invariant, quiet-move}
+use Rattle.data_safety.proofs.ownership.OwnershipMoves.{MovesAlone, KeepsData, still-ownership, place-same, given-before, framed-invariant, quiet-move}
 
 -- a change of a node that leaves its tables but for gathers, and sends nothing
-silent-move : (y z : RunState) (u : Witness) (f : DataInvariant y u) (n : ℕ) (after : Node) → Move y.system z.system → Changes y.system z.system n after nothing
-    → SameRows (y.system.node n) after → after.copies ≡ (y.system.node n).copies → after.entries ≡ (y.system.node n).entries → after.me ≡ (y.system.node n).me
-    → z.txs ≡ y.txs → z.book ≡ y.book → DataInvariant z u
-silent-move y z u f n after move c rows copies entries me txs book =
-    quiet-move y z u f n after nothing move c rows copies entries me (λ x l from to e p k none i. none) txs book
+silent-move : (y z : RunState) (u : Witness) (f : DataInvariant y u) (n : ℕ) (after : Node) → MovesAlone y z n after nothing → KeepsData (y.system.node n) after → DataInvariant z u
+silent-move y z u f n after alone keeps = quiet-move y z u f n after nothing alone keeps (λ x l from to e p k none i. none)
 
 -- if a node stops, then the invariant stays
-pub stops-invariant : (y z : RunState) (u : Witness) (f : DataInvariant y u) (n : ℕ) → Move y.system z.system → Changes y.system z.system n (record (y.system.node n) { stopped = true }) nothing
-    → z.txs ≡ y.txs → z.book ≡ y.book → DataInvariant z u
-stops-invariant y z u f n move c txs book =
-    silent-move y z u f n (record (y.system.node n) { stopped = true }) move c (same-rows (y.system.node n) (record (y.system.node n) { stopped = true }) refl refl) refl refl refl txs book
+pub stops-invariant : (y z : RunState) (u : Witness) (f : DataInvariant y u) (n : ℕ) → MovesAlone y z n (record (y.system.node n) { stopped = true }) nothing
+    → DataInvariant z u
+stops-invariant y z u f n alone =
+    silent-move y z u f n (record (y.system.node n) { stopped = true }) alone
+    record { me = refl; copies = refl; entries = refl; rows = same-rows (y.system.node n) (record (y.system.node n) { stopped = true }) refl refl }
 
 -- if a node installs a later epoch, then the invariant stays
-pub installs-invariant : (y z : RunState) (u : Witness) (f : DataInvariant y u) (n e : ℕ) → Move y.system z.system → Changes y.system z.system n (installed_node y.system n e) nothing
-    → z.txs ≡ y.txs → z.book ≡ y.book → DataInvariant z u
-installs-invariant y z u f n e move c txs book =
-    silent-move y z u f n (installed_node y.system n e) move c (same-rows (y.system.node n) (installed_node y.system n e) refl refl) refl refl refl txs book
+pub installs-invariant : (y z : RunState) (u : Witness) (f : DataInvariant y u) (n e : ℕ) → MovesAlone y z n (installed_node y.system n e) nothing
+    → DataInvariant z u
+installs-invariant y z u f n e alone =
+    silent-move y z u f n (installed_node y.system n e) alone
+    record { me = refl; copies = refl; entries = refl; rows = same-rows (y.system.node n) (installed_node y.system n e) refl refl }
 
 -- if a node's gather changes, then the invariant stays
-pub gathers-invariant : (y z : RunState) (u : Witness) (f : DataInvariant y u) (n x : ℕ) (g : Option Gather) → Move y.system z.system → Changes y.system z.system n (with_gather (y.system.node n) x g) nothing
-    → z.txs ≡ y.txs → z.book ≡ y.book → DataInvariant z u
-gathers-invariant y z u f n x g move c txs book =
-    silent-move y z u f n (with_gather (y.system.node n) x g) move c (same-rows (y.system.node n) (with_gather (y.system.node n) x g) refl refl) refl refl refl txs book
+pub gathers-invariant : (y z : RunState) (u : Witness) (f : DataInvariant y u) (n x : ℕ) (g : Option Gather) → MovesAlone y z n (with_gather (y.system.node n) x g) nothing
+    → DataInvariant z u
+gathers-invariant y z u f n x g alone =
+    silent-move y z u f n (with_gather (y.system.node n) x g) alone
+    record { me = refl; copies = refl; entries = refl; rows = same-rows (y.system.node n) (with_gather (y.system.node n) x g) refl refl }
 
 -- if a node notes that one has reported, then the invariant stays
-pub reports-invariant : (y z : RunState) (u : Witness) (f : DataInvariant y u) (n m : ℕ) → Move y.system z.system
-    → Changes y.system z.system n (record (y.system.node n) { reported = with_node m (y.system.node n).reported }) nothing
-    → z.txs ≡ y.txs → z.book ≡ y.book → DataInvariant z u
-reports-invariant y z u f n m move c txs book =
-    silent-move y z u f n (record (y.system.node n) { reported = with_node m (y.system.node n).reported }) move c
-    (same-rows (y.system.node n) (record (y.system.node n) { reported = with_node m (y.system.node n).reported }) refl refl) refl refl refl txs book
+pub reports-invariant : (y z : RunState) (u : Witness) (f : DataInvariant y u) (n m : ℕ) → MovesAlone y z n (record (y.system.node n) { reported = with_node m (y.system.node n).reported }) nothing
+    → DataInvariant z u
+reports-invariant y z u f n m alone =
+    silent-move y z u f n (record (y.system.node n) { reported = with_node m (y.system.node n).reported }) alone
+    record { me = refl; copies = refl; entries = refl; rows = same-rows (y.system.node n) (record (y.system.node n) { reported = with_node m (y.system.node n).reported }) refl refl }
 
 not_validates : (n to e : ℕ) (p : Proposal) (k : Content) (t : Stamp) (place : Place) → Acknowledges n to e p (Some k) ≡ Validates t place → ⊥
 not_validates n to e p k t place is = cc
 
 -- if a node sends letters that it may send without a change of its state, then the invariant stays
-pub tells-invariant : (y z : RunState) (u : Witness) (f : DataInvariant y u) (n : ℕ) → Move y.system z.system → Changes y.system z.system n (y.system.node n) (IsTellable (y.system.node n))
-    → z.txs ≡ y.txs → z.book ≡ y.book → DataInvariant z u
-tells-invariant y z u f n move c txs book =
-    quiet-move y z u f n (y.system.node n) (IsTellable (y.system.node n)) move c (same-rows (y.system.node n) (y.system.node n) refl refl) refl refl refl
+pub tells-invariant : (y z : RunState) (u : Witness) (f : DataInvariant y u) (n : ℕ) → MovesAlone y z n (y.system.node n) (IsTellable (y.system.node n))
+    → DataInvariant z u
+tells-invariant y z u f n alone =
+    quiet-move y z u f n (y.system.node n) (IsTellable (y.system.node n)) alone
+    record { me = refl; copies = refl; entries = refl; rows = same-rows (y.system.node n) (y.system.node n) refl refl }
     (λ x l from to e p k tellable i.
     not_validates from to e p k (entry (y.system.node n) x).stamp (entry (y.system.node n) x).place
     (tellable-says (y.system.node n) x l (Acknowledges from to e p (Some k)) tellable i))
-    txs book
 
 -- ---- acknowledgements of entries
 
@@ -131,10 +130,11 @@ own-noted n s i from inside = record {
 }
 
 -- if a node notes an acknowledgement of its own stream, then the invariant stays
-pub notes_own-invariant : (y z : RunState) (u : Witness) (f : DataInvariant y u) (n s i from : ℕ) → Move y.system z.system → i < length (slot (y.system.node n) s).pending
-    → Changes y.system z.system n (with_slot (y.system.node n) s (noted_slot (y.system.node n) s i from)) nothing → z.txs ≡ y.txs → z.book ≡ y.book → DataInvariant z u
-notes_own-invariant y z u f n s i from move inside c txs book =
-    silent-move y z u f n (with_slot (y.system.node n) s (noted_slot (y.system.node n) s i from)) move c (own-noted (y.system.node n) s i from inside) refl refl refl txs book
+pub notes_own-invariant : (y z : RunState) (u : Witness) (f : DataInvariant y u) (n s i from : ℕ) → i < length (slot (y.system.node n) s).pending → MovesAlone y z n (with_slot (y.system.node n) s (noted_slot (y.system.node n) s i from)) nothing
+    → DataInvariant z u
+notes_own-invariant y z u f n s i from inside alone =
+    silent-move y z u f n (with_slot (y.system.node n) s (noted_slot (y.system.node n) s i from)) alone
+    record { me = refl; copies = refl; entries = refl; rows = own-noted (y.system.node n) s i from inside }
 
 log-noted : (n : Node) (t : Stream) (i from : ℕ) → i < length (log n t).kept → SameRows n (with_log n t (noted_log n t i from))
 log-noted n t i from inside = record {
@@ -157,10 +157,11 @@ log-noted n t i from inside = record {
 }
 
 -- if a node notes an acknowledgement of the stored stream of another node, then the invariant stays
-pub notes_kept-invariant : (y z : RunState) (u : Witness) (f : DataInvariant y u) (n i from : ℕ) (t : Stream) → Move y.system z.system → i < length (log (y.system.node n) t).kept
-    → Changes y.system z.system n (with_log (y.system.node n) t (noted_log (y.system.node n) t i from)) nothing → z.txs ≡ y.txs → z.book ≡ y.book → DataInvariant z u
-notes_kept-invariant y z u f n i from t move inside c txs book =
-    silent-move y z u f n (with_log (y.system.node n) t (noted_log (y.system.node n) t i from)) move c (log-noted (y.system.node n) t i from inside) refl refl refl txs book
+pub notes_kept-invariant : (y z : RunState) (u : Witness) (f : DataInvariant y u) (n i from : ℕ) (t : Stream) → i < length (log (y.system.node n) t).kept → MovesAlone y z n (with_log (y.system.node n) t (noted_log (y.system.node n) t i from)) nothing
+    → DataInvariant z u
+notes_kept-invariant y z u f n i from t inside alone =
+    silent-move y z u f n (with_log (y.system.node n) t (noted_log (y.system.node n) t i from)) alone
+    record { me = refl; copies = refl; entries = refl; rows = log-noted (y.system.node n) t i from inside }
 
 -- ---- views
 
@@ -185,7 +186,7 @@ makes_view-invariant y z u f set move v txs book =
     (λ x within. still-ownership (object y.system x) (object z.system x) (u.chain x) (f.ownership x within)
     (λ m. rw (same_entry_as y.system z.system x m v.config (v.nodes m)) ((f.ownership x within).settled m).ver)
     (object_sees_move y.system z.system x (u.chain x) (numbered y u f) (f.ownership x within) move))
-    (λ n a i x live inside names own. rw (v.nodes n) own)
+    (λ n. rw (v.nodes n) record { owned = λ a i x inside names own. own })
     (λ m x e p k within given last. f.entered.given m x e p k within (given-before y.system z.system x nothing v.sends (λ l from to e2 p2 k2 none i. none) m e p k given) last)
   where
     rows : (n : ℕ) → SameRows (y.system.node n) (z.system.node n)

@@ -14,9 +14,9 @@ use Rattle.zeus_packet.specs.declared.place.Want.TheVariants.{Own, Read, Leave}
 use Rattle.zeus_packet.specs.declared.write.Content.{Content}
 use Rattle.zeus_txn.specs.Ops.{mentions}
 use Rattle.zeus_model.specs.Tables.{nth}
-use Rattle.zeus_model.specs.State.{Node, copy, entry, gather, owns, slot}
+use Rattle.zeus_model.specs.State.{Node, copy, entry, owns, slot}
 use Rattle.zeus_model.specs.Commit.{no_pending}
-use Rattle.zeus_model.specs.Ownership.{settle, is_decidable, bring, brought}
+use Rattle.zeus_model.specs.Ownership.{settle, bring, brought}
 use Rattle.zeus_model.specs.declared.state.Copy.{Copy}
 use Rattle.zeus_model.specs.declared.state.Gather.{Gather}
 use Rattle.machine_moves.specs.SystemState.{IsLive, Changes, nothing}
@@ -37,13 +37,13 @@ use Rattle.invariants.proofs.Frames.{settle-away, bring-quiet}
 use Rattle.invariants.proofs.StreamFrames.{stream-home, stream-stopped}
 use Rattle.invariants.proofs.ObjectKeeps.{sees_move as object_sees_move}
 use Rattle.invariants.proofs.ObjectMoves.{object-live}
-use Rattle.invariants.proofs.ObjectSeen.{same_or_not, decide_here}
+use Rattle.invariants.proofs.ObjectSeen.{HasGathered, same_or_not, decide_here}
 use Rattle.data_safety.specs.RunState.{RunState, Witness, place_now, Lives}
 use Rattle.data_safety.specs.DataInvariant.{DataInvariant, IsClean, left, content_of}
 use Rattle.data_safety.proofs.Consequences.{numbered, clean-copy, home-done, home-end}
 use Rattle.data_safety.proofs.ownership.StreamsUnchanged.{SameRows, same-rows}
 use Rattle.data_safety.proofs.ownership.OwnershipFrame.{IsSameObject, IsRenewed, with_chains}
-use Rattle.data_safety.proofs.ownership.OwnershipMoves.{still-ownership, place-same, given-before, changed-frame, changed-rows, changed-low, changed-owned, low-before, framed-invariant}
+use Rattle.data_safety.proofs.ownership.OwnershipMoves.{MovesAlone, still-ownership, place-same, given-before, changed-frame, changed-rows, changed-low, changed-owned, low-before, framed-invariant}
 use Rattle.data_safety.proofs.ownership.OwnershipProposals.{pending-within}
 use Rattle.data_safety.proofs.ownership.OwnershipSettles.{settle-tables, owner-top}
 
@@ -110,73 +110,79 @@ decided-entry n x w p c ne =
 
 -- ---- a decision, as far as other objects
 
-decides-with : (y z : RunState) (u : Witness) (f : DataInvariant y u) (n x : ℕ) (p : Proposal) (co : Content) (chain : ℕ → List Proposal) → Move y.system z.system
-    → Changes y.system z.system n (decided_node (y.system.node n) x p co) nothing → z.txs ≡ y.txs → z.book ≡ y.book
-    → ((w : ℕ) → x ≢ w → chain w ≡ u.chain w)
-    → (x < length y.system.config.objects → IsSameObject y z u (with_chains u chain) x ⊎ IsRenewed y z u (with_chains u chain) x)
-    → (x < length y.system.config.objects → OwnershipInvariant (object z.system x) (chain x))
-    → ((a i : ℕ) → i < length (slot (y.system.node n) a).pending → mentions x (nth no_pending (slot (y.system.node n) a).pending i).named ≡ true → owns (y.system.node n) x ≡ true → ⊥)
-    → ((m e : ℕ) (q : Proposal) (k : Content) → x < length y.system.config.objects → HasGiven (object y.system x) m q k e → q.base.ver ≡ length (chain x) → IsClean y u x × (k ≡ left y x))
-    → DataInvariant z (with_chains u chain)
+-- what holds of the object x when the node n decides a placement of it and the chains become those given: only the chain of x may be another
+record HoldsDecided (y z : RunState) (u : Witness) (chain : ℕ → List Proposal) (n x : ℕ) : Type 0 where
+  others : (w : ℕ) → x ≢ w → chain w ≡ u.chain w
+  object_is : x < length y.system.config.objects → IsSameObject y z u (with_chains u chain) x ⊎ IsRenewed y z u (with_chains u chain) x
+  ownership : x < length y.system.config.objects → OwnershipInvariant (object z.system x) (chain x)
+  unnamed : (a i : ℕ) → i < length (slot (y.system.node n) a).pending → mentions x (nth no_pending (slot (y.system.node n) a).pending i).named ≡ true → owns (y.system.node n) x ≡ true → ⊥
+  given : (m e : ℕ) (q : Proposal) (k : Content) → x < length y.system.config.objects → HasGiven (object y.system x) m q k e → q.base.ver ≡ length (chain x) → IsClean y u x × (k ≡ left y x)
+
+decides-with : (y z : RunState) (u : Witness) (f : DataInvariant y u) (n x : ℕ) (p : Proposal) (co : Content) (chain : ℕ → List Proposal)
+    → MovesAlone y z n (decided_node (y.system.node n) x p co) nothing → HoldsDecided y z u chain n x → DataInvariant z (with_chains u chain)
 unfolding owns
-decides-with y z u f n x p co chain move c txs book others objects ownership owned given =
-    framed-invariant y z u chain f (changed-frame y z u f n (decided_node (y.system.node n) x p co) nothing move c (decided-rows (y.system.node n) x p co) txs book) (changed-rows y.system z.system n (decided_node (y.system.node n) x p co) nothing c (decided-rows (y.system.node n) x p co)) move
+decides-with y z u f n x p co chain alone decided =
+    framed-invariant y z u chain f (changed-frame y z u f n (decided_node (y.system.node n) x p co) nothing alone (decided-rows (y.system.node n) x p co))
+    (changed-rows y.system z.system n (decided_node (y.system.node n) x p co) nothing alone.change (decided-rows (y.system.node n) x p co)) alone.move
     (λ w within. elim (same_or_not x w) [
-      | inl same ↦ subst (λ (v : ℕ). IsSameObject y z u (with_chains u chain) v ⊎ IsRenewed y z u (with_chains u chain) v) same (objects (rw same within))
-      | inr other ↦ inl record { place = place-same y z u (with_chains u chain) w c.config (others w other); copies = copies w other }
+      | inl same ↦ subst (λ (v : ℕ). IsSameObject y z u (with_chains u chain) v ⊎ IsRenewed y z u (with_chains u chain) v) same (decided.object_is (rw same within))
+      | inr other ↦ inl record { place = place-same y z u (with_chains u chain) w alone.change.config (decided.others w other); copies = copies w other }
     ])
     (λ w within. elim (same_or_not x w) [
-      | inl same ↦ subst (λ (v : ℕ). OwnershipInvariant (object z.system v) (chain v)) same (ownership (rw same within))
-      | inr other ↦ rw (others w other) (still w within other)
+      | inl same ↦ subst (λ (v : ℕ). OwnershipInvariant (object z.system v) (chain v)) same (decided.ownership (rw same within))
+      | inr other ↦ rw (decided.others w other) (still w within other)
     ])
-    (changed-owned y z n (decided_node (y.system.node n) x p co) nothing c (λ a i w inside m own. elim (same_or_not x w) [
-      | inl same ↦ absurd (owned a i inside (rw same m) (rw same own))
-      | inr other ↦ rw (decided-entry (y.system.node n) x w p co other, decided-me (y.system.node n) x p co) own
-    ]))
+    (changed-owned y z n (decided_node (y.system.node n) x p co) nothing alone.change record {
+      owned = λ a i w inside m own. elim (same_or_not x w) [
+        | inl same ↦ absurd (decided.unnamed a i inside (rw same m) (rw same own))
+        | inr other ↦ rw (decided-entry (y.system.node n) x w p co other, decided-me (y.system.node n) x p co) own
+      ];
+    })
     (λ m w e q k within g last.
-    let before : HasGiven (object y.system w) m q k e = given-before y.system z.system w nothing c.sends (λ l2 from to e2 p2 k2 no i. no) m e q k g in
+    let before : HasGiven (object y.system w) m q k e = given-before y.system z.system w nothing alone.change.sends (λ l2 from to e2 p2 k2 no i. no) m e q k g in
     elim (same_or_not x w) [
-      | inl same ↦ subst (λ (v : ℕ). IsClean y u v × (k ≡ left y v)) same (given m e q k (rw same within) (subst (λ (v : ℕ). HasGiven (object y.system v) m q k e) (sym same) before) (rw same last))
-      | inr other ↦ f.entered.given m w e q k within before (rw (others w other) at last)
+      | inl same ↦ subst (λ (v : ℕ). IsClean y u v × (k ≡ left y v)) same (decided.given m e q k (rw same within) (subst (λ (v : ℕ). HasGiven (object y.system v) m q k e) (sym same) before) (rw same last))
+      | inr other ↦ f.entered.given m w e q k within before (rw (decided.others w other) at last)
     ])
   where
     copies : (w : ℕ) → x ≢ w → (m : ℕ) → IsLive z.system m → copy (z.system.node m) w ≡ copy (y.system.node m) w
     copies w other m live = elim (same_or_not m n) [
-      | inl same ↦ rw (same, c.node) (decided-copy (y.system.node n) x w p co other)
-      | inr away ↦ rw (c.others m away) refl
+      | inl same ↦ rw (same, alone.change.node) (decided-copy (y.system.node n) x w p co other)
+      | inr away ↦ rw (alone.change.others m away) refl
     ]
 
     still : (w : ℕ) → w < length y.system.config.objects → x ≢ w → OwnershipInvariant (object z.system w) (u.chain w)
     still w within other =
-        let low : (entry (decided_node (y.system.node n) x p co) w).stamp.ver ≤ length (u.chain w) = rw (decided-entry (y.system.node n) x w p co other) (low-before y u f n w c.live within) in
+        let low : (entry (decided_node (y.system.node n) x p co) w).stamp.ver ≤ length (u.chain w) = rw (decided-entry (y.system.node n) x w p co other) (low-before y u f n w alone.change.live within) in
         still-ownership (object y.system w) (object z.system w) (u.chain w) (f.ownership w within)
-        (changed-low y z u f n w (decided_node (y.system.node n) x p co) nothing c within low)
-        (object_sees_move y.system z.system w (u.chain w) (numbered y u f) (f.ownership w within) move)
+        (changed-low y z u f n w (decided_node (y.system.node n) x p co) nothing alone.change within low)
+        (object_sees_move y.system z.system w (u.chain w) (numbered y u f) (f.ownership w within) alone.move)
 
 -- ---- a decision of what is decided already
 
-decides-again : (y z : RunState) (u : Witness) (f : DataInvariant y u) (n x : ℕ) (p : Proposal) (co : Content) → Move y.system z.system
-    → Changes y.system z.system n (decided_node (y.system.node n) x p co) nothing → z.txs ≡ y.txs → z.book ≡ y.book
+decides-again : (y z : RunState) (u : Witness) (f : DataInvariant y u) (n x : ℕ) (p : Proposal) (co : Content) → MovesAlone y z n (decided_node (y.system.node n) x p co) nothing
     → x < length y.system.config.objects → IsAgain (object y.system x) (object z.system x) (u.chain x) n p → DataInvariant z u
-decides-again y z u f n x p co move c txs book within again =
-    decides-with y z u f n x p co u.chain move c txs book (λ w other. refl)
-    (λ h. inl record {
-      place = place-same y z u u x c.config refl;
-      copies = λ m live. elim (same_or_not m n) [
-        | inl same ↦ rw (same, c.node) (decided-copies (y.system.node n) x x p co other)
-        | inr away ↦ rw (c.others m away) refl
-      ];
-    })
-    (λ h. again.ownership)
-    (λ a i inside m own. owner-top y u f n x (chain_stamp (u.chain x) p.stamp.ver) within c.live own
-    (omega (arith, ver, again.settles.decided)) (ap (λ (v : ℕ). chain_stamp (u.chain x) v) (sym ver)) (rw entry_is at again.settles.above))
-    (λ m e q k h g last. f.entered.given m x e q k h g last)
+decides-again y z u f n x p co alone within again =
+    decides-with y z u f n x p co u.chain alone record {
+      others = λ w away. refl;
+      object_is = λ h. inl record {
+        place = place-same y z u u x alone.change.config refl;
+        copies = λ m live. elim (same_or_not m n) [
+          | inl same ↦ rw (same, alone.change.node) (decided-copies (y.system.node n) x x p co other)
+          | inr away ↦ rw (alone.change.others m away) refl
+        ];
+      };
+      ownership = λ h. again.ownership;
+      unnamed = λ a i inside m own. owner-top y u f n x (chain_stamp (u.chain x) p.stamp.ver) within alone.change.live own
+          (omega (arith, ver, again.settles.decided)) (ap (λ (v : ℕ). chain_stamp (u.chain x) v) (sym ver)) (rw entry_is at again.settles.above);
+      given = λ m e q k h g last. f.entered.given m x e q k h g last;
+    }
   where
     other : p.requester ≢ (y.system.node n).me
-    other is = again.requester (is ∙ (f.steady.nodes n c.live).me)
+    other is = again.requester (is ∙ (f.steady.nodes n alone.change.live).me)
 
     entry_is : (object y.system x).entry n ≡ entry (y.system.node n) x
-    entry_is = object-entry y.system x n (f.steady.nodes n c.live).within
+    entry_is = object-entry y.system x n (f.steady.nodes n alone.change.live).within
 
     ver : (chain_stamp (u.chain x) p.stamp.ver).ver ≡ p.stamp.ver
     ver = stamp_at-ver (object y.system x) (u.chain x) (f.ownership x within) p.stamp.ver again.settles.decided
@@ -326,41 +332,44 @@ module _ (y z : RunState) (u : Witness) (f : DataInvariant y u) (n x : ℕ) (p :
 
   decides-first : Move y.system z.system → z.txs ≡ y.txs → z.book ≡ y.book → DataInvariant z (with_chains u (longer u x p))
   decides-first move txs book =
-      decides-with y z u f n x p co (longer u x p) move c txs book (longer-other u x p)
-      (λ h. inr record { clean = clean; placed = first-placed; content = first-content })
-      (λ h. rw (longer-same u x p) first.ownership)
-      (λ a i inside m own. clean-unnamed y u f n a i x clean c.live inside m)
-      (λ m e q k h given last. absurd (first-given m e q k given last))
+      decides-with y z u f n x p co (longer u x p) record { move = move; change = c; txs = txs; book = book } record {
+        others = longer-other u x p;
+        object_is = λ h. inr record { clean = clean; placed = first-placed; content = first-content };
+        ownership = λ h. rw (longer-same u x p) first.ownership;
+        unnamed = λ a i inside m own. clean-unnamed y u f n a i x clean c.live inside m;
+        given = λ m e q k h given last. absurd (first-given m e q k given last);
+      }
 
 -- ---- whatever it decides
 
-decides-known : (y z : RunState) (u : Witness) (f : DataInvariant y u) (n x : ℕ) (g : Gather) (co : Content) → Move y.system z.system → gather (y.system.node n) x ≡ Some g
-    → is_decidable (y.system.node n) g ≡ true → g.content ≡ Some co → Changes y.system z.system n (decided_node (y.system.node n) x g.proposal co) nothing
-    → z.txs ≡ y.txs → z.book ≡ y.book → x < length y.system.config.objects → (v : Witness) × DataInvariant z v
-decides-known y z u f n x g co move gathered decidable content c txs book within =
+decides-known : (y z : RunState) (u : Witness) (f : DataInvariant y u) (n x : ℕ) (g : Gather) (co : Content) → HasGathered y.system n x g co
+    → MovesAlone y z n (decided_node (y.system.node n) x g.proposal co) nothing → x < length y.system.config.objects → (v : Witness) × DataInvariant z v
+decides-known y z u f n x g co has_gathered alone within =
     let ownership : OwnershipInvariant (object y.system x) (u.chain x) = f.ownership x within in
-    let d : moves.Decides (object y.system x) (object z.system x) n g = decide_here y.system z.system n x g co (u.chain x) (numbered y u f) ownership gathered decidable content c in
+    let d : moves.Decides (object y.system x) (object z.system x) n g = decide_here y.system z.system n x g co (u.chain x) (numbered y u f) ownership has_gathered alone.change in
     elim (keeps_Decides (object y.system x) (object z.system x) (u.chain x) ownership n g d) [
-      | inl again ↦ (u, decides-again y z u f n x g.proposal co move c txs book within again)
+      | inl again ↦ (u, decides-again y z u f n x g.proposal co alone within again)
       | inr first ↦
           let held : IsGather (object y.system x) n g = ownership.gathers n g d.gathered in
-          let sent = held.content co content in
+          let sent = held.content co has_gathered.content in
           let given = f.entered.given sent.0 x ((object y.system x).epoch n) g.proposal co within (n, sent.1) first.last in
-          (with_chains u (longer u x g.proposal), decides-first y z u f n x g.proposal co c within first given.0 given.1 move txs book)
+          (with_chains u (longer u x g.proposal), decides-first y z u f n x g.proposal co alone.change within first given.0 given.1 alone.move alone.txs alone.book)
     ]
 
 -- if a node decides a proposal that it gathered, then the invariant stays, with a chain that may be longer
-pub decides-invariant : (y z : RunState) (u : Witness) (f : DataInvariant y u) (n x : ℕ) (g : Gather) (co : Content) → Move y.system z.system → gather (y.system.node n) x ≡ Some g
-    → is_decidable (y.system.node n) g ≡ true → g.content ≡ Some co → Changes y.system z.system n (decided_node (y.system.node n) x g.proposal co) nothing
-    → z.txs ≡ y.txs → z.book ≡ y.book → (v : Witness) × DataInvariant z v
-decides-invariant y z u f n x g co move gathered decidable content c txs book =
+pub decides-invariant : (y z : RunState) (u : Witness) (f : DataInvariant y u) (n x : ℕ) (g : Gather) (co : Content) → HasGathered y.system n x g co
+    → MovesAlone y z n (decided_node (y.system.node n) x g.proposal co) nothing → (v : Witness) × DataInvariant z v
+decides-invariant y z u f n x g co has_gathered alone =
     elim (cases_lt x (length y.system.config.objects)) [
-      | inl within ↦ decides-known y z u f n x g co move gathered decidable content c txs book within
+      | inl within ↦ decides-known y z u f n x g co has_gathered alone within
       | inr out ↦ (
         u,
-        decides-with y z u f n x g.proposal co u.chain move c txs book (λ w other. refl)
-            (λ h. absurd (omega (arith, h, out))) (λ h. absurd (omega (arith, h, out)))
-            (λ a i inside m own. let h = pending-within y u f n a i x inside m in omega (arith, h, out))
-            (λ m e q k h given last. absurd (omega (arith, h, out))),
+        decides-with y z u f n x g.proposal co u.chain alone record {
+          others = λ w other. refl;
+          object_is = λ h. absurd (omega (arith, h, out));
+          ownership = λ h. absurd (omega (arith, h, out));
+          unnamed = λ a i inside m own. let h = pending-within y u f n a i x inside m in omega (arith, h, out);
+          given = λ m e q k h given last. absurd (omega (arith, h, out));
+        },
       )
     ]

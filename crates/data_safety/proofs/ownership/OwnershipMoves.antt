@@ -72,6 +72,24 @@ place-same y z u v x config chain =
 
 -- ---- a move of one node
 
+-- a move of the node n alone that leaves the book: n becomes the node after, and says only what is allowed
+pub record MovesAlone (y z : RunState) (n : ℕ) (after : Node) (allowed : Letter → Type 0) : Type 0 where
+  pub move : Move y.system z.system
+  pub change : Changes y.system z.system n after allowed
+  pub txs : z.txs ≡ y.txs
+  pub book : z.book ≡ y.book
+
+-- a node that goes on to own what it owns, of the objects that its pending entries name
+pub record KeepsOwned (before after : Node) : Type 0 where
+  pub owned : (a i x : ℕ) → i < length (slot before a).pending → mentions x (nth no_pending (slot before a).pending i).named ≡ true → owns before x ≡ true → owns after x ≡ true
+
+-- a node that keeps its number, its copies, its entries for objects, and its streams but for acknowledgements
+pub record KeepsData (before after : Node) : Type 0 where
+  pub me : after.me ≡ before.me
+  pub copies : after.copies ≡ before.copies
+  pub entries : after.entries ≡ before.entries
+  pub rows : SameRows before after
+
 -- if the node that changes keeps its streams but for acknowledgements, then so does every node
 pub changed-rows : (y z : SystemState) (n : ℕ) (after : Node) (allowed : Letter → Type 0) → Changes y z n after allowed → SameRows (y.node n) after → (m : ℕ) → SameRows (y.node m) (z.node m)
 changed-rows y z n after allowed c rows m = elim (same_or_not m n) [
@@ -87,18 +105,18 @@ changed-live y z n after allowed c m live = elim (same_or_not m n) [
 ]
 
 -- if the node that changes keeps its streams but for acknowledgements, and the book stays, then the move is framed
-pub changed-frame : (y z : RunState) (u : Witness) (f : DataInvariant y u) (n : ℕ) (after : Node) (allowed : Letter → Type 0) → Move y.system z.system → Changes y.system z.system n after allowed
-    → SameRows (y.system.node n) after → z.txs ≡ y.txs → z.book ≡ y.book → IsFramed y z u
-changed-frame y z u f n after allowed move c rows txs book = record {
-  config = c.config;
-  txs = txs;
-  book = book;
-  live = changed-live y.system z.system n after allowed c;
-  slots = λ m. same-slots (y.system.node m) (z.system.node m) (changed-rows y.system z.system n after allowed c rows m);
-  dones = rows-done y.system z.system (changed-rows y.system z.system n after allowed c rows);
-  ends = rows-end y.system z.system (changed-rows y.system z.system n after allowed c rows);
-  seen = λ t. stream_sees_move y.system z.system t (u.passed t) (numbered y u f) (f.replication t) move;
-  first = λ m h. rw c.views h;
+pub changed-frame : (y z : RunState) (u : Witness) (f : DataInvariant y u) (n : ℕ) (after : Node) (allowed : Letter → Type 0) → MovesAlone y z n after allowed
+    → SameRows (y.system.node n) after → IsFramed y z u
+changed-frame y z u f n after allowed alone rows = record {
+  config = alone.change.config;
+  txs = alone.txs;
+  book = alone.book;
+  live = changed-live y.system z.system n after allowed alone.change;
+  slots = λ m. same-slots (y.system.node m) (z.system.node m) (changed-rows y.system z.system n after allowed alone.change rows m);
+  dones = rows-done y.system z.system (changed-rows y.system z.system n after allowed alone.change rows);
+  ends = rows-end y.system z.system (changed-rows y.system z.system n after allowed alone.change rows);
+  seen = λ t. stream_sees_move y.system z.system t (u.passed t) (numbered y u f) (f.replication t) alone.move;
+  first = λ m h. rw alone.change.views h;
 }
 
 -- no settled stamp is above the chain
@@ -117,14 +135,12 @@ changed-low y z u f n x after allowed c within low m =
     ]
 
 -- who owns what its pending entries name, where the node that changes does
-pub changed-owned : (y z : RunState) (n : ℕ) (after : Node) (allowed : Letter → Type 0) → Changes y.system z.system n after allowed
-    → ((a i x : ℕ) → i < length (slot (y.system.node n) a).pending → mentions x (nth no_pending (slot (y.system.node n) a).pending i).named ≡ true → owns (y.system.node n) x ≡ true → owns after x ≡ true)
-    → (m a i x : ℕ) → IsLive z.system m → i < length (slot (y.system.node m) a).pending
-    → mentions x (nth no_pending (slot (y.system.node m) a).pending i).named ≡ true → owns (y.system.node m) x ≡ true → owns (z.system.node m) x ≡ true
-changed-owned y z n after allowed c here_now m a i x live inside names own =
+pub changed-owned : (y z : RunState) (n : ℕ) (after : Node) (allowed : Letter → Type 0) → Changes y.system z.system n after allowed → KeepsOwned (y.system.node n) after
+    → (m : ℕ) → KeepsOwned (y.system.node m) (z.system.node m)
+changed-owned y z n after allowed c keeps m =
     elim (same_or_not m n) [
-      | inl same ↦ rw (same, c.node) (here_now a i x (rw same at inside) (rw same at names) (rw same at own))
-      | inr other ↦ rw (c.others m other) own
+      | inl same ↦ rw (same, c.node) keeps
+      | inr other ↦ rw (c.others m other) record { owned = λ a i x inside names own. own }
     ]
 
 -- objects whose chain and copies stay
@@ -155,35 +171,33 @@ given-before y z x allowed sends none n e p c given =
 pub framed-invariant : (y z : RunState) (u : Witness) (chain : ℕ → List Proposal) (f : DataInvariant y u) (s : IsFramed y z u) → ((n : ℕ) → SameRows (y.system.node n) (z.system.node n)) → Move y.system z.system
     → ((x : ℕ) → x < length y.system.config.objects → IsSameObject y z u (with_chains u chain) x ⊎ IsRenewed y z u (with_chains u chain) x)
     → ((x : ℕ) → x < length y.system.config.objects → OwnershipInvariant (object z.system x) (chain x))
-    → ((n a i x : ℕ) → IsLive z.system n → i < length (slot (y.system.node n) a).pending
-    → mentions x (nth no_pending (slot (y.system.node n) a).pending i).named ≡ true → owns (y.system.node n) x ≡ true → owns (z.system.node n) x ≡ true)
+    → ((n : ℕ) → KeepsOwned (y.system.node n) (z.system.node n))
     → ((n x e : ℕ) (p : Proposal) (c : Content) → x < length y.system.config.objects → HasGiven (object z.system x) n p c e
     → p.base.ver ≡ length (chain x) → IsClean y u x × (c ≡ left y x))
     → DataInvariant z (with_chains u chain)
-framed-invariant y z u chain f s rows move objects ownership owned given = record {
+framed-invariant y z u chain f s rows move objects ownership keeps given = record {
   limits = rw s.config f.limits;
   steady = move_keep y.system z.system move f.steady;
   ownership = λ x within. ownership x (rw s.config at within);
   replication = framed-replication y z u chain f s;
   copied = framed-copied y z u chain f s rows objects;
-  entered = framed-entered y z u chain f s objects owned given;
+  entered = framed-entered y z u chain f s objects (λ n a i x live inside names own. (keeps n).owned a i x inside names own) given;
   booked = framed-booked y z u chain f s;
 }
 
 -- a node that keeps its copies, its entries for objects, and its streams but for acknowledgements, and gives no content
-pub quiet-move : (y z : RunState) (u : Witness) (f : DataInvariant y u) (n : ℕ) (after : Node) (allowed : Letter → Type 0) → Move y.system z.system → Changes y.system z.system n after allowed
-    → SameRows (y.system.node n) after → after.copies ≡ (y.system.node n).copies → after.entries ≡ (y.system.node n).entries → after.me ≡ (y.system.node n).me
+pub quiet-move : (y z : RunState) (u : Witness) (f : DataInvariant y u) (n : ℕ) (after : Node) (allowed : Letter → Type 0) → MovesAlone y z n after allowed → KeepsData (y.system.node n) after
     → ((x : ℕ) (l : Letter) (from to e : ℕ) (p : Proposal) (k : Content) → allowed l → In (Acknowledges from to e p (Some k)) (says x l) → ⊥)
-    → z.txs ≡ y.txs → z.book ≡ y.book → DataInvariant z u
+    → DataInvariant z u
 unfolding owns
-quiet-move y z u f n after allowed move c rows copies entries me none txs book =
-    framed-invariant y z u u.chain f (changed-frame y z u f n after allowed move c rows txs book) (changed-rows y.system z.system n after allowed c rows) move
-    (λ x within. inl (changed-copies y z u n x after allowed c (ap (λ (k : List (Option Copy)). nth None k x) copies)))
+quiet-move y z u f n after allowed alone keeps none =
+    framed-invariant y z u u.chain f (changed-frame y z u f n after allowed alone keeps.rows) (changed-rows y.system z.system n after allowed alone.change keeps.rows) alone.move
+    (λ x within. inl (changed-copies y z u n x after allowed alone.change (ap (λ (k : List (Option Copy)). nth None k x) keeps.copies)))
     (λ x within. still-ownership (object y.system x) (object z.system x) (u.chain x) (f.ownership x within)
-    (changed-low y z u f n x after allowed c within (low x within))
-    (object_sees_move y.system z.system x (u.chain x) (numbered y u f) (f.ownership x within) move))
-    (changed-owned y z n after allowed c (λ a i x inside names own. rw (entries, me) own))
-    (λ m x e p k within given last. f.entered.given m x e p k within (given-before y.system z.system x allowed c.sends (none x) m e p k given) last)
+    (changed-low y z u f n x after allowed alone.change within (low x within))
+    (object_sees_move y.system z.system x (u.chain x) (numbered y u f) (f.ownership x within) alone.move))
+    (changed-owned y z n after allowed alone.change record { owned = λ a i x inside names own. rw (keeps.entries, keeps.me) own })
+    (λ m x e p k within given last. f.entered.given m x e p k within (given-before y.system z.system x allowed alone.change.sends (none x) m e p k given) last)
   where
     low : (x : ℕ) → x < length y.system.config.objects → (entry after x).stamp.ver ≤ length (u.chain x)
-    low x within = rw entries (low-before y u f n x c.live within)
+    low x within = rw keeps.entries (low-before y u f n x alone.change.live within)

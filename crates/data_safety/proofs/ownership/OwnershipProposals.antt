@@ -18,8 +18,8 @@ use Rattle.zeus_model.specs.Commit.{no_pending}
 use Rattle.zeus_model.specs.Ownership.{holding, driven, is_node, is_source, own_content, content_of}
 use Rattle.zeus_model.specs.declared.state.Copy.{Copy}
 use Rattle.zeus_model.specs.declared.state.Entry.{Entry}
-use Rattle.machine_moves.specs.SystemState.{IsLive, Changes}
-use Rattle.machine_moves.specs.Move.{Move, IsAboutProposal, to_arbiter, to_collector, HasAcked, MayDrive, MayAccept}
+use Rattle.machine_moves.specs.SystemState.{IsLive}
+use Rattle.machine_moves.specs.Move.{IsAboutProposal, to_arbiter, to_collector, HasAcked, MayDrive, MayAccept}
 use Rattle.ownership_safety.specs.Object.{Invalidates, Acknowledges, HasGiven, IsSaid, Letter as Said, place_at}
 use Rattle.ownership_safety.specs.Moves as moves
 use Rattle.ownership_safety.specs.OwnershipInvariant.{OwnershipInvariant, IsHeld}
@@ -36,7 +36,7 @@ use Rattle.data_safety.specs.RunState.{RunState, Witness, place_now}
 use Rattle.data_safety.specs.DataInvariant.{DataInvariant, IsClean, left}
 use Rattle.data_safety.proofs.Consequences.{numbered, unheld, unready-none, source-content}
 use Rattle.data_safety.proofs.ownership.StreamsUnchanged.{SameRows, same-rows}
-use Rattle.data_safety.proofs.ownership.OwnershipMoves.{still-ownership, changed-frame, changed-rows, changed-low, changed-owned, changed-copies, low-before, framed-invariant}
+use Rattle.data_safety.proofs.ownership.OwnershipMoves.{MovesAlone, KeepsOwned, still-ownership, changed-frame, changed-rows, changed-low, changed-owned, changed-copies, low-before, framed-invariant}
 
 -- ---- what a source gives
 
@@ -89,58 +89,68 @@ pending-within y u f n a i x inside m =
     let t : Stream = record { node = n; slot = a } in
     f.booked.objects (nth no_pending (slot (y.system.node n) a).pending i).id x (rw ((f.booked.pending t i inside).2) at m)
 
--- what an open node gives for the latest placement is what the history leaves, and nothing can change it
-about-given : (y : RunState) (u : Witness) (f : DataInvariant y u) (n x : ℕ) (p : Proposal) → IsLive y.system n → is_open (y.system.node n) ≡ true
-    → (x < length y.system.config.objects → p.base.ver ≡ length (u.chain x) → p.base_place ≡ place_now y u x)
-    → (l : Letter) → IsAboutProposal (y.system.node n) x p l → (w m to e : ℕ) (q : Proposal) (k : Content) → In (Acknowledges m to e q (Some k)) (says w l)
-    → w < length y.system.config.objects → q.base.ver ≡ length (u.chain w) → IsClean y u w × (k ≡ left y w)
-unfolding said_of
-about-given y u f n x p live opened base l (to_arbiter there h) w m to e q k i within last =
-    let found : (x ≡ w) × (Acknowledges m to e q (Some k) ≡ Invalidates (y.system.node n).me there (y.system.node n).epoch p) =
-    only_about-from w x (Acknowledges m to e q (Some k)) (Invalidates (y.system.node n).me there (y.system.node n).epoch p) i in
-    absurd (not_invalidates m to e (y.system.node n).me there (y.system.node n).epoch p q k found.1)
-about-given y u f n x p live opened base l (to_collector there h ready) w m to e q k i within last =
-    let given = own_content (y.system.node n) x p.base_place in
-    let found : (x ≡ w) × (Acknowledges m to e q (Some k) ≡ Acknowledges (y.system.node n).me there (y.system.node n).epoch p given) =
-    only_about-from w x (Acknowledges m to e q (Some k)) (Acknowledges (y.system.node n).me there (y.system.node n).epoch p given) i in
-    let parts = ack_parts m to e (y.system.node n).me there (y.system.node n).epoch p q k given found.1 in
-    let is = own_content-some (y.system.node n) x p.base_place k parts.1 in
-    let within_x : x < length y.system.config.objects = rw found.0 within in
-    let last_x : p.base.ver ≡ length (u.chain x) = rw found.0 (sym (ap (λ (r : Proposal). r.base.ver) parts.0) ∙ last) in
-    let source_now : is_source (y.system.node n) (place_now y u x) ≡ true = sym (ap (λ (pl : Place). is_source (y.system.node n) pl) (base within_x last_x)) ∙ is.0 in
-    let at_left = source-content y u f n x is.1.0 within_x live opened source_now (ready is.0) is.1.1 in
-    subst (λ (v : ℕ). IsClean y u v × (k ≡ left y v)) found.0 (at_left.0, is.1.2 ∙ at_left.1)
-
 -- a content that is given with a letter about an object is what the history leaves
 abbrev IsGiven : RunState → Witness → ℕ → Said → Type 0
 IsGiven y u w m = (from to e : ℕ) (q : Proposal) (k : Content) → m ≡ Acknowledges from to e q (Some k) → w < length y.system.config.objects → q.base.ver ≡ length (u.chain w)
     → IsClean y u w × (k ≡ left y w)
 
+-- letters that give, about any object, only what the history leaves
+abbrev GivesLeft : RunState → Witness → (Letter → Type 0) → Type 0
+GivesLeft y u allowed = (w : ℕ) (l : Letter) (m : Said) → allowed l → In m (says w l) → IsGiven y u w m
+
+-- a node that may say a proposal for the object x: it is live and open, and a proposal on the latest version has the latest placement as base
+record MayPropose (y : RunState) (u : Witness) (n x : ℕ) (p : Proposal) : Type 0 where
+  live : IsLive y.system n
+  opened : is_open (y.system.node n) ≡ true
+  base : x < length y.system.config.objects → p.base.ver ≡ length (u.chain x) → p.base_place ≡ place_now y u x
+
+-- what an open node gives for the latest placement is what the history leaves, and nothing can change it
+about-given : (y : RunState) (u : Witness) (f : DataInvariant y u) (n x : ℕ) (p : Proposal) → MayPropose y u n x p → GivesLeft y u (IsAboutProposal (y.system.node n) x p)
+unfolding said_of
+about-given y u f n x p may w l m (to_arbiter there h) i = λ from to e q k said within last.
+    let found : (x ≡ w) × (m ≡ Invalidates (y.system.node n).me there (y.system.node n).epoch p) =
+    only_about-from w x m (Invalidates (y.system.node n).me there (y.system.node n).epoch p) i in
+    absurd (not_invalidates from to e (y.system.node n).me there (y.system.node n).epoch p q k (sym said ∙ found.1))
+about-given y u f n x p may w l m (to_collector there h ready) i = λ from to e q k said within last.
+    let given = own_content (y.system.node n) x p.base_place in
+    let found : (x ≡ w) × (m ≡ Acknowledges (y.system.node n).me there (y.system.node n).epoch p given) =
+    only_about-from w x m (Acknowledges (y.system.node n).me there (y.system.node n).epoch p given) i in
+    let parts = ack_parts from to e (y.system.node n).me there (y.system.node n).epoch p q k given (sym said ∙ found.1) in
+    let is = own_content-some (y.system.node n) x p.base_place k parts.1 in
+    let within_x : x < length y.system.config.objects = rw found.0 within in
+    let last_x : p.base.ver ≡ length (u.chain x) = rw found.0 (sym (ap (λ (r : Proposal). r.base.ver) parts.0) ∙ last) in
+    let source_now : is_source (y.system.node n) (place_now y u x) ≡ true = sym (ap (λ (pl : Place). is_source (y.system.node n) pl) (may.base within_x last_x)) ∙ is.0 in
+    let at_left = source-content y u f n x is.1.0 within_x may.live may.opened source_now (ready is.0) is.1.1 in
+    subst (λ (v : ℕ). IsClean y u v × (k ≡ left y v)) found.0 (at_left.0, is.1.2 ∙ at_left.1)
+
 -- ---- a node that says a proposal
 
-proposal-move : (y z : RunState) (u : Witness) (f : DataInvariant y u) (n x : ℕ) (p : Proposal) (after : Node) → Move y.system z.system
-    → Changes y.system z.system n after (IsAboutProposal (y.system.node n) x p) → SameRows (y.system.node n) after → after.copies ≡ (y.system.node n).copies
-    → ((w : ℕ) → (entry after w).stamp ≡ (entry (y.system.node n) w).stamp) → is_open (y.system.node n) ≡ true
-    → (x < length y.system.config.objects → p.base.ver ≡ length (u.chain x) → p.base_place ≡ place_now y u x)
-    → ((a i w : ℕ) → i < length (slot (y.system.node n) a).pending → mentions w (nth no_pending (slot (y.system.node n) a).pending i).named ≡ true → owns (y.system.node n) w ≡ true → owns after w ≡ true)
-    → z.txs ≡ y.txs → z.book ≡ y.book → DataInvariant z u
-proposal-move y z u f n x p after move c rows copies stamps opened base owned txs book =
-    framed-invariant y z u u.chain f (changed-frame y z u f n after (IsAboutProposal (y.system.node n) x p) move c rows txs book) (changed-rows y.system z.system n after (IsAboutProposal (y.system.node n) x p) c rows) move
-    (λ w within. inl (changed-copies y z u n w after (IsAboutProposal (y.system.node n) x p) c (ap (λ (k : List (Option Copy)). nth None k w) copies)))
+-- a node that may hold another proposal, but keeps its copies, its settled stamps, its streams but for acknowledgements, and what it owns
+record SameButProposals (before after : Node) : Type 0 where
+  copies : after.copies ≡ before.copies
+  stamps : (w : ℕ) → (entry after w).stamp ≡ (entry before w).stamp
+  rows : SameRows before after
+  keeps : KeepsOwned before after
+
+proposal-move : (y z : RunState) (u : Witness) (f : DataInvariant y u) (n x : ℕ) (p : Proposal) (after : Node) → MovesAlone y z n after (IsAboutProposal (y.system.node n) x p)
+    → SameButProposals (y.system.node n) after → MayPropose y u n x p → DataInvariant z u
+proposal-move y z u f n x p after alone same may =
+    framed-invariant y z u u.chain f (changed-frame y z u f n after (IsAboutProposal (y.system.node n) x p) alone same.rows)
+    (changed-rows y.system z.system n after (IsAboutProposal (y.system.node n) x p) alone.change same.rows) alone.move
+    (λ w within. inl (changed-copies y z u n w after (IsAboutProposal (y.system.node n) x p) alone.change (ap (λ (k : List (Option Copy)). nth None k w) same.copies)))
     (λ w within. still-ownership (object y.system w) (object z.system w) (u.chain w) (f.ownership w within)
-    (changed-low y z u f n w after (IsAboutProposal (y.system.node n) x p) c within (low w within))
-    (object_sees_move y.system z.system w (u.chain w) (numbered y u f) (f.ownership w within) move))
-    (changed-owned y z n after (IsAboutProposal (y.system.node n) x p) c owned)
+    (changed-low y z u f n w after (IsAboutProposal (y.system.node n) x p) alone.change within (low w within))
+    (object_sees_move y.system z.system w (u.chain w) (numbered y u f) (f.ownership w within) alone.move))
+    (changed-owned y z n after (IsAboutProposal (y.system.node n) x p) alone.change same.keeps)
     (λ m w e q k within given last. now_given m w e q k within given last)
   where
     low : (w : ℕ) → w < length y.system.config.objects → (entry after w).stamp.ver ≤ length (u.chain w)
-    low w within = rw (stamps w) (low-before y u f n w c.live within)
+    low w within = rw (same.stamps w) (low-before y u f n w alone.change.live within)
 
     now_given : (m w e : ℕ) (q : Proposal) (k : Content) → w < length y.system.config.objects → HasGiven (object z.system w) m q k e → q.base.ver ≡ length (u.chain w) → IsClean y u w × (k ≡ left y w)
     now_given m w e q k within given last =
         let s : moves.Sends (object y.system w) (object z.system w) (IsGiven y u w) =
-        sends_object y.system z.system w (IsAboutProposal (y.system.node n) x p) (IsGiven y u w) c.sends
-        (λ l said a i from to e2 q2 k2 is. about-given y u f n x p c.live opened base l a w from to e2 q2 k2 (rw is at i)) in
+        sends_object y.system z.system w (IsAboutProposal (y.system.node n) x p) (IsGiven y u w) alone.change.sends (about-given y u f n x p may w) in
         elim (s.only (Acknowledges m given.0 e q (Some k)) given.1) [
           | inl before ↦ f.entered.given m w e q k within (given.0, before) last
           | inr now ↦ now m given.0 e q k refl within last
@@ -155,30 +165,38 @@ holding-stamp n x p w = elim (same_or_not x w) [
 
 holding-owned : (y : RunState) (u : Witness) (f : DataInvariant y u) (n x : ℕ) (p : Proposal)
     → ((a i : ℕ) → i < length (slot (y.system.node n) a).pending → mentions x (nth no_pending (slot (y.system.node n) a).pending i).named ≡ true → owns (y.system.node n) x ≡ true → ⊥)
-    → (a i w : ℕ) → i < length (slot (y.system.node n) a).pending → mentions w (nth no_pending (slot (y.system.node n) a).pending i).named ≡ true → owns (y.system.node n) w ≡ true → owns (holding (y.system.node n) x p) w ≡ true
+    → KeepsOwned (y.system.node n) (holding (y.system.node n) x p)
 unfolding owns
-holding-owned y u f n x p none a i w inside m own = elim (same_or_not x w) [
-  | inl same ↦ absurd (none a i inside (rw same m) (rw same own))
-  | inr other ↦ rw ((holding-other (y.system.node n) x w p other).entry) own
-]
+holding-owned y u f n x p none = record {
+  owned = λ a i w inside m own. elim (same_or_not x w) [
+    | inl same ↦ absurd (none a i inside (rw same m) (rw same own))
+    | inr other ↦ rw ((holding-other (y.system.node n) x w p other).entry) own
+  ];
+}
 
 -- ---- the moves
 
 -- if a node drives a request, then the invariant stays
-pub drives-invariant : (y z : RunState) (u : Witness) (f : DataInvariant y u) (n x requester : ℕ) (want : Want) → Move y.system z.system → MayDrive y.system n x requester want
-    → Changes y.system z.system n (holding (y.system.node n) x (driven (y.system.node n) x requester want)) (IsAboutProposal (y.system.node n) x (driven (y.system.node n) x requester want))
-    → z.txs ≡ y.txs → z.book ≡ y.book → DataInvariant z u
-drives-invariant y z u f n x requester want move may c txs book =
-    proposal-move y z u f n x (driven (y.system.node n) x requester want) (holding (y.system.node n) x (driven (y.system.node n) x requester want)) move c
-    (same-rows (y.system.node n) (holding (y.system.node n) x (driven (y.system.node n) x requester want)) refl refl) refl
-    (holding-stamp (y.system.node n) x (driven (y.system.node n) x requester want)) may.opened
-    (λ within last.
-    let is : (object y.system x).entry n ≡ entry (y.system.node n) x = object-entry y.system x n (f.steady.nodes n c.live).within in
-    let place : (entry (y.system.node n) x).place ≡ place_at (object y.system x) (u.chain x) (entry (y.system.node n) x).stamp.ver = rw is at ((f.ownership x within).settled n).place in
-    place ∙ ap (λ (v : ℕ). place_at (object y.system x) (u.chain x) v) last)
-    (holding-owned y u f n x (driven (y.system.node n) x requester want)
-    (λ a i inside m own. unheld (y.system.node n) x (unready-none (y.system.node n) x (may.ready (owns-source y u f n x c.live own))).1 a i inside m))
-    txs book
+pub drives-invariant : (y z : RunState) (u : Witness) (f : DataInvariant y u) (n x requester : ℕ) (want : Want) → MayDrive y.system n x requester want
+    → MovesAlone y z n (holding (y.system.node n) x (driven (y.system.node n) x requester want)) (IsAboutProposal (y.system.node n) x (driven (y.system.node n) x requester want))
+    → DataInvariant z u
+drives-invariant y z u f n x requester want may alone =
+    proposal-move y z u f n x (driven (y.system.node n) x requester want) (holding (y.system.node n) x (driven (y.system.node n) x requester want)) alone
+    record {
+      copies = refl;
+      stamps = holding-stamp (y.system.node n) x (driven (y.system.node n) x requester want);
+      rows = same-rows (y.system.node n) (holding (y.system.node n) x (driven (y.system.node n) x requester want)) refl refl;
+      keeps = holding-owned y u f n x (driven (y.system.node n) x requester want)
+          (λ a i inside m own. unheld (y.system.node n) x (unready-none (y.system.node n) x (may.ready (owns-source y u f n x alone.change.live own))).1 a i inside m);
+    }
+    record {
+      live = alone.change.live;
+      opened = may.opened;
+      base = λ within last.
+          let is : (object y.system x).entry n ≡ entry (y.system.node n) x = object-entry y.system x n (f.steady.nodes n alone.change.live).within in
+          let place : (entry (y.system.node n) x).place ≡ place_at (object y.system x) (u.chain x) (entry (y.system.node n) x).stamp.ver = rw is at ((f.ownership x within).settled n).place in
+          place ∙ ap (λ (v : ℕ). place_at (object y.system x) (u.chain x) v) last;
+    }
 
 -- a proposal that was said on the latest version has the latest placement as base
 said-base : (y : RunState) (u : Witness) (f : DataInvariant y u) (x e : ℕ) (p : Proposal) → x < length y.system.config.objects → IsSaid (object y.system x) p e → p.base.ver ≡ length (u.chain x) → p.base_place ≡ place_now y u x
@@ -186,32 +204,42 @@ said-base y u f x e p within said last =
     ((f.ownership x within).proposals p e said).base_place ∙ ap (λ (v : ℕ). place_at (object y.system x) (u.chain x) v) last
 
 -- if a node accepts a proposal, then the invariant stays
-pub accepts-invariant : (y z : RunState) (u : Witness) (f : DataInvariant y u) (n x : ℕ) (p : Proposal) → Move y.system z.system → MayAccept y.system n x p
-    → Changes y.system z.system n (holding (y.system.node n) x p) (IsAboutProposal (y.system.node n) x p) → HasAcked z.system (y.system.node n) x p
-    → z.txs ≡ y.txs → z.book ≡ y.book → DataInvariant z u
-accepts-invariant y z u f n x p move may c acked txs book =
-    proposal-move y z u f n x p (holding (y.system.node n) x p) move c (same-rows (y.system.node n) (holding (y.system.node n) x p) refl refl) refl
-    (holding-stamp (y.system.node n) x p) may.opened
-    (λ within last. let a = accept_here y.system z.system n x p (u.chain x) (numbered y u f) (f.ownership x within) may c acked in said-base y u f x ((object y.system x).epoch n) p within a.said last)
-    (holding-owned y u f n x p (λ a i inside m own.
-    let within : x < length y.system.config.objects = pending-within y u f n a i x inside m in
-    let ownership : OwnershipInvariant (object y.system x) (u.chain x) = f.ownership x within in
-    let step = accept_here y.system z.system n x p (u.chain x) (numbered y u f) ownership may c acked in
-    let settled = settled-base (object y.system x) (u.chain x) ownership n p (object-live y.system x n c.live) step.said step.arbiter step.not_below_base step.below in
-    let is : (object y.system x).entry n ≡ entry (y.system.node n) x = object-entry y.system x n (f.steady.nodes n c.live).within in
-    let place : (entry (y.system.node n) x).place ≡ p.base_place = ap (λ (e : Entry). e.place) (sym is) ∙ settled.1 in
-    let is_the_source : is_source (y.system.node n) p.base_place ≡ true = sym (ap (λ (pl : Place). is_source (y.system.node n) pl) place) ∙ owns-source y u f n x c.live own in
-    unheld (y.system.node n) x (unready-none (y.system.node n) x (may.ready is_the_source)).1 a i inside m))
-    txs book
+pub accepts-invariant : (y z : RunState) (u : Witness) (f : DataInvariant y u) (n x : ℕ) (p : Proposal) → MayAccept y.system n x p → HasAcked z.system (y.system.node n) x p
+    → MovesAlone y z n (holding (y.system.node n) x p) (IsAboutProposal (y.system.node n) x p) → DataInvariant z u
+accepts-invariant y z u f n x p may acked alone =
+    proposal-move y z u f n x p (holding (y.system.node n) x p) alone
+    record {
+      copies = refl;
+      stamps = holding-stamp (y.system.node n) x p;
+      rows = same-rows (y.system.node n) (holding (y.system.node n) x p) refl refl;
+      keeps = holding-owned y u f n x p (λ a i inside m own.
+          let within : x < length y.system.config.objects = pending-within y u f n a i x inside m in
+          let ownership : OwnershipInvariant (object y.system x) (u.chain x) = f.ownership x within in
+          let step = accept_here y.system z.system n x p (u.chain x) (numbered y u f) ownership may alone.change acked in
+          let settled = settled-base (object y.system x) (u.chain x) ownership n p (object-live y.system x n alone.change.live) step.said step.arbiter step.not_below_base step.below in
+          let is : (object y.system x).entry n ≡ entry (y.system.node n) x = object-entry y.system x n (f.steady.nodes n alone.change.live).within in
+          let place : (entry (y.system.node n) x).place ≡ p.base_place = ap (λ (e : Entry). e.place) (sym is) ∙ settled.1 in
+          let is_the_source : is_source (y.system.node n) p.base_place ≡ true = sym (ap (λ (pl : Place). is_source (y.system.node n) pl) place) ∙ owns-source y u f n x alone.change.live own in
+          unheld (y.system.node n) x (unready-none (y.system.node n) x (may.ready is_the_source)).1 a i inside m);
+    }
+    record {
+      live = alone.change.live;
+      opened = may.opened;
+      base = λ within last. let a = accept_here y.system z.system n x p (u.chain x) (numbered y u f) (f.ownership x within) may alone.change acked in said-base y u f x ((object y.system x).epoch n) p within a.said last;
+    }
 
 -- if a node says again the proposal that it holds, then the invariant stays
-pub redrives-invariant : (y z : RunState) (u : Witness) (f : DataInvariant y u) (n x : ℕ) (p : Proposal) → Move y.system z.system → (entry (y.system.node n) x).proposal ≡ Some p
-    → is_open (y.system.node n) ≡ true → Changes y.system z.system n (y.system.node n) (IsAboutProposal (y.system.node n) x p) → z.txs ≡ y.txs → z.book ≡ y.book → DataInvariant z u
-redrives-invariant y z u f n x p move held opened c txs book =
-    proposal-move y z u f n x p (y.system.node n) move c (same-rows (y.system.node n) (y.system.node n) refl refl) refl (λ w. refl) opened
-    (λ within last.
-    let ownership : OwnershipInvariant (object y.system x) (u.chain x) = f.ownership x within in
-    let is : (object y.system x).entry n ≡ entry (y.system.node n) x = object-entry y.system x n (f.steady.nodes n c.live).within in
-    let h : IsHeld (object y.system x) n p = ownership.held n p (ap (λ (e : Entry). e.proposal) is ∙ held) in
-    said-base y u f x h.acked.0 p within (ack-said (object y.system x) (u.chain x) ownership n p h.acked.0 h.acked.2) last)
-    (λ a i w inside m own. own) txs book
+pub redrives-invariant : (y z : RunState) (u : Witness) (f : DataInvariant y u) (n x : ℕ) (p : Proposal) → (entry (y.system.node n) x).proposal ≡ Some p → is_open (y.system.node n) ≡ true
+    → MovesAlone y z n (y.system.node n) (IsAboutProposal (y.system.node n) x p) → DataInvariant z u
+redrives-invariant y z u f n x p held opened alone =
+    proposal-move y z u f n x p (y.system.node n) alone
+    record { copies = refl; stamps = λ w. refl; rows = same-rows (y.system.node n) (y.system.node n) refl refl; keeps = record { owned = λ a i w inside m own. own } }
+    record {
+      live = alone.change.live;
+      opened = opened;
+      base = λ within last.
+          let ownership : OwnershipInvariant (object y.system x) (u.chain x) = f.ownership x within in
+          let is : (object y.system x).entry n ≡ entry (y.system.node n) x = object-entry y.system x n (f.steady.nodes n alone.change.live).within in
+          let h : IsHeld (object y.system x) n p = ownership.held n p (ap (λ (e : Entry). e.proposal) is ∙ held) in
+          said-base y u f x h.acked.0 p within (ack-said (object y.system x) (u.chain x) ownership n p h.acked.0 h.acked.2) last;
+    }

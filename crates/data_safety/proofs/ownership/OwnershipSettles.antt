@@ -4,15 +4,13 @@ use Rattle.std.proofs.Common.{arith, refl, sym, ap, subst, ◌∙◌, inl, inr, 
 use Rattle.std.proofs.lemmas.Bool.{cases_Bool}
 use Rattle.zeus_base.specs.Order.{is_below}
 use Rattle.zeus_base.specs.declared.order.Stamp.{Stamp}
-use Rattle.zeus_packet.specs.declared.letter.Letter.{Letter}
 use Rattle.zeus_packet.specs.declared.place.Place.{Place}
 use Rattle.zeus_model.specs.Tables.{nth}
 use Rattle.zeus_model.specs.State.{Node, entry, owns}
 use Rattle.zeus_model.specs.Ownership.{settle}
 use Rattle.zeus_model.specs.declared.state.Copy.{Copy}
 use Rattle.zeus_model.specs.declared.state.Entry.{Entry}
-use Rattle.machine_moves.specs.SystemState.{IsLive, IsReceivable, Changes, nothing}
-use Rattle.machine_moves.specs.Move.{Move, IsSettling}
+use Rattle.machine_moves.specs.SystemState.{IsLive, nothing}
 use Rattle.ownership_safety.specs.Object.{IsOwner, chain_stamp}
 use Rattle.ownership_safety.specs.OwnershipInvariant.{OwnershipInvariant, IsDecided}
 use Rattle.ownership_safety.proofs.Chain.{stamp_at-less}
@@ -21,14 +19,14 @@ use Rattle.invariants.specs.Objects.{object}
 use Rattle.invariants.proofs.AboutObjects.{object-entry}
 use Rattle.invariants.proofs.Frames.{settle-entry, settle-away}
 use Rattle.invariants.proofs.ObjectKeeps.{sees_move as object_sees_move}
-use Rattle.invariants.proofs.ObjectSeen.{same_or_not}
+use Rattle.invariants.proofs.ObjectSeen.{HearsDecided, same_or_not}
 use Rattle.invariants.proofs.ObjectSteps.{settling-decided}
 use Rattle.data_safety.specs.RunState.{RunState, Witness}
 use Rattle.data_safety.specs.DataInvariant.{DataInvariant}
 use Rattle.data_safety.proofs.Consequences.{numbered}
 use Rattle.data_safety.proofs.history.Running.{owns-owner}
-use Rattle.data_safety.proofs.ownership.StreamsUnchanged.{same-rows}
-use Rattle.data_safety.proofs.ownership.OwnershipMoves.{still-ownership, given-before, changed-frame, changed-rows, changed-low, changed-owned, changed-copies, low-before, framed-invariant}
+use Rattle.data_safety.proofs.ownership.StreamsUnchanged.{SameRows, same-rows}
+use Rattle.data_safety.proofs.ownership.OwnershipMoves.{MovesAlone, still-ownership, given-before, changed-frame, changed-rows, changed-low, changed-owned, changed-copies, low-before, framed-invariant}
 use Rattle.data_safety.proofs.ownership.OwnershipProposals.{pending-within}
 
 -- a node that keeps its number, its copies and its streams
@@ -62,42 +60,47 @@ owner-top y u f n x stamp within live own ver is above =
     between a b c d e g h = rw (e, g) at h
 
 -- if a node settles a placement that it was told, then the invariant stays
-pub settles-invariant : (y z : RunState) (u : Witness) (f : DataInvariant y u) (n x : ℕ) (stamp : Stamp) (place : Place) (l : Letter) → Move y.system z.system → IsReceivable y.system n l
-    → IsSettling x stamp place l → is_below (entry (y.system.node n) x).stamp stamp ≡ true → Changes y.system z.system n (settle (y.system.node n) x stamp place) nothing
-    → z.txs ≡ y.txs → z.book ≡ y.book → DataInvariant z u
+pub settles-invariant : (y z : RunState) (u : Witness) (f : DataInvariant y u) (n x : ℕ) (heard : HearsDecided y.system n x)
+    → MovesAlone y z n (settle (y.system.node n) x heard.stamp heard.place) nothing → DataInvariant z u
 unfolding owns
-settles-invariant y z u f n x stamp place l move r is above c txs book =
-    framed-invariant y z u u.chain f (changed-frame y z u f n (settle (y.system.node n) x stamp place) nothing move c (same-rows (y.system.node n) (settle (y.system.node n) x stamp place) same.slots same.logs) txs book) (changed-rows y.system z.system n (settle (y.system.node n) x stamp place) nothing c (same-rows (y.system.node n) (settle (y.system.node n) x stamp place) same.slots same.logs)) move
-    (λ w within. inl (changed-copies y z u n w (settle (y.system.node n) x stamp place) nothing c (ap (λ (k : List (Option Copy)). nth None k w) same.copies)))
+settles-invariant y z u f n x heard alone =
+    framed-invariant y z u u.chain f (changed-frame y z u f n (settle (y.system.node n) x heard.stamp heard.place) nothing alone rows)
+    (changed-rows y.system z.system n (settle (y.system.node n) x heard.stamp heard.place) nothing alone.change rows) alone.move
+    (λ w within. inl (changed-copies y z u n w (settle (y.system.node n) x heard.stamp heard.place) nothing alone.change (ap (λ (k : List (Option Copy)). nth None k w) same.copies)))
     (λ w within. still-ownership (object y.system w) (object z.system w) (u.chain w) (f.ownership w within)
-    (changed-low y z u f n w (settle (y.system.node n) x stamp place) nothing c within (low w within))
-    (object_sees_move y.system z.system w (u.chain w) (numbered y u f) (f.ownership w within) move))
-    (changed-owned y z n (settle (y.system.node n) x stamp place) nothing c (λ a i w inside m own. elim (same_or_not x w) [
-      | inl here_now ↦ absurd (none w (pending-within y u f n a i w inside m) here_now own)
-      | inr other ↦ rw ((settle-away (y.system.node n) x w stamp place other).entry, same.me) own
-    ]))
-    (λ m w e p k within given last. f.entered.given m w e p k within (given-before y.system z.system w nothing c.sends (λ l2 from to e2 p2 k2 no i. no) m e p k given) last)
+    (changed-low y z u f n w (settle (y.system.node n) x heard.stamp heard.place) nothing alone.change within (low w within))
+    (object_sees_move y.system z.system w (u.chain w) (numbered y u f) (f.ownership w within) alone.move))
+    (changed-owned y z n (settle (y.system.node n) x heard.stamp heard.place) nothing alone.change record {
+      owned = λ a i w inside m own. elim (same_or_not x w) [
+        | inl here_now ↦ absurd (none w (pending-within y u f n a i w inside m) here_now own)
+        | inr other ↦ rw ((settle-away (y.system.node n) x w heard.stamp heard.place other).entry, same.me) own
+      ];
+    })
+    (λ m w e p k within given last. f.entered.given m w e p k within (given-before y.system z.system w nothing alone.change.sends (λ l2 from to e2 p2 k2 no i. no) m e p k given) last)
   where
-    same : SameTables (y.system.node n) (settle (y.system.node n) x stamp place)
-    same = settle-tables (y.system.node n) x stamp place
+    same : SameTables (y.system.node n) (settle (y.system.node n) x heard.stamp heard.place)
+    same = settle-tables (y.system.node n) x heard.stamp heard.place
 
-    decided : x < length y.system.config.objects → IsDecided (object y.system x) (u.chain x) stamp place
-    decided within = settling-decided y.system x (u.chain x) stamp place l (f.ownership x within) r.2 is
+    rows : SameRows (y.system.node n) (settle (y.system.node n) x heard.stamp heard.place)
+    rows = same-rows (y.system.node n) (settle (y.system.node n) x heard.stamp heard.place) same.slots same.logs
 
-    low_here : (w : ℕ) → w < length y.system.config.objects → x ≡ w → (entry (settle (y.system.node n) x stamp place) w).stamp.ver ≤ length (u.chain w)
+    decided : x < length y.system.config.objects → IsDecided (object y.system x) (u.chain x) heard.stamp heard.place
+    decided within = settling-decided y.system x (u.chain x) heard.stamp heard.place heard.letter (f.ownership x within) heard.receivable.2 heard.settling
+
+    low_here : (w : ℕ) → w < length y.system.config.objects → x ≡ w → (entry (settle (y.system.node n) x heard.stamp heard.place) w).stamp.ver ≤ length (u.chain w)
     low_here w within here_now =
         let in_x : x < length y.system.config.objects = rw here_now within in
-        let at_x : (entry (settle (y.system.node n) x stamp place) x).stamp.ver ≤ length (u.chain x) = rw (settle-entry (y.system.node n) x stamp place above) (decided in_x).ver in
-        subst (λ (v : ℕ). (entry (settle (y.system.node n) x stamp place) v).stamp.ver ≤ length (u.chain v)) here_now at_x
+        let at_x : (entry (settle (y.system.node n) x heard.stamp heard.place) x).stamp.ver ≤ length (u.chain x) = rw (settle-entry (y.system.node n) x heard.stamp heard.place heard.above) (decided in_x).ver in
+        subst (λ (v : ℕ). (entry (settle (y.system.node n) x heard.stamp heard.place) v).stamp.ver ≤ length (u.chain v)) here_now at_x
 
-    low : (w : ℕ) → w < length y.system.config.objects → (entry (settle (y.system.node n) x stamp place) w).stamp.ver ≤ length (u.chain w)
+    low : (w : ℕ) → w < length y.system.config.objects → (entry (settle (y.system.node n) x heard.stamp heard.place) w).stamp.ver ≤ length (u.chain w)
     low w within = elim (same_or_not x w) [
       | inl here_now ↦ low_here w within here_now
-      | inr other ↦ rw ((settle-away (y.system.node n) x w stamp place other).entry) (low-before y u f n w c.live within)
+      | inr other ↦ rw ((settle-away (y.system.node n) x w heard.stamp heard.place other).entry) (low-before y u f n w alone.change.live within)
     ]
 
     none : (w : ℕ) → w < length y.system.config.objects → x ≡ w → owns (y.system.node n) w ≡ true → ⊥
     none w within here_now own =
         let in_x : x < length y.system.config.objects = rw here_now within in
         let own_x : owns (y.system.node n) x ≡ true = rw here_now own in
-        owner-top y u f n x stamp in_x c.live own_x (decided in_x).ver (decided in_x).stamp above
+        owner-top y u f n x heard.stamp in_x alone.change.live own_x (decided in_x).ver (decided in_x).stamp heard.above

@@ -5,8 +5,6 @@ use Rattle.zeus_base.specs.Nodes.{has}
 use Rattle.zeus_base.specs.Limits.{KeepsLimits}
 use Rattle.zeus_base.specs.declared.config.Config.{Config}
 use Rattle.zeus_base.specs.declared.order.Stream.{Stream}
-use Rattle.zeus_packet.specs.declared.letter.Body.TheVariants.{RInv}
-use Rattle.zeus_packet.specs.declared.letter.Letter.{Letter}
 use Rattle.zeus_packet.specs.declared.letter.RInv.{RInv as Invalidation}
 use Rattle.zeus_packet.specs.declared.letter.State.{State}
 use Rattle.zeus_packet.specs.declared.letter.State.TheVariants.{Valid, Invalid}
@@ -17,10 +15,10 @@ use Rattle.zeus_model.specs.In.{In}
 use Rattle.zeus_model.specs.Tables.{nth}
 use Rattle.zeus_model.specs.State.{Node, Slot, log, copy, with_copies}
 use Rattle.zeus_model.specs.Book.{Book}
-use Rattle.zeus_model.specs.Commit.{store, next_kept, each_write, applied}
+use Rattle.zeus_model.specs.Commit.{store, each_write, applied}
 use Rattle.zeus_model.specs.declared.state.Copy.{Copy}
 use Rattle.zeus_model.specs.declared.state.Kept.{Kept}
-use Rattle.machine_moves.specs.SystemState.{IsLive, IsReceivable, Changes, nothing}
+use Rattle.machine_moves.specs.SystemState.{IsLive, Changes, nothing}
 use Rattle.machine_moves.specs.Move.{stores}
 use Rattle.machine_moves.proofs.Steady.{IsSteady, move_keep}
 use Rattle.replication_safety.specs.StreamState.{StreamState, Has, Entry, kept_at, top}
@@ -29,7 +27,7 @@ use Rattle.replication_safety.proofs.Alive.{alive_StoresNext}
 use Rattle.replication_safety.proofs.Appends.{stores-appends, appends-top, appends-has_before, appends-has, appends-old, appends-new, keeps_StoresNext}
 use Rattle.replication_safety.proofs.Entries.{stores-unpassed}
 use Rattle.invariants.specs.Streams.{stream_state}
-use Rattle.invariants.proofs.StreamEntries.{store_here}
+use Rattle.invariants.proofs.StreamEntries.{HearsNext, store_here}
 use Rattle.invariants.proofs.StreamFrames.{logs-quiet, with_log-other}
 use Rattle.invariants.proofs.StreamSeen.{stream_cases}
 use Rattle.invariants.proofs.ObjectSeen.{same_or_not}
@@ -42,14 +40,13 @@ use Rattle.data_safety.proofs.passes.PassLogs.{KeepsSlots, kept-slots, shrink-lo
 use Rattle.data_safety.proofs.passes.PassLeft.{again-left}
 use Rattle.data_safety.proofs.passes.PassBooked.{again-booked}
 
-module _ (y z : RunState) (u : Witness) (f : DataInvariant y u) (n : ℕ) (r : Invalidation) (l : Letter) (foreign : r.stream.node ≢ n) (g : IsReceivable y.system n l) (body : l.body ≡ RInv r)
-    (low : r.done ≤ (log (y.system.node n) r.stream).done) (number : r.number ≡ next_kept (log (y.system.node n) r.stream)) (room : length (log (y.system.node n) r.stream).kept ≢ 16)
+module _ (y z : RunState) (u : Witness) (f : DataInvariant y u) (n : ℕ) (r : Invalidation) (heard : HearsNext y.system n r) (room : length (log (y.system.node n) r.stream).kept ≢ 16)
     (c : Changes y.system z.system n (store (y.system.node n) r) nothing) (txs : z.txs ≡ y.txs) (book : z.book ≡ y.book) where
   steady_after : IsSteady z.system
-  steady_after = move_keep y.system z.system (stores n r l foreign g body low number room c) f.steady
+  steady_after = move_keep y.system z.system (stores n r heard.letter heard.foreign heard.receivable heard.body heard.passed heard.number room c) f.steady
 
   storing : StoresNext (stream_state y.system r.stream) (stream_state z.system r.stream) n record { followers = r.followers; writes = r.writes }
-  storing = store_here y.system z.system n r l foreign g body low number c
+  storing = store_here y.system z.system n r heard c
 
   slots_stay : KeepsSlots (y.system.node n) (store (y.system.node n) r)
   slots_stay = record { slots = refl; entries = refl; gathers = refl; stopped = refl; epoch = refl; me = refl }
