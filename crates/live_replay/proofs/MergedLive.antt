@@ -21,7 +21,7 @@ use Rattle.live_replay.proofs.Causes.{service_clock-above, halts-fit-at, stop-ma
 use Rattle.live_replay.proofs.Early.{halts-late, sights-late}
 use Rattle.live_replay.proofs.LiveRuns.{run-more}
 use Rattle.live_replay.proofs.Mirrors.{part-one}
-use Rattle.live_replay.proofs.Replay.{IsAt, order-at, served-part, at-split, at-stamp, at-fresh}
+use Rattle.live_replay.proofs.Replay.{IsAt, order-at, served-part, at-event, at-split, at-stamp, at-fresh}
 use Rattle.live_replay.proofs.Results.{Split, split-order, at-begin, replay-hits, replay-fits, replay-steps}
 
 -- ---- nothing is missed
@@ -225,7 +225,7 @@ cell-behind p k es past me e future h is (inl none) needs =
     let a = at-begin p k es past me e future h is in
     let at = a.at in
     let less : v.clock < e.clock = saw-less e.deed v e.clock saw.1 (at-stamp p k es past me e future (world_after p past) a) in
-    let sent = view-sent p k es me v (cell_part me past) (cell_part me future) e a.cluster a.there (at-split p k es past me e future (world_after p past) a) saw.1 in
+    let sent = view-sent p k es me v e (at-event p k es past me e future (world_after p past) a) saw.1 in
     let split = subst (λ (zs : List ServiceEvent). In v (sights me p.config zs)) at.service sent in
     let none_early = subst (λ (zs : List ServiceEvent). In v (sights_from me (start_views p.config) (zs ++ service_part (cell_turn me e ∷ future)))) none split in
     let low = late_sight p es past me e future v at none_early in

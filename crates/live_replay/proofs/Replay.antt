@@ -19,7 +19,7 @@ use Rattle.live_model.specs.Service.{sights, ServiceEvent, start_views}
 use Rattle.live_model.specs.Cluster.{Plan, Cluster, Events, IsCluster}
 use Rattle.live_model.specs.Merge.{Turn, cell_turn, service_turn, entry_of, turn_clock}
 use Rattle.live_replay.specs.Parts.{part, of_cell, of_service, cell_part, service_part}
-use Rattle.live_replay.proofs.Causes.{clock-above, fits-at, fresh-at, packet-sent, view-sent, WasNoted, after-noted}
+use Rattle.live_replay.proofs.Causes.{clock-above, fits-at, fresh-at, IsCellEvent, packet-sent, view-sent, WasNoted, after-noted}
 use Rattle.live_replay.proofs.Early.{noted-early, NoneServedBefore, HasView, seen-early}
 use Rattle.live_replay.specs.Replayed.{Rises}
 use Rattle.live_replay.proofs.Merging.{part-append}
@@ -164,6 +164,11 @@ pub at-split : (p : Plan) (k : Cluster) (es : Events) (past : List Turn) (me : �
 at-split p k es past me e future w a =
     let at = a.at in at.cells me a.there ∙ ap (λ (zs : List CellEvent). cell_part me past ++ zs) (own-part me e future)
 
+-- where a cell's event stands in the order, the cell made it behind its part of the order before it
+pub at-event : (p : Plan) (k : Cluster) (es : Events) (past : List Turn) (me : ℕ) (e : CellEvent) (future : List Turn) (w : World) → AtCell p k es past me e future w → IsCellEvent p k es me e
+at-event p k es past me e future w a =
+    record { cluster = a.cluster; there = a.there; earlier = cell_part me past; later = cell_part me future; split = at-split p k es past me e future w a }
+
 -- where a cell's event stands in the order, its clock is above the stamp of what it took in
 pub at-stamp : (p : Plan) (k : Cluster) (es : Events) (past : List Turn) (me : ℕ) (e : CellEvent) (future : List Turn) (w : World) → AtCell p k es past me e future w → stamp e.deed < e.clock
 at-stamp p k es past me e future w a =
@@ -202,7 +207,7 @@ finds-begin p k es past me e future w j a began fresh less seen =
     let running : (node w (declared w.txs j.tx).node).stopped ≡ false =
     rw (m.declared, fresh.own) (ap (λ (n : Node). n.stopped) (m.nodes me a.there) ∙ live) in
     let noted : IfSome (declared p.txs j.tx).after (λ i. WasNoted p es j i) =
-    after-noted p k es me j (cell_part me past) (cell_part me future) e a.cluster a.fit a.there (at-split p k es past me e future w a) began fresh.own less in
+    after-noted p k es me j e (at-event p k es past me e future w a) a.fit began fresh.own less in
     let acked : IfSome (declared p.txs j.tx).after (λ i. is_some (record_of w.book i).acked ≡ true) =
     IfSome_then (declared p.txs j.tx).after noted (λ i n. noted-acked p es past (cell_turn me e) future w j i m a.at seen n) in
     three_none _ _ _ (where_false _ Twice unbegun) (where_false _ (BeginAnswer Stopped) running)
@@ -216,7 +221,7 @@ finds-packet p k es past me e future w sender q a took there_sender less =
     let m = a.mirrors in
     let at = a.at in
     let c = p.config in
-    let sent = packet-sent p k es me sender q (cell_part me past) (cell_part me future) e a.cluster a.there there_sender (at-split p k es past me e future w a) took in
+    let sent = packet-sent p k es me sender q e (at-event p k es past me e future w a) there_sender took in
     let later = cell_part sender (cell_turn me e ∷ future) in
     let split : In q (numbered 0 (posts sender c p.txs me (cell_part sender past) ++ posts_from sender c p.txs me (core_of c p.txs sender past) later)) =
     subst (λ (ps : List Posted). In q (numbered 0 ps)) (posts_from-append sender c p.txs me (start_core sender c p.txs) (cell_part sender past) later)
@@ -233,7 +238,7 @@ unfolding entry_of
 finds-view p k es past me e future w v a saw less =
     let m = a.mirrors in
     let at = a.at in
-    let sent = view-sent p k es me v (cell_part me past) (cell_part me future) e a.cluster a.there (at-split p k es past me e future w a) saw in
+    let sent = view-sent p k es me v e (at-event p k es past me e future w a) saw in
     rw (m.views)
     (seen-early me e.clock (start_views p.config) (service_part past) (service_part (cell_turn me e ∷ future)) v at.served_late less
     (subst (λ (zs : List ServiceEvent). In v (sights me p.config zs)) at.service sent))

@@ -26,7 +26,7 @@ use Rattle.live_replay.proofs.Causes.{after-noted}
 use Rattle.live_replay.proofs.Mirrors.{Mirrors}
 use Rattle.live_replay.proofs.Orders.{turns-order, merged-turns}
 use Rattle.live_replay.proofs.Posting.{letters}
-use Rattle.live_replay.proofs.Replay.{IsOrder, AtCell, at-split, at-stamp, at-fits, at-fresh, noted-acked}
+use Rattle.live_replay.proofs.Replay.{IsOrder, AtCell, at-event, at-stamp, at-fits, at-fresh, noted-acked}
 use Rattle.live_replay.proofs.Turns.{order-mirrors, turn-answer, turn-acked, at-cell, turn-fits}
 
 -- a split of the turns is an order, and its front has led to what it is
@@ -158,7 +158,7 @@ replay-after p k es past n e future j h is began =
     let less = fits-tx p.config p.txs e.deed j began (at-fits p k es past n e future w a) in
     let seen = stamp-seen e.deed j e.clock began (at-stamp p k es past n e future w a) in
     IfSome_then (declared p.txs j.tx).after
-    (after-noted p k es n j (cell_part n past) (cell_part n future) e a.cluster a.fit a.there (at-split p k es past n e future w a) began own less)
+    (after-noted p k es n j e (at-event p k es past n e future w a) a.fit began own less)
     (λ i noted. noted-acked p es past (cell_turn n e) future w j i a.mirrors a.at seen noted)
 
 -- ---- the last world
