@@ -14,7 +14,7 @@ use Rattle.script_lang.specs.Reads.{word_if}
 use Rattle.script_lang.specs.Transactions.{number_if, after_at, tx_at}
 use Rattle.script_lang.proofs.laws.FindLaws.{bytes_eq-true}
 use Rattle.script_lang.proofs.laws.NumberLaws.{range_at-sound, range_at-decimal}
-use Rattle.script_lang.proofs.laws.OpsLaws.{FitsAt, AreTxOps, AreNames, ops_at-sound, ops_at-words}
+use Rattle.script_lang.proofs.laws.OpsLaws.{FitsAt, AreNames, ops_at-sound, ops_at-words}
 use Rattle.script_lang.proofs.Sound.{IfRead, read_bind, read_ok}
 
 -- the words behind `tx`
