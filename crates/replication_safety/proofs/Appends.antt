@@ -7,7 +7,7 @@ use Rattle.zeus_base.specs.Nodes.{has}
 use Rattle.zeus_base.specs.TableLaws.{nth-append, nth-last}
 use Rattle.zeus_model.specs.Commit.{no_kept}
 use Rattle.zeus_model.specs.declared.state.Kept.{Kept}
-use Rattle.replication_safety.specs.StreamState.{StreamState, Entry, Stores, In, IsView, IsLive, IsOut, Has, HasReported, view, top, kept_at, entry_of}
+use Rattle.replication_safety.specs.StreamState.{StreamState, Entry, Stores, IsView, IsLive, IsOut, Has, HasReported, view, top, kept_at, entry_of}
 use Rattle.replication_safety.specs.Moves.{ActsOnKept, Commits, StoresNext}
 use Rattle.replication_safety.specs.ReplicationInvariant.{IsCopy, IsWitnessed, ReplicationInvariant}
 use Rattle.replication_safety.proofs.Basics.{agree}
