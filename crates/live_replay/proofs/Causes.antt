@@ -127,28 +127,38 @@ tx-fits c txs k fit less = let same : 0 + k ≡ k = omega arith in subst (λ (i 
 
 -- ---- the causes
 
+-- a cell of a cluster made an event, after its earlier events and before its later ones
+pub record IsCellEvent (p : Plan) (k : Cluster) (es : Events) (me : ℕ) (e : CellEvent) : Type 0 where
+  pub cluster : IsCluster p k es
+  pub there : me < p.config.nodes
+  pub earlier : List CellEvent
+  pub later : List CellEvent
+  pub split : es.cells me ≡ earlier ++ e ∷ later
+
 -- the packet of a delivery was sent
-pub packet-sent : (p : Plan) (k : Cluster) (es : Events) (me sender : ℕ) (q : Stamped) (xs ys : List CellEvent) (e : CellEvent) → IsCluster p k es → me < p.config.nodes → sender < p.config.nodes
-    → es.cells me ≡ xs ++ e ∷ ys → e.deed ≡ Took sender q → In q (sends sender p.config p.txs me (es.cells sender))
-packet-sent p k es me sender q xs ys e h there_me there_sender is took =
-    let me_cell = h.cells me there_me in
+pub packet-sent : (p : Plan) (k : Cluster) (es : Events) (me sender : ℕ) (q : Stamped) (e : CellEvent) → IsCellEvent p k es me e → sender < p.config.nodes → e.deed ≡ Took sender q
+    → In q (sends sender p.config p.txs me (es.cells sender))
+packet-sent p k es me sender q e at there_sender took =
+    let h = at.cluster in
+    let me_cell = h.cells me at.there in
     let other_cell = h.cells sender there_sender in
     let meets = h.meets in
     let received : In q ((k.cells me).received sender) =
-    rw (me_cell.received sender) (subst (λ (zs : List CellEvent). In q (takes sender zs)) (sym is) (took-In sender q xs ys e took)) in
+    rw (me_cell.received sender) (subst (λ (zs : List CellEvent). In q (takes sender zs)) (sym at.split) (took-In sender q at.earlier at.later e took)) in
     travelling-In (sends sender p.config p.txs me (es.cells sender)) q
     (part-In ((k.cells sender).sent me) (travelling (sends sender p.config p.txs me (es.cells sender))) q (other_cell.sent me)
-    (front-In ((k.cells me).received sender) ((k.cells sender).sent me) q (meets.packets sender me there_sender there_me) received))
+    (front-In ((k.cells me).received sender) ((k.cells sender).sent me) q (meets.packets sender me there_sender at.there) received))
 
 -- the view of an install was sent
-pub view-sent : (p : Plan) (k : Cluster) (es : Events) (me : ℕ) (v : Sight) (xs ys : List CellEvent) (e : CellEvent) → IsCluster p k es → me < p.config.nodes
-    → es.cells me ≡ xs ++ e ∷ ys → e.deed ≡ Saw v → In v (sights me p.config es.service)
-view-sent p k es me v xs ys e h there_me is saw =
-    let me_cell = h.cells me there_me in
+pub view-sent : (p : Plan) (k : Cluster) (es : Events) (me : ℕ) (v : Sight) (e : CellEvent) → IsCellEvent p k es me e → e.deed ≡ Saw v → In v (sights me p.config es.service)
+view-sent p k es me v e at saw =
+    let h = at.cluster in
+    let me_cell = h.cells me at.there in
     let service = h.service in
     let meets = h.meets in
-    let seen : In v (k.cells me).sights = rw (me_cell.sights) (subst (λ (zs : List CellEvent). In v (sights_seen zs)) (sym is) (saw-In v xs ys e saw)) in
-    subst (λ (zs : List Sight). In v zs) (service.sights me) (front-In (k.cells me).sights (k.service.sights me) v (meets.sights me there_me) seen)
+    let seen : In v (k.cells me).sights =
+    rw (me_cell.sights) (subst (λ (zs : List CellEvent). In v (sights_seen zs)) (sym at.split) (saw-In v at.earlier at.later e saw)) in
+    subst (λ (zs : List Sight). In v zs) (service.sights me) (front-In (k.cells me).sights (k.service.sights me) v (meets.sights me at.there) seen)
 
 -- the stop behind a view was made
 pub stop-made : (p : Plan) (k : Cluster) (es : Events) (xs ys : List ServiceEvent) (e : ServiceEvent) → IsCluster p k es → e.node < p.config.nodes
@@ -197,18 +207,20 @@ both_some None P Q R p q f = tt
 both_some (Some i) P Q R p q f = f i p q
 
 -- if a transaction was begun that waits for another, then the acknowledgement of the other was noted
-pub after-noted : (p : Plan) (k : Cluster) (es : Events) (me : ℕ) (j : Job) (xs ys : List CellEvent) (e : CellEvent) → IsCluster p k es → FitTxs p.config 0 p.txs → me < p.config.nodes
-    → es.cells me ≡ xs ++ e ∷ ys → e.deed ≡ Began j → (declared p.txs j.tx).node ≡ me → j.tx < length p.txs → IfSome (declared p.txs j.tx).after (λ i. WasNoted p es j i)
-after-noted p k es me j xs ys e h fit there_me is began own less =
+pub after-noted : (p : Plan) (k : Cluster) (es : Events) (me : ℕ) (j : Job) (e : CellEvent) → IsCellEvent p k es me e → FitTxs p.config 0 p.txs → e.deed ≡ Began j → (declared p.txs j.tx).node ≡ me → j.tx < length p.txs
+    → IfSome (declared p.txs j.tx).after (λ i. WasNoted p es j i)
+after-noted p k es me j e at fit began own less =
     let s = (declared p.txs j.tx).slot in
     let id : ClientId = record { node = me; slot = s } in
     let f = tx-fits p.config p.txs j.tx fit less in
-    let at : IsThere p.config id = record { node = there_me; slot = f.slot } in
-    let cell = h.cells me there_me in
-    let client = h.clients id at in
+    let id_there : IsThere p.config id = record { node = at.there; slot = f.slot } in
+    let h = at.cluster in
+    let cell = h.cells me at.there in
+    let client = h.clients id id_there in
     let meets = h.meets in
-    let taken : In j ((k.cells me).jobs s) = rw (cell.jobs s) (subst (λ (zs : List CellEvent). In j (jobs p.txs s zs)) (sym is) (began-In p.txs j xs ys e began)) in
-    let put_in : In j (k.clients id).jobs = front-In ((k.cells me).jobs s) (k.clients id).jobs j (meets.jobs id at) taken in
+    let taken : In j ((k.cells me).jobs s) =
+    rw (cell.jobs s) (subst (λ (zs : List CellEvent). In j (jobs p.txs s zs)) (sym at.split) (began-In p.txs j at.earlier at.later e began)) in
+    let put_in : In j (k.clients id).jobs = front-In ((k.cells me).jobs s) (k.clients id).jobs j (meets.jobs id id_there) taken in
     both_some (declared p.txs j.tx).after (λ i. KnowsAcked p.txs (k.clients id) j i) (λ i. (declared p.txs i).node < p.config.nodes) (λ i. WasNoted p es j i)
     (client.behind j put_in) (after-there p.config p.txs j.tx (declared p.txs j.tx).after fit less f.after)
-    (λ i known there_i. known-noted p k es id j i h at there_i known)
+    (λ i known there_i. known-noted p k es id j i h id_there there_i known)

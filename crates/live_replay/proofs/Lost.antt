@@ -162,36 +162,51 @@ halt_is : (d : Deed) → d ≡ Halted → is_halt d ≡ true
 unfolding is_halt
 halt_is d h = rw h refl
 
+-- what is known of a transaction that a cell has not ended in its last state: it is the cell's own, a client awaits it, and the cell's clock travels
+record IsUnended (me : ℕ) (txs : List TxDecl) (client : ClientId) (last : Core) (x : ℕ) : Type 0 where
+  own : (declared txs x).node ≡ me
+  there : x < length txs
+  awaited : is_awaited txs client x ≡ true
+  unacked : is_some (record_of last.book x).acked ≡ false
+  unrefused : (record_of last.book x).refused ≡ false
+  clock : travels last.clock ≡ true
+
 -- an unended transaction in a cell's last state was unended at the stop
-halted-open : (me : ℕ) (c : Config) (txs : List TxDecl) (core : Core) (e : CellEvent) (es : List CellEvent) (x : ℕ) → e.deed ≡ Halted → es ≡ [] → (declared txs x).node ≡ me
-    → is_some (record_of (core_from me c txs (after me c txs core e) es).book x).acked ≡ false → (record_of (core_from me c txs (after me c txs core e) es).book x).refused ≡ false
-    → is_open_at me txs core.book x ≡ true
-unfolding core_from after notes_down is_open_at
-halted-open me c txs core e es x is last own unacked unrefused =
-    let acked : is_some (record_of core.book x).acked ≡ false = rw (last, is) at unacked in
-    let refused : (record_of core.book x).refused ≡ false = rw (last, is) at unrefused in
-    is_unended ((declared txs x).node == me) (record_of core.book x).acked (record_of core.book x).refused (eq-eqb (declared txs x).node me own) acked refused
+halted-open : (me : ℕ) (c : Config) (txs : List TxDecl) (client : ClientId) (core : Core) (e : CellEvent) (x : ℕ) → e.deed ≡ Halted → IsUnended me txs client (after me c txs core e) x → is_open_at me txs core.book x ≡ true
+unfolding after notes_down is_open_at
+halted-open me c txs client core e x is h =
+    let acked : is_some (record_of core.book x).acked ≡ false = rw is at h.unacked in
+    let refused : (record_of core.book x).refused ≡ false = rw is at h.unrefused in
+    is_unended ((declared txs x).node == me) (record_of core.book x).acked (record_of core.book x).refused (eq-eqb (declared txs x).node me h.own) acked refused
+
+-- a cell's stop is its last event
+halted-last : (kill : Option Kill) (place me : ℕ) (es : List CellEvent) (e : CellEvent) → HaltsOnly kill me place es → In e es → e.deed ≡ Halted → (before : List CellEvent) × (es ≡ before ++ e ∷ [])
+unfolding HaltsOnly
+halted-last kill place me [] e h is halted = In-nothing e is
+halted-last kill place me (d ∷ es) e h (here _ _ same) halted =
+    let halt : d.deed ≡ Halted = subst (λ (f : CellEvent). f.deed ≡ Halted) same halted in
+    let none : es ≡ [] = no_events es (h.1 (halt_is d.deed halt)) in
+    ([], rw (none, same) refl)
+halted-last kill place me (d ∷ es) e h (there _ _ is) halted =
+    let last = halted-last kill (suc place) me es e h.2 is halted in
+    (d ∷ last.0, ap (λ (ds : List CellEvent). d ∷ ds) last.1)
 
 -- at its stop a cell tells of each of its transactions that has not ended
-halted-told : (kill : Option Kill) (place me : ℕ) (c : Config) (txs : List TxDecl) (client : ClientId) (core : Core) (es : List CellEvent) (x : ℕ) → HaltsOnly kill me place es → AreClocks core.clock es
-    → travels (core_from me c txs core es).clock ≡ true → is_awaited txs client x ≡ true → (declared txs x).node ≡ me → x < length txs
-    → is_some (record_of (core_from me c txs core es).book x).acked ≡ false → (record_of (core_from me c txs core es).book x).refused ≡ false
-    → (e : CellEvent) → In e es → e.deed ≡ Halted → IsTold (notes_from me c txs client core es) x
-unfolding core_from HaltsOnly AreClocks stops_at after
-halted-told kill place me c txs client core [] x h clocks far waits own less unacked unrefused e is halted = In-nothing e is
-halted-told kill place me c txs client core (d ∷ es) x h clocks far waits own less unacked unrefused e (there _ _ is) halted =
-    later-tells me c txs client core d es x (halted-told kill (suc place) me c txs client (after me c txs core d) es x h.2 clocks.1 far waits own less unacked unrefused e is halted)
-halted-told kill place me c txs client core (d ∷ es) x h clocks far waits own less unacked unrefused e (here _ _ same) halted =
-    let is : d.deed ≡ Halted = subst (λ (f : CellEvent). f.deed ≡ Halted) same halted in
-    let halt = halt_is d.deed is in
-    let unended = halted-open me c txs core d es x is (no_events es (h.1 halt)) own unacked unrefused in
-    let note : Note = record { tx = x; clock = d.clock; end = Stopped } in
-    let late = core-clock me c txs (after me c txs core d) es clocks.1 in
-    event-tells me c txs client core d es note (In-append_right note (ends_at me c txs core d) _ (stops-In (is_halt d.deed) me txs core d.clock x halt less unended)) waits
-    (clock-travels late) (λ acked. absurd cc)
-  where
-    clock-travels : d.clock ≤ (core_from me c txs (after me c txs core d) es).clock → travels d.clock ≡ true
-    clock-travels late = travels-below d.clock _ late far
+halted-told : (me : ℕ) (c : Config) (txs : List TxDecl) (client : ClientId) (core : Core) (before : List CellEvent) (e : CellEvent) (x : ℕ) → e.deed ≡ Halted
+    → IsUnended me txs client (core_from me c txs core (before ++ e ∷ [])) x → IsTold (notes_from me c txs client core (before ++ e ∷ [])) x
+unfolding core_from stops_at after
+halted-told me c txs client core [] e x halted h =
+    let unended = halted-open me c txs client core e x halted h in
+    let note : Note = record { tx = x; clock = e.clock; end = Stopped } in
+    let stops = stops-In (is_halt e.deed) me txs core e.clock x (halt_is e.deed halted) h.there unended in
+    event-tells me c txs client core e [] note (In-append_right note (ends_at me c txs core e) _ stops) h.awaited h.clock (λ acked. absurd cc)
+halted-told me c txs client core (d ∷ before) e x halted h =
+    later-tells me c txs client core d (before ++ e ∷ []) x (halted-told me c txs client (after me c txs core d) before e x halted h)
+
+-- the same where the stop is the last of all events of a cell
+told_last : (me : ℕ) (c : Config) (txs : List TxDecl) (client : ClientId) (es before : List CellEvent) (e : CellEvent) (x : ℕ) → e.deed ≡ Halted → es ≡ before ++ e ∷ []
+    → IsUnended me txs client (core me c txs es) x → IsTold (notes me c txs client es) x
+told_last me c txs client es before e x halted last h = rw last (halted-told me c txs client (start_core me c txs) before e x halted (rw last at h))
 
 -- ---- what waits behind a lost transaction is gone
 
@@ -273,7 +288,9 @@ home-told p k es id x h less waits lost far =
           let ended : ((record_of (last_world p k).book x).refused || (node (last_world p k) (declared p.txs x).node).stopped) ≡ true =
           subst (λ (ts : List TxDecl). ((record_of (last_world p k).book x).refused || (node (last_world p k) (declared ts x).node).stopped) ≡ true) (txs-same p k es h) lost.ended in
           let halted = home-halted p k es n h there (only_right _ _ world ended) in
-          halted-told p.kill 0 n p.config p.txs id first (es.cells n) x cell.halting cell.clocks clocked waits refl less unacked unrefused halted.0 halted.1 halted.2
+          let last_event = halted-last p.kill 0 n (es.cells n) halted.0 cell.halting halted.1 halted.2 in
+          let unended : IsUnended n p.txs id last x = record { own = refl; there = less; awaited = waits; unacked = unacked; unrefused = unrefused; clock = clocked } in
+          told_last n p.config p.txs id (es.cells n) last_event.0 halted.0 x halted.2 last_event.1 unended
     ]
   where
     true_or_false : (b : Bool) → (b ≡ true) ⊎ (b ≡ false)

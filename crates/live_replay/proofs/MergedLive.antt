@@ -21,7 +21,7 @@ use Rattle.live_replay.proofs.Causes.{service_clock-above, halts-fit-at, stop-ma
 use Rattle.live_replay.proofs.Early.{halts-late, sights-late}
 use Rattle.live_replay.proofs.LiveRuns.{run-more}
 use Rattle.live_replay.proofs.Mirrors.{part-one}
-use Rattle.live_replay.proofs.Replay.{IsAt, order-at, served-part, at-split, at-stamp, at-fresh}
+use Rattle.live_replay.proofs.Replay.{IsAt, order-at, served-part, at-event, at-deed, at-split, at-fresh}
 use Rattle.live_replay.proofs.Results.{Split, split-order, at-begin, replay-hits, replay-fits, replay-steps}
 
 -- ---- nothing is missed
@@ -206,10 +206,6 @@ needs-saw Ticked me h = absurd cc
 needs-saw Halted me h = absurd cc
 needs-saw (Saw v) me h = (v, refl)
 
-saw-less : (d : Deed) (v : Sight) (clock : ℕ) → d ≡ Saw v → stamp d < clock → v.clock < clock
-unfolding stamp
-saw-less d v clock is less = let f : stamp (Saw v) < clock = subst (λ (x : Deed). stamp x < clock) is less in f
-
 late_sight : (p : Plan) (es : Events) (past : List Turn) (me : ℕ) (e : CellEvent) (future : List Turn) (v : Sight) → IsAt p.config es past (cell_turn me e) future
     → In v (sights_from me (start_views p.config) ([] ++ service_part (cell_turn me e ∷ future))) → e.clock ≤ v.clock
 unfolding entry_of
@@ -218,14 +214,16 @@ late_sight p es past me e future v at is = sights-late me e.clock (start_views p
 -- before an install a node has stopped
 cell-behind : (p : Plan) (k : Cluster) (es : Events) (past : List Turn) (me : ℕ) (e : CellEvent) (future : List Turn) → IsLive p k es → Split p es past (cell_turn me e ∷ future) → Quiet past
     → needs_stop (step_of me e.deed) ≡ true → has_halt past ≡ true
+unfolding stamp
 cell-behind p k es past me e future h is (inr stopped) needs = stopped
 cell-behind p k es past me e future h is (inl none) needs =
     let saw = needs-saw e.deed me needs in
     let v = saw.0 in
     let a = at-begin p k es past me e future h is in
     let at = a.at in
-    let less : v.clock < e.clock = saw-less e.deed v e.clock saw.1 (at-stamp p k es past me e future (world_after p past) a) in
-    let sent = view-sent p k es me v (cell_part me past) (cell_part me future) e a.cluster a.there (at-split p k es past me e future (world_after p past) a) saw.1 in
+    let deed = at-deed p k es past me e future (world_after p past) (Saw v) a saw.1 in
+    let less : v.clock < e.clock = deed.above in
+    let sent = view-sent p k es me v e (at-event p k es past me e future (world_after p past) a) saw.1 in
     let split = subst (λ (zs : List ServiceEvent). In v (sights me p.config zs)) at.service sent in
     let none_early = subst (λ (zs : List ServiceEvent). In v (sights_from me (start_views p.config) (zs ++ service_part (cell_turn me e ∷ future)))) none split in
     let low = late_sight p es past me e future v at none_early in

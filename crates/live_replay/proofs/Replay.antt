@@ -1,5 +1,5 @@
 -- Events of cells and service in an order of rising clocks are a run of the machine, step by step.
-use Rattle.std.specs.Prelude.{ℕ, ◌≡◌, ◌-◌, ◌<◌, ◌≤◌, Bool, true, false, ◌==◌, List, [], ◌∷◌, ◌++◌, length, IfSome, Option, Some, None, is_some, is_none, if◌then◌else◌}
+use Rattle.std.specs.Prelude.{ℕ, ◌≡◌, ◌-◌, ◌<◌, ◌≤◌, Bool, true, false, ◌==◌, List, [], ◌∷◌, ◌++◌, IfSome, Option, Some, None, is_some, is_none, if◌then◌else◌}
 use Rattle.std.proofs.Common.{eq-eqb, arith, refl, sym, ap, ◌∙◌, subst}
 use Rattle.zeus_base.specs.declared.config.Config.{Config}
 use Rattle.zeus_txn.specs.declared.tx.TxDecl.{TxDecl}
@@ -14,12 +14,12 @@ use Rattle.zeus_model.specs.Book.{record_of}
 use Rattle.zeus_model.specs.Local.{begin_free, begin}
 use Rattle.zeus_model.specs.World.{World, node, link, nth_letter, waits_for, begin_refused}
 use Rattle.live_model.specs.Items.{Job, Stamped, Sight}
-use Rattle.live_model.specs.Cell.{Posted, DeedsFit, BeginFresh, CellEvent, Began, Took, Saw, stamp, declared, start_core, posts, posts_from, numbered, sends, AreClocks, BeginsFresh, IsFresh, DeedFits}
+use Rattle.live_model.specs.Cell.{Posted, DeedsFit, BeginFresh, CellEvent, Deed, Began, Took, Saw, stamp, declared, start_core, posts, posts_from, numbered, sends, AreClocks, BeginsFresh, IsFresh, DeedFits}
 use Rattle.live_model.specs.Service.{sights, ServiceEvent, start_views}
 use Rattle.live_model.specs.Cluster.{Plan, Cluster, Events, IsCluster}
 use Rattle.live_model.specs.Merge.{Turn, cell_turn, service_turn, entry_of, turn_clock}
 use Rattle.live_replay.specs.Parts.{part, of_cell, of_service, cell_part, service_part}
-use Rattle.live_replay.proofs.Causes.{clock-above, fits-at, fresh-at, packet-sent, view-sent, WasNoted, after-noted}
+use Rattle.live_replay.proofs.Causes.{clock-above, fits-at, fresh-at, IsCellEvent, packet-sent, view-sent, WasNoted, after-noted}
 use Rattle.live_replay.proofs.Early.{noted-early, NoneServedBefore, HasView, seen-early}
 use Rattle.live_replay.specs.Replayed.{Rises}
 use Rattle.live_replay.proofs.Merging.{part-append}
@@ -164,6 +164,11 @@ pub at-split : (p : Plan) (k : Cluster) (es : Events) (past : List Turn) (me : �
 at-split p k es past me e future w a =
     let at = a.at in at.cells me a.there ∙ ap (λ (zs : List CellEvent). cell_part me past ++ zs) (own-part me e future)
 
+-- where a cell's event stands in the order, the cell made it behind its part of the order before it
+pub at-event : (p : Plan) (k : Cluster) (es : Events) (past : List Turn) (me : ℕ) (e : CellEvent) (future : List Turn) (w : World) → AtCell p k es past me e future w → IsCellEvent p k es me e
+at-event p k es past me e future w a =
+    record { cluster = a.cluster; there = a.there; earlier = cell_part me past; later = cell_part me future; split = at-split p k es past me e future w a }
+
 -- where a cell's event stands in the order, its clock is above the stamp of what it took in
 pub at-stamp : (p : Plan) (k : Cluster) (es : Events) (past : List Turn) (me : ℕ) (e : CellEvent) (future : List Turn) (w : World) → AtCell p k es past me e future w → stamp e.deed < e.clock
 at-stamp p k es past me e future w a =
@@ -188,11 +193,29 @@ at-fresh p k es past me e future w a =
     fresh-at me p.config p.txs (start_core me p.config p.txs) (cell_part me past) (cell_part me future) e
     (subst (λ (zs : List CellEvent). BeginFresh me p.config p.txs (start_core me p.config p.txs) zs) (at-split p k es past me e future w a) cell.begins)
 
--- if a cell began a fresh job, then its begin is not refused in the world
+-- what holds of a deed where a cell did it: it fits, a begin is of a fresh job, and the clock is above the stamp of what it took in
+pub record IsDeedAt (p : Plan) (past : List Turn) (me clock : ℕ) (d : Deed) : Type 0 where
+  pub fits : DeedFits p.config p.txs d
+  pub fresh : BeginsFresh me p.txs (core_of p.config p.txs me past) d
+  pub above : stamp d < clock
+
+-- where a cell's event stands in the order, its deed is one that holds there
+pub at-deed : (p : Plan) (k : Cluster) (es : Events) (past : List Turn) (me : ℕ) (e : CellEvent) (future : List Turn) (w : World) (d : Deed) → AtCell p k es past me e future w → e.deed ≡ d
+    → IsDeedAt p past me e.clock d
+at-deed p k es past me e future w d a is =
+    record {
+      fits = subst (λ (x : Deed). DeedFits p.config p.txs x) is (at-fits p k es past me e future w a);
+      fresh = subst (λ (x : Deed). BeginsFresh me p.txs (core_of p.config p.txs me past) x) is (at-fresh p k es past me e future w a);
+      above = subst (λ (x : Deed). stamp x < e.clock) is (at-stamp p k es past me e future w a);
+    }
+
+-- if a cell began a job, then its begin is not refused in the world
 pub finds-begin : (p : Plan) (k : Cluster) (es : Events) (past : List Turn) (me : ℕ) (e : CellEvent) (future : List Turn) (w : World) (j : Job) → AtCell p k es past me e future w
-    → e.deed ≡ Began j → IsFresh me p.txs (core_of p.config p.txs me past) j → j.tx < length p.txs → j.seen < e.clock → begin_refused w j.tx ≡ None
-unfolding begin_refused entry_of
-finds-begin p k es past me e future w j a began fresh less seen =
+    → e.deed ≡ Began j → begin_refused w j.tx ≡ None
+unfolding begin_refused entry_of BeginsFresh DeedFits stamp
+finds-begin p k es past me e future w j a began =
+    let deed = at-deed p k es past me e future w (Began j) a began in
+    let fresh : IsFresh me p.txs (core_of p.config p.txs me past) j = deed.fresh in
     let m = a.mirrors in
     let agree = m.books me a.there in
     let run_state = agree.own j.tx fresh.own in
@@ -202,21 +225,24 @@ finds-begin p k es past me e future w j a began fresh less seen =
     let running : (node w (declared w.txs j.tx).node).stopped ≡ false =
     rw (m.declared, fresh.own) (ap (λ (n : Node). n.stopped) (m.nodes me a.there) ∙ live) in
     let noted : IfSome (declared p.txs j.tx).after (λ i. WasNoted p es j i) =
-    after-noted p k es me j (cell_part me past) (cell_part me future) e a.cluster a.fit a.there (at-split p k es past me e future w a) began fresh.own less in
+    after-noted p k es me j e (at-event p k es past me e future w a) a.fit began fresh.own deed.fits in
     let acked : IfSome (declared p.txs j.tx).after (λ i. is_some (record_of w.book i).acked ≡ true) =
-    IfSome_then (declared p.txs j.tx).after noted (λ i n. noted-acked p es past (cell_turn me e) future w j i m a.at seen n) in
+    IfSome_then (declared p.txs j.tx).after noted (λ i n. noted-acked p es past (cell_turn me e) future w j i m a.at deed.above n) in
     three_none _ _ _ (where_false _ Twice unbegun) (where_false _ (BeginAnswer Stopped) running)
     (waits-none (declared w.txs j.tx).after w (subst (λ (ts : List TxDecl). IfSome (declared ts j.tx).after (λ i. is_some (record_of w.book i).acked ≡ true)) (sym m.declared) acked))
 
 -- if a cell took a packet, then its letter is on the link in the world, at its number
 pub finds-packet : (p : Plan) (k : Cluster) (es : Events) (past : List Turn) (me : ℕ) (e : CellEvent) (future : List Turn) (w : World) (sender : ℕ) (q : Stamped) → AtCell p k es past me e future w
-    → e.deed ≡ Took sender q → sender < p.config.nodes → q.clock < e.clock → nth_letter (link w.links sender me) q.number ≡ Some q.letter
-unfolding sends entry_of
-finds-packet p k es past me e future w sender q a took there_sender less =
+    → e.deed ≡ Took sender q → nth_letter (link w.links sender me) q.number ≡ Some q.letter
+unfolding sends entry_of DeedFits stamp
+finds-packet p k es past me e future w sender q a took =
+    let deed = at-deed p k es past me e future w (Took sender q) a took in
+    let there_sender : sender < p.config.nodes = deed.fits in
+    let less : q.clock < e.clock = deed.above in
     let m = a.mirrors in
     let at = a.at in
     let c = p.config in
-    let sent = packet-sent p k es me sender q (cell_part me past) (cell_part me future) e a.cluster a.there there_sender (at-split p k es past me e future w a) took in
+    let sent = packet-sent p k es me sender q e (at-event p k es past me e future w a) there_sender took in
     let later = cell_part sender (cell_turn me e ∷ future) in
     let split : In q (numbered 0 (posts sender c p.txs me (cell_part sender past) ++ posts_from sender c p.txs me (core_of c p.txs sender past) later)) =
     subst (λ (ps : List Posted). In q (numbered 0 ps)) (posts_from-append sender c p.txs me (start_core sender c p.txs) (cell_part sender past) later)
@@ -228,12 +254,14 @@ finds-packet p k es past me e future w sender q a took there_sender less =
 
 -- if a cell saw a view, then the world has it
 pub finds-view : (p : Plan) (k : Cluster) (es : Events) (past : List Turn) (me : ℕ) (e : CellEvent) (future : List Turn) (w : World) (v : Sight) → AtCell p k es past me e future w
-    → e.deed ≡ Saw v → v.clock < e.clock → HasView w.views v
-unfolding entry_of
-finds-view p k es past me e future w v a saw less =
+    → e.deed ≡ Saw v → HasView w.views v
+unfolding entry_of stamp
+finds-view p k es past me e future w v a saw =
+    let deed = at-deed p k es past me e future w (Saw v) a saw in
+    let less : v.clock < e.clock = deed.above in
     let m = a.mirrors in
     let at = a.at in
-    let sent = view-sent p k es me v (cell_part me past) (cell_part me future) e a.cluster a.there (at-split p k es past me e future w a) saw in
+    let sent = view-sent p k es me v e (at-event p k es past me e future w a) saw in
     rw (m.views)
     (seen-early me e.clock (start_views p.config) (service_part past) (service_part (cell_turn me e ∷ future)) v at.served_late less
     (subst (λ (zs : List ServiceEvent). In v (sights me p.config zs)) at.service sent))

@@ -1,9 +1,8 @@
 -- What the run of the merged journals gives, clause by clause.
-use Rattle.std.specs.Prelude.{ℕ, suc, ◌≡◌, ◌<◌, true, List, [], ◌∷◌, ◌++◌, length, map, All, IfSome, is_some}
+use Rattle.std.specs.Prelude.{ℕ, suc, ◌≡◌, ◌<◌, true, List, [], ◌∷◌, ◌++◌, map, All, IfSome, is_some}
 use Rattle.std.proofs.Common.{append_assoc, refl, sym, ap, ◌∙◌, subst, append-nil}
 use Rattle.std.proofs.lemmas.List.Elements.{All-nil, All-cons}
 use Rattle.std.proofs.lemmas.Option.{IfSome_then}
-use Rattle.zeus_base.specs.declared.config.Config.{Config}
 use Rattle.zeus_packet.specs.declared.letter.Letter.{Letter}
 use Rattle.zeus_txn.specs.declared.tx.TxDecl.{TxDecl}
 use Rattle.zeus_model.specs.declared.answer.Answer.TheVariants.{Begin as BeginAnswer}
@@ -15,7 +14,7 @@ use Rattle.zeus_model.specs.World.{node, link, happens, run, start}
 use Rattle.machine_moves.specs.Fits.{StepFits}
 use Rattle.soundness.proofs.Runs.{reached-sound}
 use Rattle.live_model.specs.Items.{Stamped, Job, Answered}
-use Rattle.live_model.specs.Cell.{CellEvent, Core, Deed, Began, Tried, Took, Ticked, Halted, Saw, Posted, core, declared, does, jobs, posts, numbered, sends, BeginsFresh, DeedFits, stamp}
+use Rattle.live_model.specs.Cell.{CellEvent, Core, Deed, Began, Tried, Took, Ticked, Halted, Saw, Posted, core, declared, does, jobs, posts, numbered, sends, BeginsFresh, IsFresh, DeedFits, stamp}
 use Rattle.live_model.specs.Ends.{ClientId, answers}
 use Rattle.live_model.specs.Service.{views_made, ServiceEvent}
 use Rattle.live_model.specs.Cluster.{Plan, Cluster, Events, IsThere, IsFront}
@@ -26,7 +25,7 @@ use Rattle.live_replay.proofs.Causes.{after-noted}
 use Rattle.live_replay.proofs.Mirrors.{Mirrors}
 use Rattle.live_replay.proofs.Orders.{turns-order, merged-turns}
 use Rattle.live_replay.proofs.Posting.{letters}
-use Rattle.live_replay.proofs.Replay.{IsOrder, AtCell, at-split, at-stamp, at-fits, at-fresh, noted-acked}
+use Rattle.live_replay.proofs.Replay.{IsOrder, AtCell, at-event, at-deed, at-fresh, noted-acked}
 use Rattle.live_replay.proofs.Turns.{order-mirrors, turn-answer, turn-acked, at-cell, turn-fits}
 
 -- a split of the turns is an order, and its front has led to what it is
@@ -135,31 +134,18 @@ replay-begun p k es past n e future j h is began =
     replay-answer p k es past (cell_turn n e) future h is
     ∙ begun-answer p n (core_of p.config p.txs n past) e.deed j began (at-fresh p k es past n e future (world_after p past) (at-begin p k es past n e future h is))
 
-fresh-own : (p : Plan) (n : ℕ) (core : Core) (d : Deed) (j : Job) → d ≡ Began j → BeginsFresh n p.txs core d → (declared p.txs j.tx).node ≡ n
-unfolding BeginsFresh
-fresh-own p n core d j is fresh = let f : BeginsFresh n p.txs core (Began j) = subst (λ (x : Deed). BeginsFresh n p.txs core x) is fresh in f.own
-
-fits-tx : (c : Config) (txs : List TxDecl) (d : Deed) (j : Job) → d ≡ Began j → DeedFits c txs d → j.tx < length txs
-unfolding DeedFits
-fits-tx c txs d j is fits = let f : DeedFits c txs (Began j) = subst (λ (x : Deed). DeedFits c txs x) is fits in f
-
-stamp-seen : (d : Deed) (j : Job) (clock : ℕ) → d ≡ Began j → stamp d < clock → j.seen < clock
-unfolding stamp
-stamp-seen d j clock is less = let f : stamp (Began j) < clock = subst (λ (x : Deed). stamp x < clock) is less in f
-
 -- a transaction is begun behind the acknowledgement of the one that it is declared behind
 pub replay-after : (p : Plan) (k : Cluster) (es : Events) (past : List Turn) (n : ℕ) (e : CellEvent) (future : List Turn) (j : Job) → IsLive p k es
     → Split p es past (cell_turn n e ∷ future) → e.deed ≡ Began j → IfSome (declared p.txs j.tx).after (λ i. is_some (record_of (world_after p past).book i).acked ≡ true)
-unfolding entry_of
+unfolding entry_of BeginsFresh DeedFits stamp
 replay-after p k es past n e future j h is began =
     let w = world_after p past in
     let a = at-begin p k es past n e future h is in
-    let own = fresh-own p n (core_of p.config p.txs n past) e.deed j began (at-fresh p k es past n e future w a) in
-    let less = fits-tx p.config p.txs e.deed j began (at-fits p k es past n e future w a) in
-    let seen = stamp-seen e.deed j e.clock began (at-stamp p k es past n e future w a) in
+    let deed = at-deed p k es past n e future w (Began j) a began in
+    let fresh : IsFresh n p.txs (core_of p.config p.txs n past) j = deed.fresh in
     IfSome_then (declared p.txs j.tx).after
-    (after-noted p k es n j (cell_part n past) (cell_part n future) e a.cluster a.fit a.there (at-split p k es past n e future w a) began own less)
-    (λ i noted. noted-acked p es past (cell_turn n e) future w j i a.mirrors a.at seen noted)
+    (after-noted p k es n j e (at-event p k es past n e future w a) a.fit began fresh.own deed.fits)
+    (λ i noted. noted-acked p es past (cell_turn n e) future w j i a.mirrors a.at deed.above noted)
 
 -- ---- the last world
 

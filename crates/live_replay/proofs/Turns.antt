@@ -13,7 +13,7 @@ use Rattle.zeus_model.specs.Scripts.{FitTxs}
 use Rattle.zeus_model.specs.State.{Node}
 use Rattle.zeus_model.specs.World.{World, Event, node, last_view, happens, stepped, run, start}
 use Rattle.machine_moves.specs.Fits.{StepFits}
-use Rattle.live_model.specs.Cell.{CellEvent, Deed, Began, Tried, Took, Ticked, Halted, Saw, step_of, stamp, declared, start_core, BeginsFresh, DeedFits, halts}
+use Rattle.live_model.specs.Cell.{CellEvent, Deed, Began, Tried, Took, Ticked, Halted, Saw, step_of, declared, start_core, BeginsFresh, DeedFits, halts}
 use Rattle.live_model.specs.Service.{ServiceEvent, AreServiceClocks, AreViews, HaltsFit, made, start_views, views_made}
 use Rattle.live_model.specs.Cluster.{Plan, Cluster, Events, IsCluster}
 use Rattle.live_model.specs.Merge.{Turn, cell_turn, service_turn, entry_of, turn_step}
@@ -24,7 +24,7 @@ use Rattle.live_replay.proofs.Early.{halted-early, HasView}
 use Rattle.live_replay.specs.Replayed.{core_of, given, acknowledged}
 use Rattle.live_replay.proofs.Mirrors.{Mirrors, CellStep, cell-mirrors, acted_answer, acted_acked}
 use Rattle.live_replay.proofs.Reached.{reached-current}
-use Rattle.live_replay.proofs.Replay.{IsOrder, IsAt, order-at, served-part, AtCell, at-stamp, at-fits, at-fresh, finds-begin, finds-packet, finds-view}
+use Rattle.live_replay.proofs.Replay.{IsOrder, IsAt, order-at, served-part, AtCell, at-fits, at-fresh, at-deed, finds-begin, finds-packet, finds-view}
 use Rattle.live_replay.proofs.Serving.{ServiceStep, service-mirrors, start-mirrors, happens-serves}
 use Rattle.live_replay.proofs.Tries.{own-try_slot}
 use Rattle.live_model.specs.Items.{Sight}
@@ -56,18 +56,18 @@ view-there w v h =
     let made = h.made in
     false_from_ne_true (nat_lt (length w.views) v.epoch) (λ less. let past : length w.views < v.epoch = ltb-true (length w.views) v.epoch less in absurd (omega arith))
 
-deed-finds : (d : Deed) (p : Plan) (k : Cluster) (es : Events) (past : List Turn) (me : ℕ) (e : CellEvent) (future : List Turn) (w : World) → AtCell p k es past me e future w → e.deed ≡ d
-    → DeedFits p.config p.txs d → BeginsFresh me p.txs (core_of p.config p.txs me past) d → stamp d < e.clock → Finds w me d
-unfolding DeedFits BeginsFresh stamp Finds
-deed-finds (Began j) p k es past me e future w a is fits fresh less =
+deed-finds : (d : Deed) (p : Plan) (k : Cluster) (es : Events) (past : List Turn) (me : ℕ) (e : CellEvent) (future : List Turn) (w : World) → AtCell p k es past me e future w → e.deed ≡ d → Finds w me d
+unfolding BeginsFresh Finds
+deed-finds (Began j) p k es past me e future w a is =
     let m = a.mirrors in
-    (subst (λ (ts : List TxDecl). (declared ts j.tx).node ≡ me) (sym m.declared) fresh.own, finds-begin p k es past me e future w j a is fresh fits less)
-deed-finds (Tried s) p k es past me e future w a is fits fresh less = tt
-deed-finds (Took sender q) p k es past me e future w a is fits fresh less = finds-packet p k es past me e future w sender q a is fits less
-deed-finds Ticked p k es past me e future w a is fits fresh less = tt
-deed-finds Halted p k es past me e future w a is fits fresh less = tt
-deed-finds (Saw v) p k es past me e future w a is fits fresh less =
-    let h = finds-view p k es past me e future w v a is less in (view-there w v h, h.is)
+    let deed = at-deed p k es past me e future w (Began j) a is in
+    (subst (λ (ts : List TxDecl). (declared ts j.tx).node ≡ me) (sym m.declared) deed.fresh.own, finds-begin p k es past me e future w j a is)
+deed-finds (Tried s) p k es past me e future w a is = tt
+deed-finds (Took sender q) p k es past me e future w a is = finds-packet p k es past me e future w sender q a is
+deed-finds Ticked p k es past me e future w a is = tt
+deed-finds Halted p k es past me e future w a is = tt
+deed-finds (Saw v) p k es past me e future w a is =
+    let h = finds-view p k es past me e future w v a is in (view-there w v h, h.is)
 
 -- where a cell's event stands in the order, the world has what it needs
 pub cell-step : (p : Plan) (k : Cluster) (es : Events) (past : List Turn) (me : ℕ) (e : CellEvent) (future : List Turn) (w : World) → AtCell p k es past me e future w → CellStep p.config p.txs past w me e
@@ -76,7 +76,7 @@ cell-step p k es past me e future w a =
     let fresh = at-fresh p k es past me e future w a in
     record {
       there = a.there;
-      finds = deed-finds e.deed p k es past me e future w a refl fits fresh (at-stamp p k es past me e future w a);
+      finds = deed-finds e.deed p k es past me e future w a refl;
       fits = step-fits e.deed p.config p.txs me a.there fits;
       names = deed-names e.deed p past w me a.mirrors fresh;
     }

@@ -7,11 +7,11 @@ use Rattle.zeus_base.specs.Nodes.{has}
 use Rattle.zeus_base.specs.TableLaws.{nth-append, nth-last}
 use Rattle.zeus_model.specs.Commit.{no_kept}
 use Rattle.zeus_model.specs.declared.state.Kept.{Kept}
-use Rattle.replication_safety.specs.StreamState.{StreamState, Entry, Stores, In, IsView, IsLive, IsMember, IsOut, Has, HasReported, view, top, kept_at, entry_of}
+use Rattle.replication_safety.specs.StreamState.{StreamState, Entry, Stores, IsView, IsLive, IsOut, Has, HasReported, view, top, kept_at, entry_of}
 use Rattle.replication_safety.specs.Moves.{ActsOnKept, Commits, StoresNext}
 use Rattle.replication_safety.specs.ReplicationInvariant.{IsCopy, IsWitnessed, ReplicationInvariant}
 use Rattle.replication_safety.proofs.Basics.{agree}
-use Rattle.replication_safety.proofs.PreservesReplication.{Grows, WasKept, IsAdded, PreservesKept, PreservesSaid, PreservesReplication, carried, witness-grows}
+use Rattle.replication_safety.proofs.PreservesReplication.{Grows, WasKept, IsAdded, IsOrphaned, IsKeptByOther, PreservesKept, PreservesSaid, PreservesReplication, carried, witness-grows}
 use Rattle.replication_safety.proofs.Same.{IsView-same, view-same, quiet-reports, quiet-silent, silent-says, acts-live, acts-epoch, acts-viewed}
 
 -- ---- a node acts on what it keeps
@@ -206,46 +206,48 @@ pub receiver-room : (old : StreamState) (passed to k d : ℕ) (x : Entry) → Is
 receiver-room old passed to k d x c reached next = omega (arith, c.near)
 
 -- who kept the entry before keeps it still, or the node that stores it now does and has not reported in a later epoch
-stores-witnessed : (old new : StreamState) (passed n e from d : ℕ) (x : Entry) → ReplicationInvariant old passed → StoresNext old new n x → In (Stores from n (old.epoch n) (top old n) d x) old.letters
-    → n ≢ new.home → IsView new e → IsOut new e new.home → passed ≤ top old n → IsMember new e n → IsWitnessed new e (top old n)
-stores-witnessed old new passed n e from d x r s sent foreign v out above m =
+stores-witnessed : (old new : StreamState) (passed n e : ℕ) (x : Entry) → ReplicationInvariant old passed → StoresNext old new n x → IsOrphaned new passed e (top old n) → IsKeptByOther new e n (top old n)
+    → IsWitnessed new e (top old n)
+stores-witnessed old new passed n e x r s o keeper =
     let a : Appends old new n x = stores-appends old new n x s in
-    let before : IsView old e = IsView-same old new e s.acts.acts.setting v in
+    let before : IsView old e = IsView-same old new e s.acts.acts.setting o.viewed in
     let views : view new e ≡ view old e = view-same old new e s.acts.acts.setting in
     let home : new.home ≡ old.home = s.acts.acts.setting.home in
+    let out : IsOut new e new.home = o.out in
     let left : IsOut old e old.home = cc in
     elim (cases_lt (old.epoch n) e) [
-      | inl later ↦
-          let h : Has new n (top old n) = (omega (arith, a.done), omega (arith, appends-top old new n x a)) in (
-            n,
-            m,
-            foreign,
-            h,
-            λ reported.
-                elim (acting-silent old new n n e s.acts reported) [
-                  | inl said ↦ omega (arith, (r.viewed.reports n e said).1)
-                  | inr knows ↦ omega (arith, knows.0)
-                ],
-          )
+      | inl later ↦ (
+        n,
+        keeper.member,
+        keeper.foreign,
+        keeper.kept,
+        λ reported.
+            elim (acting-silent old new n n e s.acts reported) [
+              | inl said ↦ omega (arith, (r.viewed.reports n e said).1)
+              | inr knows ↦ omega (arith, knows.0)
+            ],
+      )
       | inr earlier ↦
           witness-grows old new e (top old n) (appends-grows old new n x a) before
           (λ b. appends-has old new n b (top old n) x a)
           (λ b _. acting-silent old new n b e s.acts)
-          (r.sent_barrier e (top old n) from n (old.epoch n) d x before left above earlier sent)
+          (r.sent_barrier e (top old n) s.sent.0 n (old.epoch n) s.sent.1 x before left o.unpassed earlier s.sent.3)
     ]
 
-stores-added : (old new : StreamState) (passed n from d : ℕ) (x : Entry) → ReplicationInvariant old passed → StoresNext old new n x → In (Stores from n (old.epoch n) (top old n) d x) old.letters
-    → IsCopy old passed n (top old n) d x → IsAdded new passed n (top old n)
+stores-added : (old new : StreamState) (passed n : ℕ) (x : Entry) → ReplicationInvariant old passed → (s : StoresNext old new n x) → IsCopy old passed n (top old n) s.sent.1 x → IsAdded new passed n (top old n)
 unfolding has
-stores-added old new passed n from d x r s sent c =
+stores-added old new passed n x r s c =
+    let a : Appends old new n x = stores-appends old new n x s in
     let home : new.home ≡ old.home = s.acts.acts.setting.home in
-    let foreign : n ≢ new.home = λ here. receiver-foreign old passed n (top old n) d x c (here ∙ home) in
-    let is : kept_at new n (top old n) ≡ unacked x = appends-new old new n x (stores-appends old new n x s) in
+    let foreign : n ≢ new.home = λ here. receiver-foreign old passed n (top old n) s.sent.1 x c (here ∙ home) in
+    let is : kept_at new n (top old n) ≡ unacked x = appends-new old new n x a in
+    let kept : Has new n (top old n) = (omega (arith, a.done), omega (arith, appends-top old new n x a)) in
     record {
       foreign = λ here. absurd (foreign here);
-      letter = λ _. (from, old.epoch n, d, rw is (s.acts.sends.stay (Stores from n (old.epoch n) (top old n) d x) sent));
-      acks = λ a. rw is refl;
-      witnessed = λ e v out above m _. stores-witnessed old new passed n e from d x r s sent foreign v out above m;
+      letter = λ _. (s.sent.0, old.epoch n, s.sent.1, rw is (s.acts.sends.stay (Stores s.sent.0 n (old.epoch n) (top old n) s.sent.1 x) s.sent.3));
+      acks = λ b. rw is refl;
+      witnessed = λ e v out above m _.
+          stores-witnessed old new passed n e x r s record { viewed = v; out = out; unpassed = above } record { member = m; foreign = foreign; kept = kept };
     }
 
 -- storing the next entry takes nothing back
@@ -258,7 +260,7 @@ stores-preserves old new passed n x r s =
     let room : length (old.kept n) < 16 = receiver-room old passed n (top old n) s.sent.1 x c s.sent.2 refl in
     record {
       grows = grows_StoresNext old new n x s;
-      keeps = appends-keeps old new passed n x r (stores-appends old new n x s) room (stores-added old new passed n s.sent.0 s.sent.1 x r s s.sent.3 c);
+      keeps = appends-keeps old new passed n x r (stores-appends old new n x s) room (stores-added old new passed n x r s c);
       says = acting-says old new passed passed n r s.acts;
     }
 

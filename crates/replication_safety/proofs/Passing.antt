@@ -95,57 +95,77 @@ first_pass-stored old new passed n g r s first live f =
           (r.most g, omega arith)
     ]
 
-first_pass-most : (old new : StreamState) (passed n m : ℕ) → ReplicationInvariant old passed → PassesFirst old new n → old.done n ≡ passed → new.done m ≤ suc passed
-first_pass-most old new passed n m r s first =
+-- a node passes an entry that no node has passed before
+record IsFirstPass (old new : StreamState) (passed n : ℕ) : Type 0 where
+  invariant : ReplicationInvariant old passed
+  passes : PassesFirst old new n
+  first : old.done n ≡ passed
+
+first_pass-most : (old new : StreamState) (passed n m : ℕ) → IsFirstPass old new passed n → new.done m ≤ suc passed
+first_pass-most old new passed n m p =
+    let s : PassesFirst old new n = p.passes in
+    let r : ReplicationInvariant old passed = p.invariant in
     elim (cases_eq m n) [
-      | inl same ↦ rw same (omega (arith, s.done))
+      | inl same ↦ rw same (omega (arith, s.done, p.first))
       | inr other ↦ omega (arith, s.acts.acts.others.done m other, r.most m)
     ]
 
-first_pass-own_first : (old new : StreamState) (passed n : ℕ) → ReplicationInvariant old passed → PassesFirst old new n → old.done n ≡ passed → IsLive new new.home → suc passed ≡ new.done new.home
-first_pass-own_first old new passed n r s first live =
+first_pass-own_first : (old new : StreamState) (passed n : ℕ) → IsFirstPass old new passed n → IsLive new new.home → suc passed ≡ new.done new.home
+first_pass-own_first old new passed n p live =
+    let s : PassesFirst old new n = p.passes in
     let home : new.home ≡ old.home = s.acts.acts.setting.home in
     let before : IsLive old old.home = acts-live old new n old.home s.acts.acts (rw home at live) in
-    let own : n ≡ new.home = passes-own old new passed n r s before ∙ sym home in
+    let own : n ≡ new.home = passes-own old new passed n p.invariant s before ∙ sym home in
     let same : new.done n ≡ new.done new.home = ap new.done own in
-    omega (arith, s.done)
+    omega (arith, s.done, p.first)
 
--- each letter with the entry has the followers that it was passed with
-first_pass-first : (old new : StreamState) (passed n from to e k d g : ℕ) (x : Entry) → ReplicationInvariant old passed → PassesFirst old new n → old.done n ≡ passed
-    → In (Stores from to e k d x) old.letters → passed ≤ k → k < suc passed → IsLive new g → has g x.followers ≡ true → k < top new g
-first_pass-first old new passed n from to e k d g x r s first m above below live f =
-    let here : k ≡ passed = omega arith in
-    let kept : Has old n k = (omega arith, omega (arith, s.some)) in
-    let agrees : entry_of (kept_at old n k) ≡ entry old k = content-agrees old passed n k r kept above in
-    let same : x ≡ entry old k = (r.copies from to e k d x m).same (omega (arith, r.most old.home)) in
-    let followers : x.followers ≡ (kept_at old n k).followers = ap (λ (y : Entry). y.followers) (same ∙ sym agrees) in
-    let asked : has g (kept_at old n passed).followers ≡ true = rw here at (rw followers at f) in
+-- an entry that was sent and has not passed is that of the stream's own node
+unpassed-sent : (old : StreamState) (passed from to e k d : ℕ) (x : Entry) → ReplicationInvariant old passed → In (Stores from to e k d x) old.letters → passed ≤ k → x ≡ entry old k
+unpassed-sent old passed from to e k d x r m above = (r.copies from to e k d x m).same (omega (arith, r.most old.home))
+
+-- what passes first is stored at each live node that follows the entry of the stream's own node
+first_pass-first : (old new : StreamState) (passed n g : ℕ) → IsFirstPass old new passed n → IsLive new g → has g (entry old passed).followers ≡ true → passed < top new g
+first_pass-first old new passed n g p live f =
+    let s : PassesFirst old new n = p.passes in
+    let r : ReplicationInvariant old passed = p.invariant in
+    let first : old.done n ≡ passed = p.first in
+    let kept : Has old n passed = (omega arith, omega (arith, s.some)) in
+    let agrees : entry_of (kept_at old n passed) ≡ entry old passed = content-agrees old passed n passed r kept (omega arith) in
+    let followers : (entry old passed).followers ≡ (kept_at old n passed).followers = ap (λ (y : Entry). y.followers) (sym agrees) in
+    let asked : has g (kept_at old n passed).followers ≡ true = sym (ap (has g) followers) ∙ f in
     let held : Has old g passed = first_pass-stored old new passed n g r s first (acts-live old new n g s.acts.acts live) asked in
     omega (arith, held.1, drops-top old new n (suc (old.done n)) g (passes-drops old new n s))
 
-first_pass-keeps : (old new : StreamState) (passed n : ℕ) → ReplicationInvariant old passed → PassesFirst old new n → old.done n ≡ passed → PreservesKept old new passed (suc passed)
-first_pass-keeps old new passed n r s first =
+first_pass-keeps : (old new : StreamState) (passed n : ℕ) → IsFirstPass old new passed n → PreservesKept old new passed (suc passed)
+first_pass-keeps old new passed n p =
+    let s : PassesFirst old new n = p.passes in
+    let r : ReplicationInvariant old passed = p.invariant in
     let d : Drops old new n (suc (old.done n)) = passes-drops old new n s in
     let committed : old.done n < end old = kept-committed old passed n (old.done n) r (passes-kept old new n s) in
     record {
       rises = omega arith;
-      most = λ m. first_pass-most old new passed n m r s first;
-      known = (n, s.done ∙ ap suc first);
-      own_first = first_pass-own_first old new passed n r s first;
-      committed = rw s.acts.acts.setting.home (omega (arith, drops-top old new n (suc (old.done n)) old.home d));
+      most = λ m. first_pass-most old new passed n m p;
+      known = (n, s.done ∙ ap suc p.first);
+      own_first = first_pass-own_first old new passed n p;
+      committed = rw s.acts.acts.setting.home (omega (arith, p.first, drops-top old new n (suc (old.done n)) old.home d));
       sizes = λ m. omega (arith, r.sizes m, drops-sizes old new n (suc (old.done n)) m d);
       kept = λ m k h. inl (drops-kept old new n (suc (old.done n)) m k d h);
-      first = λ from to e k f g x. first_pass-first old new passed n from to e k f g x r s first;
+      first = λ from to e k f g x m above below live is.
+          let here : k ≡ passed = omega arith in
+          let same : x ≡ entry old passed = unpassed-sent old passed from to e k f x r m above ∙ ap (entry old) here in
+          let follower : has g (entry old passed).followers ≡ true = sym (ap (λ (y : Entry). has g y.followers) same) ∙ is in
+          rw here (first_pass-first old new passed n g p live follower);
     }
 
-first_pass-preserves : (old new : StreamState) (passed n : ℕ) → ReplicationInvariant old passed → PassesFirst old new n → old.done n ≡ passed → PreservesReplication old new passed (suc passed)
-first_pass-preserves old new passed n r s first =
+first_pass-preserves : (old new : StreamState) (passed n : ℕ) → IsFirstPass old new passed n → PreservesReplication old new passed (suc passed)
+first_pass-preserves old new passed n p =
+    let s : PassesFirst old new n = p.passes in
     record {
       grows = grows_PassesFirst old new n s;
-      keeps = first_pass-keeps old new passed n r s first;
-      says = acting-says old new passed (suc passed) n r s.acts;
+      keeps = first_pass-keeps old new passed n p;
+      says = acting-says old new passed (suc passed) n p.invariant s.acts;
     }
 
 -- if an entry passes at the first node of all, then the replication invariant holds with one more passed
 pub keeps_PassesFirst_first : (old new : StreamState) (passed n : ℕ) → ReplicationInvariant old passed → PassesFirst old new n → old.done n ≡ passed → ReplicationInvariant new (suc passed)
-keeps_PassesFirst_first old new passed n r s first = carried old new passed (suc passed) r (first_pass-preserves old new passed n r s first)
+keeps_PassesFirst_first old new passed n r s first = carried old new passed (suc passed) r (first_pass-preserves old new passed n record { invariant = r; passes = s; first = first })

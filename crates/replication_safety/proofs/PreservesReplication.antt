@@ -73,6 +73,28 @@ pub record PreservesReplication (old new : StreamState) (passed now : ℕ) : Typ
 
 -- ---- who is no member, and who keeps an unpassed entry
 
+-- the view of the epoch leaves the stream's own node out, and the entry has not passed
+pub record IsOrphaned (l : StreamState) (passed e k : ℕ) : Type 0 where
+  pub viewed : IsView l e
+  pub out : IsOut l e l.home
+  pub unpassed : passed ≤ k
+
+-- a member in the epoch, other than the stream's own node, keeps the entry
+pub record IsKeptByOther (l : StreamState) (e n k : ℕ) : Type 0 where
+  pub member : IsMember l e n
+  pub foreign : n ≢ l.home
+  pub kept : Has l n k
+
+-- an entry of this number was sent in the epoch or later
+record IsSentSince (l : StreamState) (e k : ℕ) : Type 0 where
+  from : ℕ
+  to : ℕ
+  epoch : ℕ
+  done : ℕ
+  content : Entry
+  since : e ≤ epoch
+  letter : In (Stores from to epoch k done content) l.letters
+
 IsOut-before : (old new : StreamState) (e : ℕ) → Grows old new → IsView old e → IsOut new e new.home → IsOut old e old.home
 IsOut-before old new e g v out =
     let same : view new e ≡ view old e = g.view e v in
@@ -92,11 +114,14 @@ witness-grows old new e k g v stays silent w =
     let m : IsMember new e w.0 = rw same w.1 in
     (w.0, m, λ here. w.2 (here ∙ g.home), stays w.0 w.3, λ r. w.4 (silent w.0 w.3 r))
 
-witness-stays : (old new : StreamState) (passed now e k : ℕ) → PreservesReplication old new passed now → IsView old e → IsOut old e old.home → now ≤ k → IsWitnessed old e k → IsWitnessed new e k
-witness-stays old new passed now e k c v out above w =
-    witness-grows old new e k c.grows v
-    (λ n h. (omega (arith, c.keeps.most n), omega (arith, c.grows.top n, h.1)))
-    (λ n. c.says.silent n e k v out) w
+orphaned-before : (old new : StreamState) (passed now e k : ℕ) → PreservesReplication old new passed now → IsView old e → IsOrphaned new now e k → IsOrphaned old now e k
+orphaned-before old new passed now e k c v o = record { viewed = v; out = IsOut-before old new e c.grows v o.out; unpassed = o.unpassed }
+
+witness-stays : (old new : StreamState) (passed now e k : ℕ) → PreservesReplication old new passed now → IsOrphaned old now e k → IsWitnessed old e k → IsWitnessed new e k
+witness-stays old new passed now e k c o w =
+    witness-grows old new e k c.grows o.viewed
+    (λ n h. (omega (arith, c.keeps.most n, o.unpassed), omega (arith, c.grows.top n, h.1)))
+    (λ n. c.says.silent n e k o.viewed o.out) w
 
 -- ---- each field
 
@@ -184,33 +209,31 @@ carried-told old new passed now to d r c m =
       | inr said ↦ said
     ]
 
-carried-kept_barrier : (old new : StreamState) (passed now e k n : ℕ) → ReplicationInvariant old passed → PreservesReplication old new passed now
-    → IsView new e → IsOut new e new.home → now ≤ k → IsMember new e n → n ≢ new.home → Has new n k → IsWitnessed new e k
-carried-kept_barrier old new passed now e k n r c v out above m foreign h =
-    elim (c.says.views e v) [
-      | inr fresh ↦ (n, m, foreign, h, fresh.unreported n)
+carried-kept_barrier : (old new : StreamState) (passed now e k n : ℕ) → ReplicationInvariant old passed → PreservesReplication old new passed now → IsOrphaned new now e k → IsKeptByOther new e n k → IsWitnessed new e k
+carried-kept_barrier old new passed now e k n r c o keeper =
+    elim (c.says.views e o.viewed) [
+      | inr fresh ↦ (n, keeper.member, keeper.foreign, keeper.kept, fresh.unreported n)
       | inl before ↦
-          elim (c.keeps.kept n k h) [
+          elim (c.keeps.kept n k keeper.kept) [
             | inl was ↦
-                let left : IsOut old e old.home = IsOut-before old new e c.grows before out in
-                witness-stays old new passed now e k c before left above
-                (r.kept_barrier e k n before left (omega (arith, c.keeps.rises)) (IsMember-before old new e n c.grows before m) (λ here. foreign (here ∙ sym c.grows.home)) was.kept)
-            | inr added ↦ added.witnessed e v out above m foreign
+                let left = orphaned-before old new passed now e k c before o in
+                witness-stays old new passed now e k c left
+                (r.kept_barrier e k n before left.out (omega (arith, c.keeps.rises, o.unpassed)) (IsMember-before old new e n c.grows before keeper.member) (λ here. keeper.foreign (here ∙ sym c.grows.home)) was.kept)
+            | inr added ↦ added.witnessed e o.viewed o.out o.unpassed keeper.member keeper.foreign
           ]
     ]
 
-carried-sent_barrier : (old new : StreamState) (passed now e k from to f d : ℕ) (x : Entry) → ReplicationInvariant old passed → PreservesReplication old new passed now
-    → IsView new e → IsOut new e new.home → now ≤ k → e ≤ f → In (Stores from to f k d x) new.letters → IsWitnessed new e k
-carried-sent_barrier old new passed now e k from to f d x r c v out above le m =
-    elim (c.says.views e v) [
-      | inr fresh ↦ absurd (fresh.unsent from to f k d x le m)
+carried-sent_barrier : (old new : StreamState) (passed now e k : ℕ) → ReplicationInvariant old passed → PreservesReplication old new passed now → IsOrphaned new now e k → IsSentSince new e k → IsWitnessed new e k
+carried-sent_barrier old new passed now e k r c o sent =
+    elim (c.says.views e o.viewed) [
+      | inr fresh ↦ absurd (fresh.unsent sent.from sent.to sent.epoch k sent.done sent.content sent.since sent.letter)
       | inl before ↦
-          elim (c.says.entries from to f k d x m) [
-            | inl sent ↦
-                let left : IsOut old e old.home = IsOut-before old new e c.grows before out in
-                witness-stays old new passed now e k c before left above
-                (r.sent_barrier e k from to f d x before left (omega (arith, c.keeps.rises)) le sent)
-            | inr told ↦ told.witnessed e v out above le
+          elim (c.says.entries sent.from sent.to sent.epoch k sent.done sent.content sent.letter) [
+            | inl early ↦
+                let left = orphaned-before old new passed now e k c before o in
+                witness-stays old new passed now e k c left
+                (r.sent_barrier e k sent.from sent.to sent.epoch sent.done sent.content before left.out (omega (arith, c.keeps.rises, o.unpassed)) sent.since early)
+            | inr told ↦ told.witnessed e o.viewed o.out o.unpassed sent.since
           ]
     ]
 
@@ -233,6 +256,9 @@ carried old new passed now r c =
       stored = λ n k. carried-stored old new passed now n k r c;
       told = λ to d. carried-told old new passed now to d r c;
       reports = c.says.reports;
-      kept_barrier = λ e k n. carried-kept_barrier old new passed now e k n r c;
-      sent_barrier = λ e k from to f d x. carried-sent_barrier old new passed now e k from to f d x r c;
+      kept_barrier = λ e k n v out above m foreign h.
+          carried-kept_barrier old new passed now e k n r c record { viewed = v; out = out; unpassed = above } record { member = m; foreign = foreign; kept = h };
+      sent_barrier = λ e k from to f d x v out above le m.
+          carried-sent_barrier old new passed now e k r c record { viewed = v; out = out; unpassed = above }
+          record { from = from; to = to; epoch = f; done = d; content = x; since = le; letter = m };
     }

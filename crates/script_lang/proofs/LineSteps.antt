@@ -20,41 +20,50 @@ unfolding lines_taken
 line_ended live s n p [] some = absurd (some refl)
 line_ended live s n p (q ∷ ps) some = refl
 
-module _ (live : Bool) (s : State) (n : ℕ) (parts : List (List ℕ)) (total : Result State ScriptFault) (so_far : lines_taken live s n parts ≡ total) where
-  pub line_none : parts ≡ [] → total ≡ Err (fault_at n kinds.Missing)
-  unfolding lines_taken
-  line_none is = sym so_far ∙ ap (lines_taken live s n) is
+-- if there is no part, then the end is missing
+pub line_none : (live : Bool) (s : State) (n : ℕ) (parts : List (List ℕ)) (total : Result State ScriptFault) → lines_taken live s n parts ≡ total → parts ≡ [] → total ≡ Err (fault_at n kinds.Missing)
+unfolding lines_taken
+line_none live s n parts total so_far is = sym so_far ∙ ap (lines_taken live s n) is
 
-  module _ (p : List ℕ) (rest : List (List ℕ)) (is : parts ≡ p ∷ rest) where
-    pub line_unended : rest ≡ [] → total ≡ Err (fault_at n (unended p))
-    unfolding lines_taken
-    line_unended last = sym so_far ∙ ap (lines_taken live s n) (is ∙ ap (λ (ps : List (List ℕ)). p ∷ ps) last)
+-- if the last part is not empty, then its line is not ended, and otherwise the end is missing
+pub line_unended : (live : Bool) (s : State) (n : ℕ) (parts : List (List ℕ)) (total : Result State ScriptFault) (p : List ℕ) → lines_taken live s n parts ≡ total → parts ≡ p ∷ [] → total ≡ Err (fault_at n (unended p))
+unfolding lines_taken
+line_unended live s n parts total p so_far is = sym so_far ∙ ap (lines_taken live s n) is
 
-    module _ (some : rest ≡ [] → ⊥) where
-      here : total ≡ one_line live s n p rest
-      here = sym so_far ∙ ap (lines_taken live s n) is ∙ line_ended live s n p rest some
+-- reading has come to line n, with parts behind it: the total is what the line and these parts give
+pub record AtLine (live : Bool) (s : State) (n : ℕ) (p : List ℕ) (rest : List (List ℕ)) (total : Result State ScriptFault) : Type 0 where
+  pub parts : List (List ℕ)
+  pub so_far : lines_taken live s n parts ≡ total
+  pub first : parts ≡ p ∷ rest
+  pub behind : rest ≡ [] → ⊥
 
-      pub line_fault : (k : Kind) → line_taken live s s.stage (cut 32 p) ≡ Err k → total ≡ Err (fault_at n k)
-      unfolding line_done
-      line_fault k taken = here ∙ rw taken refl
+module _ (live : Bool) (s : State) (n : ℕ) (p : List ℕ) (rest : List (List ℕ)) (total : Result State ScriptFault) (at : AtLine live s n p rest total) where
+  here : total ≡ one_line live s n p rest
+  here = sym at.so_far ∙ ap (lines_taken live s n) at.first ∙ line_ended live s n p rest at.behind
 
-      pub line_last : (t : State) → line_taken live s s.stage (cut 32 p) ≡ Ok (true, t) → is_last rest ≡ true → total ≡ Ok t
-      unfolding line_done
-      line_last t taken last = here ∙ rw (taken, last) refl
+  -- if the line is at fault, then so is the total
+  pub line_fault : (k : Kind) → line_taken live s s.stage (cut 32 p) ≡ Err k → total ≡ Err (fault_at n k)
+  unfolding line_done
+  line_fault k taken = here ∙ rw taken refl
 
-      pub line_extra : (t : State) → line_taken live s s.stage (cut 32 p) ≡ Ok (true, t) → is_last rest ≡ false → total ≡ Err (fault_at (suc n) kinds.Extra)
-      unfolding line_done
-      line_extra t taken last = here ∙ rw (taken, last) refl
+  -- if the line is the last one and nothing follows it, then all is read
+  pub line_last : (t : State) → line_taken live s s.stage (cut 32 p) ≡ Ok (true, t) → is_last rest ≡ true → total ≡ Ok t
+  unfolding line_done
+  line_last t taken last = here ∙ rw (taken, last) refl
 
-      pub line_more : (t : State) → line_taken live s s.stage (cut 32 p) ≡ Ok (false, t) → lines_taken live t (suc n) rest ≡ total
-      unfolding line_done
-      line_more t taken = sym (here ∙ rw taken refl)
+  -- if something follows the last line, then it is extra
+  pub line_extra : (t : State) → line_taken live s s.stage (cut 32 p) ≡ Ok (true, t) → is_last rest ≡ false → total ≡ Err (fault_at (suc n) kinds.Extra)
+  unfolding line_done
+  line_extra t taken last = here ∙ rw (taken, last) refl
 
--- what failed in the line fails in all
-pub line_failed : (live : Bool) (s : State) (n : ℕ) (parts : List (List ℕ)) (total : Result State ScriptFault) → lines_taken live s n parts ≡ total
-    → (p : List ℕ) (rest : List (List ℕ)) → parts ≡ p ∷ rest → (rest ≡ [] → ⊥)
-    → (e : ReadScript) (now after : Draft) → TakesNumbered (Err e) now n (line_taken live s s.stage (cut 32 p)) → TakesAll (Err e) after total
-line_failed live s n parts total so_far p rest is some errors.NoMemory now after failed = tt
-line_failed live s n parts total so_far p rest is some (errors.Fault f) now after failed =
-    let fault : total ≡ Err (fault_at n f.kind) = line_fault live s n parts total so_far p rest is some f.kind failed.1 in
-    rw (← failed.0) at fault
+  -- if more lines are to follow, then the total is what the parts behind the line give
+  pub line_more : (t : State) → line_taken live s s.stage (cut 32 p) ≡ Ok (false, t) → lines_taken live t (suc n) rest ≡ total
+  unfolding line_done
+  line_more t taken = sym (here ∙ rw taken refl)
+
+  -- what failed in the line fails in all
+  pub line_failed : (e : ReadScript) (now after : Draft) → TakesNumbered (Err e) now n (line_taken live s s.stage (cut 32 p)) → TakesAll (Err e) after total
+  line_failed errors.NoMemory now after failed = tt
+  line_failed (errors.Fault f) now after failed =
+      let fault : total ≡ Err (fault_at n f.kind) = line_fault f.kind failed.1 in
+      rw (← failed.0) at fault

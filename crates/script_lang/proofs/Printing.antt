@@ -91,17 +91,25 @@ first_ops names (o ∷ os) op h e =
     let f = first_op names o os in
     cc (e, t, f)
 
--- the next of the objects that are left
-pub one_more_object : (names : List (List ℕ)) (objects : List ObjectDecl) (i j : ℕ) (n : List ℕ) (o : ObjectDecl) (out after whole : List ℕ) → j ≡ i + 1 → i < length names → i < length objects → n ≡ get_or names i n → o ≡ get_or objects i o → out ++ lines_text (object_lines (drop i names) (drop i objects)) ≡ whole → after ≡ out ++ object_line n o → after ++ lines_text (object_lines (drop j names) (drop j objects)) ≡ whole
+-- when the next part of a whole is written, the rest of it is left
+pub next_written : (out part rest whole after : List ℕ) → out ++ (part ++ rest) ≡ whole → after ≡ out ++ part → after ++ rest ≡ whole
+next_written out part rest whole after kept added = rw (added, append_assoc) kept
+
+-- what is written behind a text follows it
+pub written_behind : (text part before after : List ℕ) → before ≡ text → after ≡ before ++ part → after ≡ text ++ part
+written_behind text part before after is added = rw (added, is) refl
+
+-- the lines of the objects that are left: the line of the next object, and those of the others
+pub next_object : (names : List (List ℕ)) (objects : List ObjectDecl) (i : ℕ) (n : List ℕ) (o : ObjectDecl) → i < length names → i < length objects → n ≡ get_or names i n → o ≡ get_or objects i o
+    → lines_text (object_lines (drop i names) (drop i objects)) ≡ object_line n o ++ lines_text (object_lines (drop (i + 1) names) (drop (i + 1) objects))
 unfolding object_lines
-one_more_object names objects i j n o out after whole next named declared name object kept added =
+next_object names objects i n o named declared name object =
     let e = drop_more names i n named in
     let f = drop_more objects i o declared in
     let ns = drop (i + 1) names in
     let os = drop (i + 1) objects in
     let g : lines_text (object_lines (n ∷ ns) (o ∷ os)) ≡ object_line n o ++ lines_text (object_lines ns os) = lines_text-cons (object_words n o) (object_lines ns os) in
-    let a = append_assoc out (object_line n o) (lines_text (object_lines ns os)) in
-    cc (next, e, f, g, a, name, object, kept, added)
+    cc (e, f, g, name, object)
 
 no_declared : (ns : List (List ℕ)) → object_lines ns [] ≡ []
 unfolding object_lines
@@ -129,7 +137,3 @@ objects_done names objects i out whole h kept =
     let nil : lines_text [] ≡ [] = refl in
     let e = append-nil out in
     cc (s, nil, e, kept)
-
--- five texts behind each other
-pub five_parts : (out a b c d e o1 o2 o3 o4 whole : List ℕ) → o1 ≡ out ++ a → o2 ≡ o1 ++ b → o3 ≡ o2 ++ c → o4 ≡ o3 ++ d → whole ≡ a ++ (b ++ (c ++ (d ++ e))) → o4 ++ e ≡ out ++ whole
-five_parts out a b c d e o1 o2 o3 o4 whole h1 h2 h3 h4 w = rw (h4, h3, h2, h1, w) (simp append_assoc refl)

@@ -20,7 +20,7 @@ use Rattle.zeus_lease.specs.declared.step.LeaseStep.{LeaseStep}
 use Rattle.zeus_lease.specs.declared.step.LeaseStep.TheVariants as steps
 use Rattle.zeus_lease.specs.Kept.{IsKept, ask_of}
 use Rattle.zeus_lease.specs.Law.{IsLeftOut}
-use Rattle.zeus_lease.specs.Machine.{Machine, just, no_node, no_ask, node, wait, is_skewed, skew, went_on, pass_or_not, ask, hear, later, take, take_by, act, act_by, is_below_end, may_act, seen, made_in, view, happens, stepped}
+use Rattle.zeus_lease.specs.Machine.{Machine, just, no_node, no_ask, node, wait, is_skewed, skew, went_on, pass_or_not, ask, granted, hear, later, take, take_by, act, act_by, is_below_end, may_act, seen, made_in, view, happens, stepped}
 use Rattle.zeus_lease.specs.Scripts.{FitsStep}
 use Rattle.zeus_lease.proofs.Clocks.{front_on, front_on-here, front_on-next}
 use Rattle.zeus_lease.proofs.Ranges.{stepped_kept, stepped_nodes}
@@ -95,9 +95,15 @@ last_read (v ∷ vs) =
     let place : length (v ∷ vs) - 1 ≡ length vs = omega arith in
     rw place (last_at v vs)
 
--- a node that the code has changed in place
-pub changed_place : (m : Machine) (n : ℕ) (new : Node) → n < length m.nodes → set m.nodes n new ≡ put no_node m.nodes n new
-changed_place m n new lt = sym (put-set no_node m.nodes n new lt)
+-- the code read a node where it stands, and wrote it back changed
+pub record IsRewritten (m : Machine) (n : ℕ) (was now : Node) (nodes : List Node) : Type 0 where
+  pub there : n < length m.nodes
+  pub read : node m n ≡ was
+  pub written : nodes ≡ set m.nodes n now
+
+-- a node that was written back stands where it stood
+pub rewritten : (m : Machine) (n : ℕ) (was now : Node) (nodes : List Node) → IsRewritten m n was now nodes → nodes ≡ put no_node m.nodes n now
+rewritten m n was now nodes w = w.written ∙ sym (put-set no_node m.nodes n now w.there)
 
 -- the node of an ask is one that there is, and its clock is in the ranges
 pub found_ask : (m : Machine) (i : ℕ) (a : Ask) → IsKept m → slice_get m.asks i ≡ Some a → a.node < length m.nodes
@@ -105,16 +111,19 @@ found_ask m i a kept is =
     let found = found_at no_ask m.asks i a is in
     subst (λ (b : Ask). b.node < length m.nodes) found.0 (kept.ranges.asks i found.1).0
 
--- if an ask is of a member and its expiry and grant are written, then that is what hearing it does
-pub heard_row : (m : Machine) (i : ℕ) (a : Ask) (o : Option Ask) (nodes : List Node) (grants : List ℕ) (grant : ℕ) (was : Node) (expiry : ℕ) → o ≡ Some a → has a.node (last_view m.views) ≡ true → a.node < length m.nodes
-    → node m a.node ≡ was → expiry ≡ max was.expiry (m.service + wait m) → nodes ≡ set m.nodes a.node (record was { expiry = expiry }) → grants ≡ m.grants ++ i ∷ [] → grant ≡ length m.grants
-    → just (record m { nodes = nodes; grants = grants }) (answers.Granted grant) ≡ hear m i o
+-- if a node's expiry and its grant are written, then that is what granting its ask does
+pub granted_row : (m : Machine) (i n : ℕ) (nodes : List Node) (grants : List ℕ) (grant : ℕ) (was : Node) → IsRewritten m n was (record was { expiry = max was.expiry (m.service + wait m) }) nodes
+    → grants ≡ m.grants ++ i ∷ [] → grant ≡ length m.grants → just (record m { nodes = nodes; grants = grants }) (answers.Granted grant) ≡ granted m i n
+granted_row m i n nodes grants grant was w grants_is grant_is =
+    let put_is : nodes ≡ put no_node m.nodes n (record (node m n) { expiry = max (node m n).expiry (m.service + wait m) }) =
+    rewritten m n was (record was { expiry = max was.expiry (m.service + wait m) }) nodes w
+    ∙ ap (λ (v : Node). put no_node m.nodes n (record v { expiry = max v.expiry (m.service + wait m) })) (sym w.read) in
+    rw (put_is, grants_is, grant_is) refl
+
+-- if an ask is of a member, then hearing it grants it
+pub heard_row : (m : Machine) (i : ℕ) (a : Ask) (o : Option Ask) → o ≡ Some a → has a.node (last_view m.views) ≡ true → granted m i a.node ≡ hear m i o
 unfolding hear
-heard_row m i a o nodes grants grant was expiry is member there was_is expiry_is nodes_is grants_is grant_is =
-    let put_is : nodes ≡ put no_node m.nodes a.node (record (node m a.node) { expiry = max (node m a.node).expiry (m.service + wait m) }) =
-    nodes_is ∙ changed_place m a.node (record was { expiry = expiry }) there ∙ ap (λ (x : ℕ). put no_node m.nodes a.node (record was { expiry = x })) expiry_is
-    ∙ ap (λ (w : Node). put no_node m.nodes a.node (record w { expiry = max w.expiry (m.service + wait m) })) (sym was_is) in
-    rw (is, member, put_is, grants_is, grant_is) refl
+heard_row m i a o is member = rw (is, member) refl
 
 -- ---- leases
 
@@ -129,16 +138,20 @@ pub ended_row : (m : Machine) (i : ℕ) (a : Ask) (o : Option ℕ) → o ≡ Som
 unfolding take take_by
 ended_row m i a o is a_is over = rw (is, a_is, over) refl
 
--- if a grant is of a node that has not ended and its lease's end is written, then that is what taking it does
-pub held_row : (m : Machine) (i : ℕ) (a : Ask) (o : Option ℕ) (nodes : List Node) (was : Node) (end : ℕ) → o ≡ Some i → ask_of m i ≡ a → has a.node m.ended ≡ false → a.node < length m.nodes
-    → node m a.node ≡ was → end ≡ later was.end (a.clock + m.length) → nodes ≡ set m.nodes a.node (record was { end = Some end })
-    → just (record m { nodes = nodes }) (answers.Held end) ≡ take m o
-unfolding take take_by
-held_row m i a o nodes was end is a_is running there was_is end_is nodes_is =
-    let until : end ≡ later (node m a.node).end (a.clock + m.length) = end_is ∙ ap (λ (w : Node). later w.end (a.clock + m.length)) (sym was_is) in
+-- if an ask's node has not ended and its lease's end is written, then that is what taking a lease of the ask does
+pub held_row : (m : Machine) (a : Ask) (nodes : List Node) (was : Node) (end : ℕ) → has a.node m.ended ≡ false → IsRewritten m a.node was (record was { end = Some end }) nodes → end ≡ later was.end (a.clock + m.length)
+    → just (record m { nodes = nodes }) (answers.Held end) ≡ take_by m a
+unfolding take_by
+held_row m a nodes was end running w end_is =
+    let until : end ≡ later (node m a.node).end (a.clock + m.length) = end_is ∙ ap (λ (v : Node). later v.end (a.clock + m.length)) (sym w.read) in
     let put_is : nodes ≡ put no_node m.nodes a.node (record (node m a.node) { end = Some end }) =
-    nodes_is ∙ changed_place m a.node (record was { end = Some end }) there ∙ ap (λ (w : Node). put no_node m.nodes a.node (record w { end = Some end })) (sym was_is) in
-    rw (is, a_is, running, put_is, until) refl
+    rewritten m a.node was (record was { end = Some end }) nodes w ∙ ap (λ (v : Node). put no_node m.nodes a.node (record v { end = Some end })) (sym w.read) in
+    rw (running, put_is, until) refl
+
+-- taking a grant takes a lease of the ask that it answers
+pub taken_row : (m : Machine) (i : ℕ) (a : Ask) (o : Option ℕ) → o ≡ Some i → ask_of m i ≡ a → take_by m a ≡ take m o
+unfolding take
+taken_row m i a o is a_is = rw (is, a_is) refl
 
 -- ---- acts
 

@@ -1,5 +1,5 @@
 -- Objects as words: what is read is spelled so, and what is spelled so is read.
-use Rattle.std.proofs.Common.{◌≡◌, ℕ, ◌<◌, ◌≤◌, true, false, List, [], ◌∷◌, Option, Some, None, Ok, refl, arith}
+use Rattle.std.proofs.Common.{◌≡◌, ℕ, ◌<◌, ◌≤◌, true, false, List, [], ◌∷◌, Option, Some, None, Ok, refl, sym, ap, ◌∙◌, arith}
 use Rattle.std.specs.Prelude.{decimal, map}
 use Rattle.std.proofs.lemmas.Bool.{eq-eqb, eqb-true}
 use Rattle.std.proofs.lemmas.Bool.Decides.{nat_tests}
@@ -60,25 +60,26 @@ none_below : (b : ℕ) → IsBelow b []
 unfolding has
 none_below b k h = absurd cc
 
-made : (version nodes : ℕ) (names : List (List ℕ)) (w name : List ℕ) (ws1 ws2 ws3 : List (List ℕ)) (value : Value) (owner : ℕ) (others : List ℕ)
-    → name ≡ w → IsName name → find names name ≡ None → ws1 ≡ value_text value ∷ ws2 → FitsValue version value → ws2 ≡ decimal owner ∷ ws3 → owner < nodes → IsListed nodes (Some owner) 0 [] ws3 others
-    → IsObject version nodes names (w ∷ ws1) (name, record { value = value; owner = owner; replicas = with_node owner others })
-made version nodes names w name ws1 ws2 ws3 value owner others same is new e1 fits e2 lt listed =
+-- the further replicas that were read are what the words behind the owner spell
+others_spelled : (nodes owner : ℕ) (ws : List (List ℕ)) (others : List ℕ) → IsListed nodes (Some owner) 0 [] ws others → ws ≡ map decimal (without owner (with_node owner others))
+others_spelled nodes owner ws others listed =
     let all : others ≡ listed.ns = listed.whole in
     let rises : RisesFrom 0 others = rw all listed.rises in
     let none : has owner others ≡ false = rw all (listed.apart owner (owner_is owner)) in
+    rw (listed.words, without-with owner others none rises, ← all) refl
+
+-- a value, an owner and further replicas that were read make a declaration that keeps the rules
+keeps-declaration : (version nodes : ℕ) (value : Value) (owner : ℕ) (ws : List (List ℕ)) (others : List ℕ) → FitsValue version value → owner < nodes → IsListed nodes (Some owner) 0 [] ws others
+    → KeepsDeclaration version nodes record { value = value; owner = owner; replicas = with_node owner others }
+keeps-declaration version nodes value owner ws others fits lt listed =
+    let all : others ≡ listed.ns = listed.whole in
+    let rises : RisesFrom 0 others = rw all listed.rises in
     record {
-      words = rw (same, e1, e2, listed.words, without-with owner others none rises, ← all) refl;
-      name = is;
-      new = new;
-      value = fits;
-      declared = record {
-        owner = lt;
-        rising = RisesFrom-with_node 0 owner others (omega arith) rises;
-        replicas = IsBelow-with_node nodes owner others lt (rw all listed.below);
-        own_copy = has-with_same owner others;
-        number = λ one. number-in-version-1 value (rw one at fits);
-      };
+      owner = lt;
+      rising = RisesFrom-with_node 0 owner others (omega arith) rises;
+      replicas = IsBelow-with_node nodes owner others lt (rw all listed.below);
+      own_copy = has-with_same owner others;
+      number = λ one. number-in-version-1 value (rw one at fits);
     }
 
 -- if an object is read, then the words spell a new name and an object that fits
@@ -90,7 +91,15 @@ object_at-sound version nodes names (w ∷ ws) =
     read_bind _ _ _ (value_at-sound version ws) (λ value v.
     read_bind _ _ _ (range_at-sound 0 nodes value.1) (λ owner o.
     read_bind _ _ _ (nodes_after-sound nodes None (Some owner.0) [] 0 owner.1 (none_below 0)) (λ others l.
-    read_ok _ _ (made version nodes names w name ws value.1 owner.1 value.0 owner.0 others n.0 n.1 n.2 v.0 v.1 o.0 o.3 l)))))
+    let behind_value = o.0 ∙ ap (λ behind. decimal owner.0 ∷ behind) (others_spelled nodes owner.0 owner.1 others l) in
+    let behind_name = v.0 ∙ ap (λ behind. value_text value.0 ∷ behind) behind_value in
+    read_ok _ _ record {
+      words = ap (λ first. first ∷ ws) (sym n.0) ∙ ap (λ behind. name ∷ behind) behind_name;
+      name = n.1;
+      new = n.2;
+      value = v.1;
+      declared = keeps-declaration version nodes value.0 owner.0 owner.1 others v.1 o.3 l;
+    }))))
 
 -- ---- what is spelled is read
 

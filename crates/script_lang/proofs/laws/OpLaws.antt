@@ -1,5 +1,5 @@
 -- Operations as words: what is read is spelled so, and what is spelled so is read.
-use Rattle.std.proofs.Common.{◌≡◌, ◌≢◌, ℕ, ◌<◌, Bool, true, false, cond, List, [], ◌∷◌, ◌++◌, length, Option, Some, None, refl, ap, ◌∙◌}
+use Rattle.std.proofs.Common.{◌≡◌, ◌≢◌, ℕ, ◌<◌, Bool, true, false, cond, List, [], ◌∷◌, ◌++◌, length, Option, Some, None, refl, sym, ap, subst, ◌∙◌}
 use Rattle.std.specs.Prelude.{codes, ◌&&◌, ◌==◌}
 use Rattle.std.specs.Str.{bytes_eq}
 use Rattle.std.proofs.lemmas.Bool.{eq-eqb, eqb-true}
@@ -102,16 +102,6 @@ object_of_word-sound names before w =
     read_bind _ _ _ (read_or _ _ _ (find-sound names name)) (λ o f.
     read_cond (takes_object before o) _ _ _ (λ t. read_ok _ _ (f.1 ∙ p.0, f.0, t)) (λ g. read_err _ _)))
 
-op_made : (version : ℕ) (names : List (List ℕ)) (before : List Op) (w v : List ℕ) (ws : List (List ℕ)) (k : OpWord) (o : ℕ) (x : Op × List (List ℕ))
-    → w ≡ op_text k → length before ≢ 16 → nth [] names o ≡ v → o < length names → takes_object before o ≡ true → IsOperand version names k o ws x → IsOp version names before (w ∷ v ∷ ws) x
-op_made version names before w v ws k o x is room at lt takes operand = record {
-  spelled = rw (is, ← at) operand.spelled;
-  object = rw operand.object lt;
-  fits = operand.fits;
-  takes = rw operand.object takes;
-  room = room;
-}
-
 -- if an operation is read behind others, then the words spell one that fits there
 pub op_at-sound : (version : ℕ) (names : List (List ℕ)) (before : List Op) (ws : List (List ℕ)) → IfRead (op_at version names before ws) (IsOp version names before ws)
 unfolding op_at op_rest_at word_at
@@ -123,4 +113,11 @@ op_at-sound version names before (w ∷ v ∷ ws) =
     read_cond (length before == 16) _ _ _ (λ t. read_err _ _) (λ f.
     let room : length before ≢ 16 = λ e. let full = eq-eqb (length before) 16 e in absurd cc in
     read_bind _ _ _ (object_of_word-sound names before v) (λ o q.
-    read_weaken _ _ (λ x operand. op_made version names before w v ws k o x p.0 room q.0 q.1 q.2 operand) (operand_at-sound version names k o ws p.1))))
+    let word : w ∷ v ∷ ws ≡ op_text k ∷ nth [] names o ∷ ws = ap (λ first. first ∷ v ∷ ws) p.0 ∙ ap (λ second. op_text k ∷ second ∷ ws) (sym q.0) in
+    read_weaken _ _ (λ x operand. record {
+      spelled = word ∙ operand.spelled;
+      object = subst (λ (i : ℕ). i < length names) (sym operand.object) q.1;
+      fits = operand.fits;
+      takes = subst (λ (i : ℕ). takes_object before i ≡ true) (sym operand.object) q.2;
+      room = room;
+    }) (operand_at-sound version names k o ws p.1))))

@@ -14,7 +14,7 @@ use Rattle.script_lang.specs.Reads.{word_if}
 use Rattle.script_lang.specs.Transactions.{number_if, after_at, tx_at}
 use Rattle.script_lang.proofs.laws.FindLaws.{bytes_eq-true}
 use Rattle.script_lang.proofs.laws.NumberLaws.{range_at-sound, range_at-decimal}
-use Rattle.script_lang.proofs.laws.OpsLaws.{FitsAt, AreTxOps, AreNames, ops_at-sound, ops_at-words}
+use Rattle.script_lang.proofs.laws.OpsLaws.{FitsAt, AreNames, ops_at-sound, ops_at-words}
 use Rattle.script_lang.proofs.Sound.{IfRead, read_bind, read_ok}
 
 -- the words behind `tx`
@@ -43,14 +43,6 @@ fits_ops : (config : Config) (names : List (List ℕ)) (all : List Op) → lengt
 fits_ops config names [] same h = tt
 fits_ops config names (op ∷ all) same h = (record { object = rw (← same) h.0.object; version = h.0.fits }, fits_ops config names all same h.1)
 
-tx_made : (config : Config) (names : List (List ℕ)) (k : ℕ) (ws ws1 ws2 ws3 : List (List ℕ)) (node slot : ℕ) (after : Option ℕ) (tx : List Op) → length names ≡ length config.objects
-    → ws ≡ decimal node ∷ ws1 → node < config.nodes → ws1 ≡ decimal slot ∷ ws2 → slot < config.slots → ws2 ≡ after_words after ++ ws3 → IfSome after (λ j. j < k) → AreTxOps config.version names ws3 tx
-    → IsTxLine config names k ws record { node = node; slot = slot; after = after; tx = tx }
-tx_made config names k ws ws1 ws2 ws3 node slot after tx same e1 n e2 s e3 a ops = record {
-  spelled = rw (e1, e2, e3, ops.spelled) refl;
-  fits = record { node = n; slot = s; after = a; tx = ops.tx; ops = All-from_recursion (FitsOp config) tx (fits_ops config names tx same ops.fits) };
-}
-
 -- if a transaction is read, then the words spell one that fits
 pub tx_at-sound : (config : Config) (names : List (List ℕ)) (k : ℕ) (ws : List (List ℕ)) → length names ≡ length config.objects → IfRead (tx_at config.version config.nodes config.slots names k ws) (IsTxLine config names k ws)
 unfolding tx_at
@@ -59,7 +51,10 @@ tx_at-sound config names k ws same =
     read_bind _ _ _ (range_at-sound 0 config.slots node.1) (λ slot s.
     read_bind _ _ _ (after_at-sound k slot.1) (λ after a.
     read_bind _ _ _ (ops_at-sound config.version names after.1) (λ tx o.
-    read_ok _ _ (tx_made config names k ws node.1 slot.1 after.1 node.0 slot.0 after.0 tx same n.0 n.3 s.0 s.3 a.0 a.1 o)))))
+    read_ok _ _ record {
+      spelled = n.0 ∙ ap (λ behind. decimal node.0 ∷ behind) (s.0 ∙ ap (λ behind. decimal slot.0 ∷ behind) (a.0 ∙ ap (λ behind. after_words after.0 ++ behind) o.spelled));
+      fits = record { node = n.3; slot = s.3; after = a.1; tx = o.tx; ops = All-from_recursion (FitsOp config) tx (fits_ops config names tx same o.fits) };
+    }))))
 
 -- ---- what is spelled is read
 

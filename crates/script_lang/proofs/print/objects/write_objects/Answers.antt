@@ -1,6 +1,6 @@
-use Rattle.std.proofs.Common.{length-append}
+use Rattle.std.proofs.Common.{[], ◌∷◌, ◌++◌, List, ℕ, length, length-append, ap, sym, ◌∙◌}
 use Rattle.std.proofs.lemmas.Slice.Zip.{zip_turn, zip_end}
-use Rattle.script_lang.proofs.Printing.{one_more_object, objects_done}
+use Rattle.script_lang.proofs.Printing.{next_object, next_written, objects_done}
 use Rattle.script_lang.proofs.print.objects.write_objects.Goals as goal
 
 pub loop-name-preserved : goal.loop-name-preserved
@@ -10,7 +10,10 @@ loop-name-preserved c =
     let os = c.args.objects.now in
     let seen = c.loop-name.yielded in
     let here = zip_turn ns os seen c.into_iter-name-iterator.result c.loop-name.name-iterator c.next.new.self c.next.result (cc (start, c.zip-name-items.ensures.first, c.iter.ensures.rest)) (cc (start, c.zip-name-items.ensures.second.0)) c.loop-name.yielded_by (c.in-Some.name, c.in-Some.object) c.in-Some.is c.next.ensures.steps in
-    one_more_object ns os _ _ c.in-Some.name.now c.in-Some.object.now c.loop-name.out.items c.write_object.new.out.items _ (length-append seen _) here.0 here.1 (here.2 _) (here.3 _) c.loop-name.invariant c.in_ok-write_object.ensures
+    let next = next_object ns os (length seen) c.in-Some.name.now c.in-Some.object.now here.0 here.1 (here.2 _) (here.3 _) in
+    let kept = ap (λ (t : List ℕ). c.loop-name.out.items ++ t) (sym next) ∙ c.loop-name.invariant in
+    let count = length-append seen ((c.in-Some.name, c.in-Some.object) ∷ []) in
+    rw count (next_written c.loop-name.out.items _ _ _ c.write_object.new.out.items kept c.in_ok-write_object.ensures)
 
 pub returns : goal.returns
 returns c =

@@ -4,7 +4,7 @@ use Rattle.zeus_base.specs.TableLaws.{nth_read}
 use Rattle.zeus_lease.specs.Kept.{shown, ask_of}
 use Rattle.zeus_lease.specs.Machine.{no_ask, no_node, node}
 use Rattle.zeus_lease.specs.declared.state.Ask.{Ask}
-use Rattle.zeus_lease.proofs.Rows.{grant_there, ended_row, held_row}
+use Rattle.zeus_lease.proofs.Rows.{grant_there, ended_row, held_row, taken_row}
 use Rattle.zeus_lease.proofs.state.State.take.Goals as goal
 
 pub index-ask-requires : goal.index-ask-requires
@@ -48,4 +48,5 @@ returns c =
     let low : c.index-ask.result.now.node < length c.args.self.now.nodes.items = subst (λ (a : Ask). a.node < length c.args.self.now.nodes.items) ask (c.requires.kept.ranges.asks c.in-Some.asked there).0 in
     let was : node m c.index-ask.result.now.node ≡ c.index_mut-node.result.now = nth_read no_node c.args.self.now.nodes.items c.index-ask.result.now.node c.index_mut-node.result.now low (rw c.place.ensures at c.index_mut-node.ensures.value) in
     let nodes = ap (λ (k : ℕ). set c.args.self.now.nodes.items k (record c.index_mut-node.result.now { end = Some c.later-end.result })) c.place.ensures in
-    held_row m c.in-Some.asked c.index-ask.result.now _ _ c.index_mut-node.result.now c.later-end.result found ask (sym c.has.ensures ∙ c.if-has.false) low was c.later-end.ensures nodes
+    let held = held_row m c.index-ask.result.now _ c.index_mut-node.result.now c.later-end.result (sym c.has.ensures ∙ c.if-has.false) record { there = low; read = was; written = nodes } c.later-end.ensures in
+    held ∙ taken_row m c.in-Some.asked c.index-ask.result.now _ found ask
