@@ -1,4 +1,4 @@
-//! Numbers, names and values.
+//! Numbers, names and values. A report has millions of them, so the shortest functions are compiled into their callers.
 ghost use Rattle.std.specs.Prelude.{◌≡◌, ◌++◌, ◌∷◌, [], decimal, OnOk};
 ghost use Rattle.zeus_model.specs.ReportText.{line_end};
 ghost use Rattle.zeus_model.specs.ReportWords.{number, named_object};
@@ -16,6 +16,7 @@ const MOST_DIGITS: usize = 20;
 /// # Errors
 ///
 /// Memory ran out.
+#[inline(always)]
 pub fn append(out: &mut Vec<u8>, bytes: &[u8]) -> Result<(), NoMemory>
     ensures { OnOk result (out.new.items ≡ out.old.items ++ bytes.now) }
 {
@@ -27,6 +28,7 @@ pub fn append(out: &mut Vec<u8>, bytes: &[u8]) -> Result<(), NoMemory>
 /// # Errors
 ///
 /// Memory ran out.
+#[inline(always)]
 pub fn append_byte(out: &mut Vec<u8>, byte: u8) -> Result<(), NoMemory>
     ensures { OnOk result (out.new.items ≡ out.old.items ++ byte ∷ []) }
 {
@@ -47,6 +49,7 @@ pub fn write_decimal(out: &mut Vec<u8>, n: u64) -> Result<(), NoMemory>
 
 // The two bytes. Room for both is asked for once: this is most of what a report has of numbers.
 #[tactic(auto, using(std::proofs::Common::append_assoc))]
+#[inline(always)]
 fn append_pair(out: &mut Vec<u8>, first: u8, second: u8) -> Result<(), NoMemory>
     ensures { OnOk result (out.new.items ≡ out.old.items ++ first ∷ second ∷ []) }
 {
@@ -57,6 +60,7 @@ fn append_pair(out: &mut Vec<u8>, first: u8, second: u8) -> Result<(), NoMemory>
 }
 
 // The byte, and then the digits of the number, of which there may be many.
+#[inline(never)]
 fn write_digits_behind(out: &mut Vec<u8>, byte: u8, n: u64) -> Result<(), NoMemory>
     ensures { OnOk result (out.new.items ≡ out.old.items ++ byte ∷ decimal n) }
 {
@@ -72,6 +76,7 @@ fn write_digits_behind(out: &mut Vec<u8>, byte: u8, n: u64) -> Result<(), NoMemo
 ///
 /// Memory ran out.
 #[tactic(auto, using(std::proofs::lemmas::Fmt::decimal_digit))]
+#[inline(always)]
 pub fn write_behind(out: &mut Vec<u8>, byte: u8, n: u64) -> Result<(), NoMemory>
     ensures { OnOk result (out.new.items ≡ out.old.items ++ byte ∷ decimal n) }
 {
@@ -87,6 +92,7 @@ pub fn write_behind(out: &mut Vec<u8>, byte: u8, n: u64) -> Result<(), NoMemory>
 /// # Errors
 ///
 /// Memory ran out.
+#[inline(always)]
 pub fn write_number(out: &mut Vec<u8>, n: u64) -> Result<(), NoMemory>
     ensures { OnOk result (out.new.items ≡ out.old.items ++ number n) }
 {
