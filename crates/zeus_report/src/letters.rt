@@ -1,4 +1,4 @@
-//! What packets say.
+//! What packets say. Most lines of a report are packets, so what they share is compiled into its callers.
 ghost use Rattle.std.specs.Prelude.{◌≡◌, ◌++◌, OnOk};
 ghost use Rattle.zeus_model.specs.ReportText.{packet_lines};
 ghost use Rattle.zeus_model.specs.ReportWords.{number, named_object, stream_text, cause_text, writes_text};
@@ -74,6 +74,7 @@ fn want_text(want: Want) -> &'static [u8]
     }
 }
 
+#[inline(always)]
 fn write_place(out: &mut Vec<u8>, place: &Place) -> Result<(), NoMemory>
     ensures { OnOk result (out.new.items ≡ out.old.items ++ place_text place.now) }
 {
@@ -82,6 +83,7 @@ fn write_place(out: &mut Vec<u8>, place: &Place) -> Result<(), NoMemory>
 }
 
 // A proposal but for its wish.
+#[inline(always)]
 fn write_proposal(out: &mut Vec<u8>, proposal: &Proposal) -> Result<(), NoMemory>
     ensures { OnOk result (out.new.items ≡ out.old.items ++ proposal_text proposal.now) }
 {
@@ -174,7 +176,8 @@ fn write_packet(
 ) -> Result<(), NoMemory>
     ensures { OnOk result (out.new.items ≡ out.old.items ++ packet_line names.now number letter.now) }
 {
-    write_counted(out, b">", u64::from(letter.from.0))?;
+    append(out, b">")?;
+    write_number(out, u64::from(letter.from.0))?;
     write_number(out, u64::from(letter.to.0))?;
     write_number(out, u64::from(number))?;
     write_number(out, u64::from(letter.epoch))?;

@@ -16,6 +16,7 @@ pub(crate) fn write_stream(out: &mut Vec<u8>, stream: &Stream) -> Result<(), NoM
 }
 
 /// Writes a space and the stamp as `version.driver`.
+#[inline(always)]
 pub(crate) fn write_stamp(out: &mut Vec<u8>, stamp: &Stamp) -> Result<(), NoMemory>
     ensures { OnOk result (out.new.items ≡ out.old.items ++ word (stamp_text stamp.now)) }
 {
@@ -33,6 +34,7 @@ pub(crate) fn write_stamped(out: &mut Vec<u8>, text: &[u8], stamp: &Stamp) -> Re
 
 /// Writes a space and the numbers of the nodes with commas between, or `-` where there is none.
 #[tactic(auto, unfolding(zeus_model::specs::ReportWords::nodes_text, zeus_model::specs::ReportWords::more_nodes_text))]
+#[inline(always)]
 pub(crate) fn write_nodes(out: &mut Vec<u8>, set: NodeSet) -> Result<(), NoMemory>
     ensures { OnOk result (out.new.items ≡ out.old.items ++ word (nodes_text set)) }
 {
