@@ -130,19 +130,27 @@ notes-late me c txs client bound core (e ∷ es) n none is =
       | inr later ↦ notes-late me c txs client bound (after me c txs core e) es n none.1 later
     ]
 
+-- the note is of an acknowledgement, and has an earlier clock than each of the events
+pub record IsEarlyAck (events : List CellEvent) (n : Note) : Type 0 where
+  pub bound : ℕ
+  pub late : NoneBefore bound events
+  pub early : n.clock < bound
+  pub acked : n.end ≡ Acked
+
 -- an acknowledgement that was noted earlier still stands
-pub noted-early : (me : ℕ) (c : Config) (txs : List TxDecl) (client : ClientId) (bound : ℕ) (core : Core) (xs ys : List CellEvent) (n : Note)
-    → NoneBefore bound ys → n.clock < bound → n.end ≡ Acked → In n (notes_from me c txs client core (xs ++ ys)) → IsAcked (core_from me c txs core xs).book n.tx
+pub noted-early : (me : ℕ) (c : Config) (txs : List TxDecl) (client : ClientId) (core : Core) (xs ys : List CellEvent) (n : Note)
+    → IsEarlyAck ys n → In n (notes_from me c txs client core (xs ++ ys)) → IsAcked (core_from me c txs core xs).book n.tx
 unfolding notes_from core_from after
-noted-early me c txs client bound core [] ys n none less acked is =
-    let low : bound ≤ n.clock = notes-late me c txs client bound core ys n none is in absurd (omega arith)
-noted-early me c txs client bound core (e ∷ es) ys n none less acked is =
+noted-early me c txs client core [] ys n a is =
+    let early = a.early in
+    let low : a.bound ≤ n.clock = notes-late me c txs client a.bound core ys n a.late is in absurd (omega arith)
+noted-early me c txs client core (e ∷ es) ys n a is =
     elim (In-append n (awaited txs client (ends_at me c txs core e ++ stops_at me txs core e)) _ is) [
       | inl first ↦
           let t = event-told me c txs core e n (awaited-In txs client _ n first) in
-          let a = notes_down-acks e.deed me c.degree txs core.book core.node in
-          acked-stays me c txs (after me c txs core e) es n.tx (a.made n.tx (t.told acked))
-      | inr later ↦ noted-early me c txs client bound (after me c txs core e) es ys n none less acked later
+          let acks = notes_down-acks e.deed me c.degree txs core.book core.node in
+          acked-stays me c txs (after me c txs core e) es n.tx (acks.made n.tx (t.told a.acked))
+      | inr later ↦ noted-early me c txs client (after me c txs core e) es ys n a later
     ]
 
 -- ---- stops

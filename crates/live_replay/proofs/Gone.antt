@@ -85,13 +85,18 @@ unfolding IsEmpty
 no_events [] h = refl
 no_events (e ∷ es) h = absurd h
 
-event-lost : (me : ℕ) (c : Config) (txs : List TxDecl) (core : Core) (e : CellEvent) (es : List CellEvent) (n : Note) → (is_halt e.deed ≡ true → IsEmpty es) → n.end ≢ Acked
-    → In n (ends_at me c txs core e ++ stops_at me txs core e) → IsLostIn (core_from me c txs (after me c txs core e) es) n.tx
+-- the note is one of these, and says that a transaction was refused or that its node was stopped
+pub record TellsLoss (ns : List Note) (n : Note) : Type 0 where
+  pub among : In n ns
+  pub ended : n.end ≢ Acked
+
+event-lost : (me : ℕ) (c : Config) (txs : List TxDecl) (core : Core) (e : CellEvent) (es : List CellEvent) (n : Note) → (is_halt e.deed ≡ true → IsEmpty es)
+    → TellsLoss (ends_at me c txs core e ++ stops_at me txs core e) n → IsLostIn (core_from me c txs (after me c txs core e) es) n.tx
 unfolding ends_at stops_at core_from after
-event-lost me c txs core e es n last ended is =
-    elim (In-append n (ends_at me c txs core e) (stops_at me txs core e) is) [
+event-lost me c txs core e es n last t =
+    elim (In-append n (ends_at me c txs core e) (stops_at me txs core e) t.among) [
       | inl own ↦ elim (In-append n (acked_at e.clock (notes_down me c.degree txs core.book core.node e.deed).acked) _ own) [
-        | inl a ↦ absurd (ended (acked_at-end e.clock _ n a))
+        | inl a ↦ absurd (t.ended (acked_at-end e.clock _ n a))
         | inr r ↦ inl (refused-stays me c txs (after me c txs core e) es n.tx (made r))
       ]
       | inr stops ↦
@@ -103,14 +108,14 @@ event-lost me c txs core e es n last ended is =
     made r = refused-made e.deed me c.degree txs core.book core.node e.clock n r
 
 -- of what a note says that it was refused or stopped, this holds at the end
-lost-noted : (kill : Option Kill) (place me : ℕ) (c : Config) (txs : List TxDecl) (client : ClientId) (core : Core) (es : List CellEvent) (n : Note) → HaltsOnly kill me place es → n.end ≢ Acked
-    → In n (notes_from me c txs client core es) → IsLostIn (core_from me c txs core es) n.tx
+lost-noted : (kill : Option Kill) (place me : ℕ) (c : Config) (txs : List TxDecl) (client : ClientId) (core : Core) (es : List CellEvent) (n : Note) → HaltsOnly kill me place es
+    → TellsLoss (notes_from me c txs client core es) n → IsLostIn (core_from me c txs core es) n.tx
 unfolding notes_from core_from HaltsOnly
-lost-noted kill place me c txs client core [] n h ended is = In-nothing n is
-lost-noted kill place me c txs client core (e ∷ es) n h ended is =
-    elim (In-append n (awaited txs client (ends_at me c txs core e ++ stops_at me txs core e)) _ is) [
-      | inl first ↦ event-lost me c txs core e es n h.1 ended (awaited-In txs client _ n first)
-      | inr later ↦ lost-noted kill (suc place) me c txs client (after me c txs core e) es n h.2 ended later
+lost-noted kill place me c txs client core [] n h t = In-nothing n t.among
+lost-noted kill place me c txs client core (e ∷ es) n h t =
+    elim (In-append n (awaited txs client (ends_at me c txs core e ++ stops_at me txs core e)) _ t.among) [
+      | inl first ↦ event-lost me c txs core e es n h.1 (record { among = awaited-In txs client _ n first; ended = t.ended })
+      | inr later ↦ lost-noted kill (suc place) me c txs client (after me c txs core e) es n h.2 (record { among = later; ended = t.ended })
     ]
 
 -- ---- what is begun was handed over
@@ -155,7 +160,8 @@ noted-home p k es j i h noted =
     let ns = es.cells n in
     let whole : In noted.note (notes n p.config p.txs noted.client (ns ++ [])) = rw (append-nil ns) noted.is in
     let acked : IsAcked (core n p.config p.txs ns).book noted.note.tx =
-    noted-early n p.config p.txs noted.client (noted.note.clock + 1) (start_core n p.config p.txs) ns [] noted.note tt (omega arith) noted.acked whole in
+    noted-early n p.config p.txs noted.client (start_core n p.config p.txs) ns [] noted.note
+    (record { bound = noted.note.clock + 1; late = tt; early = omega arith; acked = noted.acked }) whole in
     rw (home-core p k es i h) (subst (λ (t : ℕ). IsAcked (core n p.config p.txs ns).book t) noted.tx acked)
 
 -- what a begun transaction waits for is acknowledged
@@ -288,7 +294,7 @@ known-lost p k es id t g h at =
     let noted : In g.note (notes n p.config p.txs id (es.cells n)) =
     subst (λ (zs : List Note). In g.note zs) (cell.notes id) (front-In ((k.clients id).notes n) ((k.cells n).notes id) g.note (meets.notes id n at there) g.known) in
     let lost : IsLostIn (core n p.config p.txs (es.cells n)) x =
-    lost-noted p.kill 0 n p.config p.txs id (start_core n p.config p.txs) (es.cells n) g.note cell.halting g.ended noted in
+    lost-noted p.kill 0 n p.config p.txs id (start_core n p.config p.txs) (es.cells n) g.note cell.halting (record { among = noted; ended = g.ended }) in
     let here : IsLostIn (home p k x) x = rw (home-core p k es x h) lost in
     elim here [
       | inl refused ↦ refused-lost p k es x h refused

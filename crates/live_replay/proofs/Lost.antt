@@ -29,7 +29,7 @@ use Rattle.live_replay.specs.Replayed.{IsLive, IsLost}
 use Rattle.live_replay.proofs.BookParts.{IsRefusedIn, refusal, refused-back}
 use Rattle.live_replay.proofs.Causes.{tx-fits}
 use Rattle.live_replay.proofs.Closings.{home-there, last_world, txs-same}
-use Rattle.live_replay.proofs.Gone.{no_events}
+use Rattle.live_replay.proofs.Gone.{TellsLoss, no_events}
 use Rattle.live_replay.proofs.Halting.{HasHalted, run-halted, steps-halted}
 use Rattle.live_replay.proofs.Serving.{start-node}
 use Rattle.live_replay.proofs.Results.{replay-book, replay-cells, replay-fits, replay-steps}
@@ -102,11 +102,11 @@ unfolding IsTold
 told-later xs ys x t = (t.0, In-append_right t.0 xs ys t.1, t.2, t.3)
 
 -- a note that an event makes is told
-event-tells : (me : ℕ) (c : Config) (txs : List TxDecl) (client : ClientId) (core : Core) (e : CellEvent) (es : List CellEvent) (n : Note) → In n (ends_at me c txs core e ++ stops_at me txs core e)
-    → is_awaited txs client n.tx ≡ true → travels n.clock ≡ true → n.end ≢ Acked → IsTold (notes_from me c txs client core (e ∷ es)) n.tx
+event-tells : (me : ℕ) (c : Config) (txs : List TxDecl) (client : ClientId) (core : Core) (e : CellEvent) (es : List CellEvent) (n : Note)
+    → TellsLoss (ends_at me c txs core e ++ stops_at me txs core e) n → is_awaited txs client n.tx ≡ true → travels n.clock ≡ true → IsTold (notes_from me c txs client core (e ∷ es)) n.tx
 unfolding notes_from IsTold
-event-tells me c txs client core e es n is waits far ended =
-    (n, In-append_left n (awaited txs client (ends_at me c txs core e ++ stops_at me txs core e)) _ (awaited-kept txs client _ n is waits far), refl, ended)
+event-tells me c txs client core e es n t waits far =
+    (n, In-append_left n (awaited txs client (ends_at me c txs core e ++ stops_at me txs core e)) _ (awaited-kept txs client _ n t.among waits far), refl, t.ended)
 
 later-tells : (me : ℕ) (c : Config) (txs : List TxDecl) (client : ClientId) (core : Core) (e : CellEvent) (es : List CellEvent) (x : ℕ) → IsTold (notes_from me c txs client (after me c txs core e) es) x
     → IsTold (notes_from me c txs client core (e ∷ es)) x
@@ -130,7 +130,8 @@ refused-told me c txs client core (e ∷ es) x waits clocks far h =
             let late = core-clock me c txs next es clocks.1 in
             let note = refusal e.clock x in
             let answered = In-append_right note (acked_at e.clock (notes_down me c.degree txs core.book core.node e.deed).acked) (refused_at c.degree e.clock (does txs core.node e.deed).answer) is in
-            inr (event-tells me c txs client core e es note (In-append_left note _ (stops_at me txs core e) answered) waits (travels-below e.clock _ late far) (not_acked note refl))
+            inr (event-tells me c txs client core e es note (record { among = In-append_left note _ (stops_at me txs core e) answered; ended = not_acked note refl }) waits
+            (travels-below e.clock _ late far))
       ]
       | inr later ↦ inr (later-tells me c txs client core e es x later)
     ]
@@ -199,7 +200,7 @@ halted-told me c txs client core [] e x halted h =
     let unended = halted-open me c txs client core e x halted h in
     let note : Note = record { tx = x; clock = e.clock; end = Stopped } in
     let stops = stops-In (is_halt e.deed) me txs core e.clock x (halt_is e.deed halted) h.there unended in
-    event-tells me c txs client core e [] note (In-append_right note (ends_at me c txs core e) _ stops) h.awaited h.clock (λ acked. absurd cc)
+    event-tells me c txs client core e [] note (record { among = In-append_right note (ends_at me c txs core e) _ stops; ended = λ acked. absurd cc }) h.awaited h.clock
 halted-told me c txs client core (d ∷ before) e x halted h =
     later-tells me c txs client core d (before ++ e ∷ []) x (halted-told me c txs client (after me c txs core d) before e x halted h)
 
@@ -297,19 +298,27 @@ home-told p k es id x h less waits lost far =
     true_or_false true = inl refl
     true_or_false false = inr refl
 
+-- a client's transaction waits behind one that is lost at the end, and the client has taken all notes of that one's cell, whose clock travels
+pub record WaitsForLost (p : Plan) (k : Cluster) (id : ClientId) (t x : ℕ) : Type 0 where
+  pub own : is_of p.txs id t ≡ true
+  pub waits : waits_behind p.txs t x ≡ true
+  pub lost : IsLost (run (start p.config p.txs) (merged p.config k)) x
+  pub clock : travels ((k.cells (declared p.txs x).node).core).clock ≡ true
+  pub notes : (k.clients id).notes (declared p.txs x).node ≡ (k.cells (declared p.txs x).node).notes id
+
 -- if a transaction waits behind a lost one and its client has the notes of that one's node, then the client passes over it
-pub replay-lost_gone : (p : Plan) (k : Cluster) (es : Events) (id : ClientId) (t x : ℕ) → IsLive p k es → IsThere p.config id → is_of p.txs id t ≡ true → waits_behind p.txs t x ≡ true
-    → IsLost (run (start p.config p.txs) (merged p.config k)) x → travels ((k.cells (declared p.txs x).node).core).clock ≡ true
-    → (k.clients id).notes (declared p.txs x).node ≡ (k.cells (declared p.txs x).node).notes id → IsGone p.txs (k.clients id) t
+pub replay-lost_gone : (p : Plan) (k : Cluster) (es : Events) (id : ClientId) (t x : ℕ) → IsLive p k es → IsThere p.config id → WaitsForLost p k id t x → IsGone p.txs (k.clients id) t
 unfolding IsTold
-replay-lost_gone p k es id t x h at own waits lost far all =
+replay-lost_gone p k es id t x h at w =
+    let waits = w.waits in
+    let all = w.notes in
     let n = (declared p.txs x).node in
     let txs = h.txs in
     let cluster = h.cluster in
     let cell = cluster.cells n (home-there p k es x h) in
     let less = after-declared p.config p.txs t x txs.each waits in
-    let awaited_x = waits-among p.txs id x (below (length p.txs)) t (In-numbers 0 (length p.txs) t (omega arith) (omega (arith, less.0))) own waits in
-    let told = home-told p k es id x h less.1 awaited_x lost far in
+    let awaited_x = waits-among p.txs id x (below (length p.txs)) t (In-numbers 0 (length p.txs) t (omega arith) (omega (arith, less.0))) w.own waits in
+    let told = home-told p k es id x h less.1 awaited_x w.lost w.clock in
     let taken : In told.0 ((k.clients id).notes n) = rw (all, cell.notes id) told.1 in
     record {
       note = told.0;

@@ -134,16 +134,23 @@ unfolding waits_for
 waits-none None w h = refl
 waits-none (Some i) w h = where_false (is_none (record_of w.book i).acked) (Waits i) (not_none (record_of w.book i).acked h)
 
+-- what holds at a turn: it stands between the others, and the world mirrors those before it
+pub record AtTurn (p : Plan) (es : Events) (past : List Turn) (t : Turn) (future : List Turn) (w : World) : Type 0 where
+  pub at : IsAt p.config es past t future
+  pub mirrors : Mirrors p.config p.txs past w
+
 -- an acknowledgement that was noted before the turn stands in the world
-pub noted-acked : (p : Plan) (es : Events) (past : List Turn) (t : Turn) (future : List Turn) (w : World) (j : Job) (i : ℕ) → Mirrors p.config p.txs past w → IsAt p.config es past t future
+pub noted-acked : (p : Plan) (es : Events) (past : List Turn) (t : Turn) (future : List Turn) (w : World) (j : Job) (i : ℕ) → AtTurn p es past t future w
     → j.seen < turn_clock t → WasNoted p es j i → is_some (record_of w.book i).acked ≡ true
-noted-acked p es past t future w j i m at less noted =
+noted-acked p es past t future w j i a less noted =
     let n = (declared p.txs i).node in
+    let m = a.mirrors in
+    let at = a.at in
     let seen = noted.seen in
     let split : In noted.note (notes n p.config p.txs noted.client (cell_part n past ++ cell_part n (t ∷ future))) =
     subst (λ (zs : List CellEvent). In noted.note (notes n p.config p.txs noted.client zs)) (at.cells n noted.there) noted.is in
-    let here_acked = noted-early n p.config p.txs noted.client (turn_clock t) (start_core n p.config p.txs) (cell_part n past) (cell_part n (t ∷ future)) noted.note
-    (at.late n) (omega arith) noted.acked split in
+    let here_acked = noted-early n p.config p.txs noted.client (start_core n p.config p.txs) (cell_part n past) (cell_part n (t ∷ future)) noted.note
+    (record { bound = turn_clock t; late = at.late n; early = omega arith; acked = noted.acked }) split in
     let agree = m.books n noted.there in
     let run_state = agree.own i refl in
     run_state.acked ∙ subst (λ (x : ℕ). is_some (record_of (core_of p.config p.txs n past).book x).acked ≡ true) noted.tx here_acked
@@ -227,15 +234,24 @@ finds-begin p k es past me e future w j a began =
     let noted : IfSome (declared p.txs j.tx).after (λ i. WasNoted p es j i) =
     after-noted p k es me j e (at-event p k es past me e future w a) a.fit began fresh.own deed.fits in
     let acked : IfSome (declared p.txs j.tx).after (λ i. is_some (record_of w.book i).acked ≡ true) =
-    IfSome_then (declared p.txs j.tx).after noted (λ i n. noted-acked p es past (cell_turn me e) future w j i m a.at deed.above n) in
+    IfSome_then (declared p.txs j.tx).after noted (λ i n. noted-acked p es past (cell_turn me e) future w j i (record { at = a.at; mirrors = m }) deed.above n) in
     three_none _ _ _ (where_false _ Twice unbegun) (where_false _ (BeginAnswer Stopped) running)
     (waits-none (declared w.txs j.tx).after w (subst (λ (ts : List TxDecl). IfSome (declared ts j.tx).after (λ i. is_some (record_of w.book i).acked ≡ true)) (sym m.declared) acked))
 
+-- the event takes a packet of a sender
+pub record TakesPacket (e : CellEvent) : Type 0 where
+  pub sender : ℕ
+  pub packet : Stamped
+  pub took : e.deed ≡ Took sender packet
+
 -- if a cell took a packet, then its letter is on the link in the world, at its number
-pub finds-packet : (p : Plan) (k : Cluster) (es : Events) (past : List Turn) (me : ℕ) (e : CellEvent) (future : List Turn) (w : World) (sender : ℕ) (q : Stamped) → AtCell p k es past me e future w
-    → e.deed ≡ Took sender q → nth_letter (link w.links sender me) q.number ≡ Some q.letter
+pub finds-packet : (p : Plan) (k : Cluster) (es : Events) (past : List Turn) (me : ℕ) (e : CellEvent) (future : List Turn) (w : World) → AtCell p k es past me e future w
+    → (t : TakesPacket e) → nth_letter (link w.links t.sender me) t.packet.number ≡ Some t.packet.letter
 unfolding sends entry_of DeedFits stamp
-finds-packet p k es past me e future w sender q a took =
+finds-packet p k es past me e future w a t =
+    let sender : ℕ = t.sender in
+    let q : Stamped = t.packet in
+    let took : e.deed ≡ Took sender q = t.took in
     let deed = at-deed p k es past me e future w (Took sender q) a took in
     let there_sender : sender < p.config.nodes = deed.fits in
     let less : q.clock < e.clock = deed.above in

@@ -26,7 +26,7 @@ use Rattle.live_replay.proofs.Mirrors.{Mirrors}
 use Rattle.live_replay.proofs.Orders.{turns-order, merged-turns}
 use Rattle.live_replay.proofs.Posting.{letters}
 use Rattle.live_replay.proofs.Replay.{IsOrder, AtCell, at-event, at-deed, at-fresh, noted-acked}
-use Rattle.live_replay.proofs.Turns.{order-mirrors, turn-answer, turn-acked, at-cell, turn-fits}
+use Rattle.live_replay.proofs.Turns.{HasFollowed, order-mirrors, turn-answer, turn-acked, at-cell, turn-fits}
 
 -- a split of the turns is an order, and its front has led to what it is
 abbrev pub Split : Plan → Events → List Turn → List Turn → Type 0
@@ -40,6 +40,12 @@ split-order p k es past future h is = subst (λ (ts : List Turn). IsOrder p.conf
 pub split-mirrors : (p : Plan) (k : Cluster) (es : Events) (past future : List Turn) → IsLive p k es → Split p es past future → Mirrors p.config p.txs past (world_after p past)
 split-mirrors p k es past future h is =
     let txs = h.txs in order-mirrors p k es past future h.limits txs.each h.cluster (split-order p k es past future h is)
+
+-- the world after the first turns of a live run has followed them
+followed : (p : Plan) (k : Cluster) (es : Events) (past future : List Turn) → IsLive p k es → Split p es past future → HasFollowed p k es past future (world_after p past)
+followed p k es past future h is =
+    let txs = h.txs in
+    record { cluster = h.cluster; fit = txs.each; order = split-order p k es past future h is; mirrors = split-mirrors p k es past future h is }
 
 -- the world after all steps of a live run is what all its turns have made of it
 pub whole-mirrors : (p : Plan) (k : Cluster) (es : Events) → IsLive p k es → Mirrors p.config p.txs (turns p.config es) (run (start p.config p.txs) (merged p.config k))
@@ -67,9 +73,8 @@ replay-clocks p k es h = let o = turns-order p k es h.cluster in o.rises
 each-fits : (p : Plan) (k : Cluster) (es : Events) (past future : List Turn) → IsLive p k es → Split p es past future → All (StepFits p.config p.txs) (map turn_step future)
 each-fits p k es past [] h is = All-nil (StepFits p.config p.txs)
 each-fits p k es past (t ∷ ts) h is =
-    let txs = h.txs in
     All-cons (StepFits p.config p.txs) (turn_step t) (map turn_step ts)
-    (turn-fits t p k es past ts (world_after p past) h.cluster txs.each (split-order p k es past (t ∷ ts) h is) (split-mirrors p k es past (t ∷ ts) h is))
+    (turn-fits t p k es past ts (world_after p past) (followed p k es past (t ∷ ts) h is))
     (each-fits p k es (past ++ t ∷ []) ts h (append_assoc past (t ∷ []) ts ∙ is))
 
 -- the merged steps of a live run fit its configuration and transactions
@@ -81,16 +86,12 @@ replay-fits p k es h = rw (merged-turns p k es h.cluster) (each-fits p k es [] (
 -- each step of the replay answers what the cell or the service answered
 pub replay-answer : (p : Plan) (k : Cluster) (es : Events) (past : List Turn) (t : Turn) (future : List Turn) → IsLive p k es → Split p es past (t ∷ future)
     → (happens (world_after p past) (turn_step t)).answer ≡ given p past t
-replay-answer p k es past t future h is =
-    let txs = h.txs in
-    turn-answer t p k es past future (world_after p past) h.cluster txs.each (split-order p k es past (t ∷ future) h is) (split-mirrors p k es past (t ∷ future) h is)
+replay-answer p k es past t future h is = turn-answer t p k es past future (world_after p past) (followed p k es past (t ∷ future) h is)
 
 -- each step of the replay acknowledges what the cell acknowledged
 pub replay-acked : (p : Plan) (k : Cluster) (es : Events) (past : List Turn) (t : Turn) (future : List Turn) → IsLive p k es → Split p es past (t ∷ future)
     → (happens (world_after p past) (turn_step t)).acked ≡ acknowledged p past t
-replay-acked p k es past t future h is =
-    let txs = h.txs in
-    turn-acked t p k es past future (world_after p past) h.cluster txs.each (split-order p k es past (t ∷ future) h is) (split-mirrors p k es past (t ∷ future) h is)
+replay-acked p k es past t future h is = turn-acked t p k es past future (world_after p past) (followed p k es past (t ∷ future) h is)
 
 deed-hits : (d : Deed) (txs : List TxDecl) (n : Node) → IsMissed (does txs n d).answer → ⊥
 unfolding does IsMissed
@@ -116,9 +117,7 @@ replay-hits p k es past t future h is missed = given-hits t p past (subst IsMiss
 -- where a cell's event stands in a live run, what holds at a cell's events holds in the world before it
 pub at-begin : (p : Plan) (k : Cluster) (es : Events) (past : List Turn) (n : ℕ) (e : CellEvent) (future : List Turn) → IsLive p k es → Split p es past (cell_turn n e ∷ future)
     → AtCell p k es past n e future (world_after p past)
-at-begin p k es past n e future h is =
-    let txs = h.txs in
-    at-cell p k es past n e future (world_after p past) h.cluster txs.each (split-order p k es past (cell_turn n e ∷ future) h is) (split-mirrors p k es past (cell_turn n e ∷ future) h is)
+at-begin p k es past n e future h is = at-cell p k es past n e future (world_after p past) (followed p k es past (cell_turn n e ∷ future) h is)
 
 begun-answer : (p : Plan) (n : ℕ) (core : Core) (d : Deed) (j : Job) → d ≡ Began j → BeginsFresh n p.txs core d → (does p.txs core.node d).answer ≡ BeginAnswer Begun
 unfolding BeginsFresh does
@@ -145,7 +144,7 @@ replay-after p k es past n e future j h is began =
     let fresh : IsFresh n p.txs (core_of p.config p.txs n past) j = deed.fresh in
     IfSome_then (declared p.txs j.tx).after
     (after-noted p k es n j e (at-event p k es past n e future w a) a.fit began fresh.own deed.fits)
-    (λ i noted. noted-acked p es past (cell_turn n e) future w j i a.mirrors a.at deed.above noted)
+    (λ i noted. noted-acked p es past (cell_turn n e) future w j i (record { at = a.at; mirrors = a.mirrors }) deed.above noted)
 
 -- ---- the last world
 

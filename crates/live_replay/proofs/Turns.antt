@@ -24,7 +24,7 @@ use Rattle.live_replay.proofs.Early.{halted-early, HasView}
 use Rattle.live_replay.specs.Replayed.{core_of, given, acknowledged}
 use Rattle.live_replay.proofs.Mirrors.{Mirrors, CellStep, cell-mirrors, acted_answer, acted_acked}
 use Rattle.live_replay.proofs.Reached.{reached-current}
-use Rattle.live_replay.proofs.Replay.{IsOrder, IsAt, order-at, served-part, AtCell, at-fits, at-fresh, at-deed, finds-begin, finds-packet, finds-view}
+use Rattle.live_replay.proofs.Replay.{IsOrder, order-at, served-part, AtCell, at-fits, at-fresh, at-deed, finds-begin, finds-packet, finds-view}
 use Rattle.live_replay.proofs.Serving.{ServiceStep, service-mirrors, start-mirrors, happens-serves}
 use Rattle.live_replay.proofs.Tries.{own-try_slot}
 use Rattle.live_model.specs.Items.{Sight}
@@ -63,7 +63,7 @@ deed-finds (Began j) p k es past me e future w a is =
     let deed = at-deed p k es past me e future w (Began j) a is in
     (subst (λ (ts : List TxDecl). (declared ts j.tx).node ≡ me) (sym m.declared) deed.fresh.own, finds-begin p k es past me e future w j a is)
 deed-finds (Tried s) p k es past me e future w a is = tt
-deed-finds (Took sender q) p k es past me e future w a is = finds-packet p k es past me e future w sender q a is
+deed-finds (Took sender q) p k es past me e future w a is = finds-packet p k es past me e future w a (record { sender = sender; packet = q; took = is })
 deed-finds Ticked p k es past me e future w a is = tt
 deed-finds Halted p k es past me e future w a is = tt
 deed-finds (Saw v) p k es past me e future w a is =
@@ -83,11 +83,21 @@ cell-step p k es past me e future w a =
 
 -- ---- an event of the service
 
+-- some turns and those behind them are an order of a cluster's events, and the world mirrors the former
+pub record HasFollowed (p : Plan) (k : Cluster) (es : Events) (past future : List Turn) (w : World) : Type 0 where
+  pub cluster : IsCluster p k es
+  pub fit : FitTxs p.config 0 p.txs
+  pub order : IsOrder p.config es (past ++ future)
+  pub mirrors : Mirrors p.config p.txs past w
+
 -- if the world mirrors the events before one of the service, then it has what that event needs
-pub service-step : (p : Plan) (k : Cluster) (es : Events) (past : List Turn) (e : ServiceEvent) (future : List Turn) (w : World) → IsCluster p k es → IsAt p.config es past (service_turn e) future
-    → Mirrors p.config p.txs past w → ServiceStep p.config past w e
+pub service-step : (p : Plan) (k : Cluster) (es : Events) (past : List Turn) (e : ServiceEvent) (future : List Turn) (w : World) → HasFollowed p k es past (service_turn e ∷ future) w
+    → ServiceStep p.config past w e
 unfolding entry_of
-service-step p k es past e future w h at m =
+service-step p k es past e future w f =
+    let h = f.cluster in
+    let m = f.mirrors in
+    let at = order-at p.config es past (service_turn e) future f.order in
     let service = h.service in
     let split : es.service ≡ service_part past ++ e ∷ service_part future = at.service ∙ ap (λ (zs : List ServiceEvent). service_part past ++ zs) (served-part e future) in
     let there : e.node < p.config.nodes =
@@ -107,64 +117,65 @@ service-step p k es past e future w h at m =
 -- ---- the whole order
 
 -- if the world mirrors the events before one of a cell, then what holds at a cell's events holds in it
-pub at-cell : (p : Plan) (k : Cluster) (es : Events) (past : List Turn) (me : ℕ) (e : CellEvent) (future : List Turn) (w : World) → IsCluster p k es → FitTxs p.config 0 p.txs
-    → IsOrder p.config es (past ++ cell_turn me e ∷ future) → Mirrors p.config p.txs past w → AtCell p k es past me e future w
-at-cell p k es past me e future w h fit o m =
-    record { cluster = h; fit = fit; there = o.places me e (In-middle (cell_turn me e) past future); at = order-at p.config es past (cell_turn me e) future o; mirrors = m }
+pub at-cell : (p : Plan) (k : Cluster) (es : Events) (past : List Turn) (me : ℕ) (e : CellEvent) (future : List Turn) (w : World) → HasFollowed p k es past (cell_turn me e ∷ future) w
+    → AtCell p k es past me e future w
+at-cell p k es past me e future w f =
+    let o = f.order in
+    record { cluster = f.cluster; fit = f.fit; there = o.places me e (In-middle (cell_turn me e) past future); at = order-at p.config es past (cell_turn me e) future o; mirrors = f.mirrors }
 
-turn-mirrors : (t : Turn) (p : Plan) (k : Cluster) (es : Events) (past future : List Turn) (w : World) → IsCluster p k es → FitTxs p.config 0 p.txs
-    → IsOrder p.config es (past ++ t ∷ future) → Mirrors p.config p.txs past w → Mirrors p.config p.txs (past ++ t ∷ []) (stepped w (turn_step t))
+turn-mirrors : (t : Turn) (p : Plan) (k : Cluster) (es : Events) (past future : List Turn) (w : World) → HasFollowed p k es past (t ∷ future) w
+    → Mirrors p.config p.txs (past ++ t ∷ []) (stepped w (turn_step t))
 unfolding entry_of
-turn-mirrors (cell_turn me e) p k es past future w h fit o m =
-    cell-mirrors p.config p.txs past w me e m (cell-step p k es past me e future w (at-cell p k es past me e future w h fit o m))
-turn-mirrors (service_turn e) p k es past future w h fit o m =
-    service-mirrors p.config p.txs past w e m (service-step p k es past e future w h (order-at p.config es past (service_turn e) future o) m)
+turn-mirrors (cell_turn me e) p k es past future w f =
+    cell-mirrors p.config p.txs past w me e f.mirrors (cell-step p k es past me e future w (at-cell p k es past me e future w f))
+turn-mirrors (service_turn e) p k es past future w f = service-mirrors p.config p.txs past w e f.mirrors (service-step p k es past e future w f)
 
-run-mirrors : (mid : List Turn) (p : Plan) (k : Cluster) (es : Events) (past future : List Turn) (w : World) → IsCluster p k es → FitTxs p.config 0 p.txs
-    → IsOrder p.config es (past ++ (mid ++ future)) → Mirrors p.config p.txs past w → Mirrors p.config p.txs (past ++ mid) (run w (map turn_step mid))
+run-mirrors : (mid : List Turn) (p : Plan) (k : Cluster) (es : Events) (past future : List Turn) (w : World) → HasFollowed p k es past (mid ++ future) w
+    → Mirrors p.config p.txs (past ++ mid) (run w (map turn_step mid))
 unfolding run
-run-mirrors [] p k es past future w h fit o m = rw (append-nil past) m
-run-mirrors (t ∷ ts) p k es past future w h fit o m =
-    let next = turn-mirrors t p k es past (ts ++ future) w h fit o m in
-    let o_next : IsOrder p.config es ((past ++ t ∷ []) ++ (ts ++ future)) = subst (λ (zs : List Turn). IsOrder p.config es zs) (sym (append_assoc past (t ∷ []) (ts ++ future))) o in
+run-mirrors [] p k es past future w f = rw (append-nil past) f.mirrors
+run-mirrors (t ∷ ts) p k es past future w f =
+    let next = turn-mirrors t p k es past (ts ++ future) w f in
+    let order : IsOrder p.config es ((past ++ t ∷ []) ++ (ts ++ future)) = subst (λ (zs : List Turn). IsOrder p.config es zs) (sym (append_assoc past (t ∷ []) (ts ++ future))) f.order in
     subst (λ (zs : List Turn). Mirrors p.config p.txs zs (run (stepped w (turn_step t)) (map turn_step ts))) (append_assoc past (t ∷ []) ts)
-    (run-mirrors ts p k es (past ++ t ∷ []) future (stepped w (turn_step t)) h fit o_next next)
+    (run-mirrors ts p k es (past ++ t ∷ []) future (stepped w (turn_step t)) (record { cluster = f.cluster; fit = f.fit; order = order; mirrors = next }))
 
 -- after the first turns of an order the world is what they have made of it
 pub order-mirrors : (p : Plan) (k : Cluster) (es : Events) (past future : List Turn) → KeepsLimits p.config → FitTxs p.config 0 p.txs → IsCluster p k es
     → IsOrder p.config es (past ++ future) → Mirrors p.config p.txs past (run (start p.config p.txs) (map turn_step past))
 order-mirrors p k es past future keeps fit h o =
-    run-mirrors past p k es [] future (start p.config p.txs) h fit o (start-mirrors p.config p.txs keeps fit)
+    run-mirrors past p k es [] future (start p.config p.txs) (record { cluster = h; fit = fit; order = o; mirrors = start-mirrors p.config p.txs keeps fit })
 
 -- if the world mirrors the events before a turn, then the step of the turn fits
-pub turn-fits : (t : Turn) (p : Plan) (k : Cluster) (es : Events) (past future : List Turn) (w : World) → IsCluster p k es → FitTxs p.config 0 p.txs
-    → IsOrder p.config es (past ++ t ∷ future) → Mirrors p.config p.txs past w → StepFits p.config p.txs (turn_step t)
+pub turn-fits : (t : Turn) (p : Plan) (k : Cluster) (es : Events) (past future : List Turn) (w : World) → HasFollowed p k es past (t ∷ future) w → StepFits p.config p.txs (turn_step t)
 unfolding entry_of StepFits
-turn-fits (cell_turn me e) p k es past future w h fit o m =
-    let s = cell-step p k es past me e future w (at-cell p k es past me e future w h fit o m) in s.fits
-turn-fits (service_turn e) p k es past future w h fit o m =
-    let s = service-step p k es past e future w h (order-at p.config es past (service_turn e) future o) m in
+turn-fits (cell_turn me e) p k es past future w f =
+    let s = cell-step p k es past me e future w (at-cell p k es past me e future w f) in s.fits
+turn-fits (service_turn e) p k es past future w f =
+    let m = f.mirrors in
+    let s = service-step p k es past e future w f in
     rw (s.members) (RisesFrom-without 0 e.node (last_view w.views) m.last.0, IsBelow-without p.config.nodes e.node (last_view w.views) m.last.1)
 
 -- if the world mirrors the events before a turn, then the step of the turn answers what the cell or the service answered
-pub turn-answer : (t : Turn) (p : Plan) (k : Cluster) (es : Events) (past future : List Turn) (w : World) → IsCluster p k es → FitTxs p.config 0 p.txs
-    → IsOrder p.config es (past ++ t ∷ future) → Mirrors p.config p.txs past w → (happens w (turn_step t)).answer ≡ given p past t
+pub turn-answer : (t : Turn) (p : Plan) (k : Cluster) (es : Events) (past future : List Turn) (w : World) → HasFollowed p k es past (t ∷ future) w
+    → (happens w (turn_step t)).answer ≡ given p past t
 unfolding entry_of given
-turn-answer (cell_turn me e) p k es past future w h fit o m =
-    let a = at-cell p k es past me e future w h fit o m in
+turn-answer (cell_turn me e) p k es past future w f =
+    let a = at-cell p k es past me e future w f in
     let s = cell-step p k es past me e future w a in
-    ap (λ (x : Event). x.answer) (happens-acts e.deed w me s.finds) ∙ acted_answer p.config p.txs past w me e m a.there
-turn-answer (service_turn e) p k es past future w h fit o m =
-    let s = service-step p k es past e future w h (order-at p.config es past (service_turn e) future o) m in
+    ap (λ (x : Event). x.answer) (happens-acts e.deed w me s.finds) ∙ acted_answer p.config p.txs past w me e f.mirrors a.there
+turn-answer (service_turn e) p k es past future w f =
+    let m = f.mirrors in
+    let s = service-step p k es past e future w f in
     ap (λ (x : Event). x.answer) (happens-serves w e.node e.members s.members s.stopped) ∙ ap (λ (vs : List (List ℕ)). ViewAnswer (made vs e.members)) m.views
 
 -- if the world mirrors the events before a turn, then the step of the turn acknowledges what the cell acknowledged
-pub turn-acked : (t : Turn) (p : Plan) (k : Cluster) (es : Events) (past future : List Turn) (w : World) → IsCluster p k es → FitTxs p.config 0 p.txs
-    → IsOrder p.config es (past ++ t ∷ future) → Mirrors p.config p.txs past w → (happens w (turn_step t)).acked ≡ acknowledged p past t
+pub turn-acked : (t : Turn) (p : Plan) (k : Cluster) (es : Events) (past future : List Turn) (w : World) → HasFollowed p k es past (t ∷ future) w
+    → (happens w (turn_step t)).acked ≡ acknowledged p past t
 unfolding entry_of acknowledged
-turn-acked (cell_turn me e) p k es past future w h fit o m =
-    let s = cell-step p k es past me e future w (at-cell p k es past me e future w h fit o m) in
-    ap (λ (x : Event). x.acked) (happens-acts e.deed w me s.finds) ∙ acted_acked p.config p.txs past w me e m s
-turn-acked (service_turn e) p k es past future w h fit o m =
-    let s = service-step p k es past e future w h (order-at p.config es past (service_turn e) future o) m in
+turn-acked (cell_turn me e) p k es past future w f =
+    let s = cell-step p k es past me e future w (at-cell p k es past me e future w f) in
+    ap (λ (x : Event). x.acked) (happens-acts e.deed w me s.finds) ∙ acted_acked p.config p.txs past w me e f.mirrors s
+turn-acked (service_turn e) p k es past future w f =
+    let s = service-step p k es past e future w f in
     ap (λ (x : Event). x.acked) (happens-serves w e.node e.members s.members s.stopped)

@@ -73,4 +73,5 @@ pub returns-clause-gone_closed : goal.returns-clause-gone_closed
 returns-clause-gone_closed c = replay-gone_closed
 
 pub returns-clause-lost_gone : goal.returns-clause-lost_gone
-returns-clause-lost_gone c = replay-lost_gone
+returns-clause-lost_gone c p k es id t x h at own waits lost clock notes =
+    replay-lost_gone p k es id t x h at (record { own = own; waits = waits; lost = lost; clock = clock; notes = notes })
