@@ -21,13 +21,19 @@ unfolding keyword_at word_at
 keyword_at-sound k [] = read_err _ _
 keyword_at-sound k (w ∷ ws) = read_cond (bytes_eq w k) _ _ _ (λ t. read_ok _ _ (ap (λ (v : List ℕ). v ∷ ws) (bytes_eq-true w k t))) (λ f. read_err _ _)
 
-version_of-sound : (w : List ℕ) → IfRead (version_of w) (λ v. (w ≡ decimal v) × (1 ≤ v) × (v ≤ 2))
+-- the word spells a version
+record SpellsVersion (w : List ℕ) (v : ℕ) : Type 0 where
+  word : w ≡ decimal v
+  low : 1 ≤ v
+  high : v ≤ 2
+
+version_of-sound : (w : List ℕ) → IfRead (version_of w) (SpellsVersion w)
 unfolding version_of
 version_of-sound w =
     read_cond (bytes_eq w (codes "1")) _ _ _
-    (λ t. read_ok _ _ (bytes_eq-true w (codes "1") t ∙ sym (decimal_digit 1 (omega arith)), omega arith, omega arith))
+    (λ t. read_ok _ _ (record { word = bytes_eq-true w (codes "1") t ∙ sym (decimal_digit 1 (omega arith)); low = omega arith; high = omega arith }))
     (λ f. read_cond (bytes_eq w (codes "2")) _ _ _
-    (λ t. read_ok _ _ (bytes_eq-true w (codes "2") t ∙ sym (decimal_digit 2 (omega arith)), omega arith, omega arith))
+    (λ t. read_ok _ _ (record { word = bytes_eq-true w (codes "2") t ∙ sym (decimal_digit 2 (omega arith)); low = omega arith; high = omega arith }))
     (λ g. read_err _ _))
 
 -- ---- the first lines
@@ -41,12 +47,12 @@ word_at-sound (w ∷ ws) = read_ok _ _ refl
 bare : (s : State) (stage : Stage) (version nodes slots : ℕ) (directory : List ℕ) (degree : Option ℕ) → IsBare s → IsBare (record s { stage = stage; head = record { version = version; nodes = nodes; slots = slots; directory = directory; degree = degree } })
 bare s stage version nodes slots directory degree body = record { names = body.names; objects = body.objects; txs = body.txs; steps = body.steps }
 
-version_made : (live : Bool) (s : State) (w : List ℕ) (ws1 ws : List (List ℕ)) (v : ℕ) → Fits live stages.Version s → ws ≡ codes "zeus" ∷ w ∷ ws1 → w ≡ decimal v → 1 ≤ v → v ≤ 2 → ws1 ≡ []
+version_made : (live : Bool) (s : State) (w : List ℕ) (ws1 ws : List (List ℕ)) (v : ℕ) → Fits live stages.Version s → ws ≡ codes "zeus" ∷ w ∷ ws1 → SpellsVersion w v → ws1 ≡ []
     → Adds live stages.Version s ws (record s { stage = stages.Nodes; head = record s.head { version = v } })
 unfolding HeadFits BodyFits lines_at
-version_made live s w ws1 ws v fits spelled is low high end = record {
-  fits = record { head = ((low, high), fits.head); body = bare s stages.Nodes v s.head.nodes s.head.slots s.head.directory s.head.degree fits.body };
-  lines = rw (spelled, is, end) refl;
+version_made live s w ws1 ws v fits spelled version end = record {
+  fits = record { head = ((version.low, version.high), fits.head); body = bare s stages.Nodes v s.head.nodes s.head.slots s.head.directory s.head.degree fits.body };
+  lines = rw (spelled, version.word, end) refl;
 }
 
 -- if a state fits before the version and the line of the version is read, then the line adds itself
@@ -55,7 +61,7 @@ unfolding version_taken
 version_taken-sound live s ws fits =
     read_bind _ _ _ (keyword_at-sound (codes "zeus") ws) (λ a p. read_bind _ _ _ (word_at-sound a.1) (λ w q.
     read_bind _ _ _ (version_of-sound w.0) (λ v r. read_bind _ _ _ (ended-sound w.1) (λ _ e.
-    read_ok _ _ (version_made live s w.0 w.1 ws v fits (rw q at p) r.0 r.1 r.2 e)))))
+    read_ok _ _ (version_made live s w.0 w.1 ws v fits (rw q at p) r e)))))
 
 nodes_made : (live : Bool) (s : State) (ws1 ws : List (List ℕ)) (n : ℕ) → Fits live stages.Nodes s → ws ≡ codes "nodes" ∷ decimal n ∷ ws1 → 1 ≤ n → n < 9 → ws1 ≡ []
     → Adds live stages.Nodes s ws (record s { stage = stages.Slots; head = record s.head { nodes = n } })

@@ -173,32 +173,47 @@ new_behind front name rest all =
     let right : get_or (front ++ name ∷ rest) (length front) d ≡ name = seam front name rest d in
     λ e. apart (left ∙ e ∙ sym right))
 
+-- behind these first lines an object with its name can be declared
+record IsDeclarable (head : Head) (name : List ℕ) (o : ObjectDecl) : Type 0 where
+  few : head.nodes ≤ 8
+  is : IsName name
+  fits : FitsValue head.version o.value
+  keeps : KeepsDeclaration head.version head.nodes o
+
 -- where an object is wanted, an object's line adds it
-object_taken-line : (head : Head) (names : List (List ℕ)) (objects : List ObjectDecl) (name : List ℕ) (o : ObjectDecl) → head.nodes ≤ 8 → length names < 256 → IsName name → find names name ≡ None → FitsValue head.version o.value → KeepsDeclaration head.version head.nodes o
+object_taken-line : (head : Head) (names : List (List ℕ)) (objects : List ObjectDecl) (name : List ℕ) (o : ObjectDecl) → IsDeclarable head name o → length names < 256 → find names name ≡ None
     → object_taken (at_stage stages.Objects head names objects [] []) (object_rest name o) ≡ Ok (at_stage stages.Objects head (names ++ name ∷ []) (objects ++ o ∷ []) [] [])
 unfolding object_taken
-object_taken-line head names objects name o few room is new fits keeps =
-    rw (ne_eqb (length names) 256 (λ e. omega arith), object_at-object head.version head.nodes names name o few is new fits keeps) refl
+object_taken-line head names objects name o d room new =
+    rw (ne_eqb (length names) 256 (λ e. omega arith), object_at-object head.version head.nodes names name o d.few d.is new d.fits d.keeps) refl
 
-object_leads : (live : Bool) (head : Head) (names : List (List ℕ)) (objects : List ObjectDecl) (name : List ℕ) (o : ObjectDecl) → head.nodes ≤ 8 → length names < 256 → IsName name → find names name ≡ None → FitsValue head.version o.value → KeepsDeclaration head.version head.nodes o
+object_leads : (live : Bool) (head : Head) (names : List (List ℕ)) (objects : List ObjectDecl) (name : List ℕ) (o : ObjectDecl) → IsDeclarable head name o → length names < 256 → find names name ≡ None
     → Leads live (at_stage stages.Objects head names objects [] []) (object_words name o ∷ []) (at_stage stages.Objects head (names ++ name ∷ []) (objects ++ o ∷ []) [] [])
 unfolding line_taken body_taken word_at more object_line_taken object_words
-object_leads live head names objects name o few room is new fits keeps =
-    leads_one live _ _ _ (object_line head.version head.nodes name o few is fits keeps) (rw (object_taken-line head names objects name o few room is new fits keeps) refl)
+object_leads live head names objects name o d room new =
+    leads_one live _ _ _ (object_line head.version head.nodes name o d.few d.is d.fits d.keeps) (rw (object_taken-line head names objects name o d room new) refl)
 
-objects_lead : (live : Bool) (head : Head) (front names : List (List ℕ)) (before objects : List ObjectDecl) → head.nodes ≤ 8 → length names ≡ length objects → length (front ++ names) ≤ 256 → AllByRecursion IsName names → AllPairs (λ a b. a ≢ b) (front ++ names)
-    → AllByRecursion (λ o. FitsValue head.version o.value) objects → AllByRecursion (KeepsDeclaration head.version head.nodes) objects
+-- behind these first lines objects with their names can be declared
+record AreDeclarable (head : Head) (names : List (List ℕ)) (objects : List ObjectDecl) : Type 0 where
+  few : head.nodes ≤ 8
+  count : length names ≡ length objects
+  each : AllByRecursion IsName names
+  fits : AllByRecursion (λ o. FitsValue head.version o.value) objects
+  keeps : AllByRecursion (KeepsDeclaration head.version head.nodes) objects
+
+objects_lead : (live : Bool) (head : Head) (front names : List (List ℕ)) (before objects : List ObjectDecl) → AreDeclarable head names objects → length (front ++ names) ≤ 256 → AllPairs (λ a b. a ≢ b) (front ++ names)
     → Leads live (at_stage stages.Objects head front before [] []) (object_lines names objects) (at_stage stages.Objects head (front ++ names) (before ++ objects) [] [])
 unfolding object_lines
-objects_lead live head front [] before [] few same room is apart fits keeps = rw (append-nil front, append-nil before) (leads_none live _)
-objects_lead live head front [] before (o ∷ objects) few same room is apart fits keeps = absurd (omega arith)
-objects_lead live head front (name ∷ names) before [] few same room is apart fits keeps = absurd (omega arith)
-objects_lead live head front (name ∷ names) before (o ∷ objects) few same room is apart fits keeps =
+objects_lead live head front [] before [] d room apart = rw (append-nil front, append-nil before) (leads_none live _)
+objects_lead live head front [] before (o ∷ objects) d room apart = absurd (omega (arith, d.count))
+objects_lead live head front (name ∷ names) before [] d room apart = absurd (omega (arith, d.count))
+objects_lead live head front (name ∷ names) before (o ∷ objects) d room apart =
     let short : length front < 256 = omega (arith, rw length-append at room) in
-    let first = object_leads live head front before name o few short is.0 (new_behind front name names apart) fits.0 keeps.0 in
+    let first = object_leads live head front before name o (record { few = d.few; is = d.each.0; fits = d.fits.0; keeps = d.keeps.0 }) short (new_behind front name names apart) in
+    let others : AreDeclarable head names objects = record { few = d.few; count = omega (arith, d.count); each = d.each.1; fits = d.fits.1; keeps = d.keeps.1 } in
     let names_together : (front ++ name ∷ []) ++ names ≡ front ++ name ∷ names = append_assoc front (name ∷ []) names in
     let objects_together : (before ++ o ∷ []) ++ objects ≡ before ++ o ∷ objects = append_assoc before (o ∷ []) objects in
-    let rest = objects_lead live head (front ++ name ∷ []) names (before ++ o ∷ []) objects few (omega arith) (rw names_together room) is.1 (rw names_together apart) fits.1 keeps.1 in
+    let rest = objects_lead live head (front ++ name ∷ []) names (before ++ o ∷ []) objects others (rw names_together room) (rw names_together apart) in
     leads_both live _ _ _ (object_words name o ∷ []) (object_lines names objects) first (rw (names_together, objects_together) at rest)
 
 -- right behind the directory an object's line is taken as behind an object
@@ -206,16 +221,15 @@ first_object : (live : Bool) (head : Head) (name : List ℕ) (o : ObjectDecl) �
 unfolding line_taken body_taken word_at more degree_line_taken object_line_taken object_words object_taken
 first_object live head name o = refl
 
-all_objects_lead : (live : Bool) (head : Head) (names : List (List ℕ)) (objects : List ObjectDecl) → head.nodes ≤ 8 → length names ≡ length objects → 1 ≤ length objects → length names ≤ 256 → AllByRecursion IsName names → AllPairs (λ a b. a ≢ b) names
-    → AllByRecursion (λ o. FitsValue head.version o.value) objects → AllByRecursion (KeepsDeclaration head.version head.nodes) objects
+all_objects_lead : (live : Bool) (head : Head) (names : List (List ℕ)) (objects : List ObjectDecl) → AreDeclarable head names objects → 1 ≤ length objects → length names ≤ 256 → AllPairs (λ a b. a ≢ b) names
     → Leads live (at_stage stages.Degree head [] [] [] []) (object_lines names objects) (at_stage stages.Objects head names objects [] [])
 unfolding object_lines
-all_objects_lead live head [] [] few same some room is apart fits keeps = absurd (omega arith)
-all_objects_lead live head [] (o ∷ objects) few same some room is apart fits keeps = absurd (omega arith)
-all_objects_lead live head (name ∷ names) [] few same some room is apart fits keeps = absurd (omega arith)
-all_objects_lead live head (name ∷ names) (o ∷ objects) few same some room is apart fits keeps =
-    leads_alike live _ _ _ (object_words name o) (object_lines names objects) (object_line head.version head.nodes name o few is.0 fits.0 keeps.0) (first_object live head name o)
-    (objects_lead live head [] (name ∷ names) [] (o ∷ objects) few same room is apart fits keeps)
+all_objects_lead live head [] [] d some room apart = absurd (omega arith)
+all_objects_lead live head [] (o ∷ objects) d some room apart = absurd (omega (arith, d.count))
+all_objects_lead live head (name ∷ names) [] d some room apart = absurd (omega arith)
+all_objects_lead live head (name ∷ names) (o ∷ objects) d some room apart =
+    leads_alike live _ _ _ (object_words name o) (object_lines names objects) (object_line head.version head.nodes name o d.few d.each.0 d.fits.0 d.keeps.0) (first_object live head name o)
+    (objects_lead live head [] (name ∷ names) [] (o ∷ objects) d room apart)
 
 abbrev config_with : ℕ → ℕ → ℕ → List ℕ → Option ℕ → List ObjectDecl → Config
 config_with v n k ns d objects = record { version = v; nodes = n; slots = k; directory = ns; degree = d; objects = objects }
@@ -225,15 +239,21 @@ declared_lead : (live : Bool) (v n k : ℕ) (ns : List ℕ) (d : Option ℕ) (na
     → Leads live start (head_lines (config_with v n k ns d objects) ++ object_lines names objects) (at_stage stages.Objects (with_degree v n k ns d) names objects [] [])
 unfolding head_lines degree_lines
 declared_lead live v n k ns None names objects keeps are values =
+    let each = recursion_from_All IsName names are.each in
+    let all = recursion_from_All (KeepsDeclaration v n) objects keeps.declared in
+    let declarable : AreDeclarable (with_directory v n k ns) names objects = record { few = keeps.nodes.1; count = are.count; each = each; fits = values; keeps = all } in
     leads_both live start _ _ (front_lines v n k ns) (object_lines names objects)
     (front_leads live v n k ns keeps.version keeps.nodes keeps.slots keeps.directory keeps.rising keeps.directory_nodes)
-    (all_objects_lead live (with_directory v n k ns) names objects keeps.nodes.1 are.count keeps.objects.0 (omega (arith, are.count, keeps.objects.1)) (recursion_from_All IsName names are.each) are.distinct values (recursion_from_All (KeepsDeclaration v n) objects keeps.declared))
+    (all_objects_lead live (with_directory v n k ns) names objects declarable keeps.objects.0 (omega (arith, are.count, keeps.objects.1)) are.distinct)
 declared_lead live v n k ns (Some d) names objects keeps are values =
+    let each = recursion_from_All IsName names are.each in
+    let all = recursion_from_All (KeepsDeclaration v n) objects keeps.declared in
+    let declarable : AreDeclarable (with_degree v n k ns (Some d)) names objects = record { few = keeps.nodes.1; count = are.count; each = each; fits = values; keeps = all } in
     leads_both live start _ _ (front_lines v n k ns) ((codes "degree" ∷ decimal d ∷ []) ∷ object_lines names objects)
     (front_leads live v n k ns keeps.version keeps.nodes keeps.slots keeps.directory keeps.rising keeps.directory_nodes)
     (leads_both live _ _ _ ((codes "degree" ∷ decimal d ∷ []) ∷ []) (object_lines names objects)
     (degree_leads live v n k ns d keeps.degree.0 keeps.degree.1)
-    (objects_lead live (with_degree v n k ns (Some d)) [] names [] objects keeps.nodes.1 are.count (omega (arith, are.count, keeps.objects.1)) (recursion_from_All IsName names are.each) are.distinct values (recursion_from_All (KeepsDeclaration v n) objects keeps.declared)))
+    (objects_lead live (with_degree v n k ns (Some d)) [] names [] objects declarable (omega (arith, are.count, keeps.objects.1)) are.distinct))
 
 -- ---- transactions
 
@@ -310,33 +330,39 @@ no_end words.Stop = refl
 no_end words.View = refl
 no_end words.Install = refl
 
+-- what the steps' lines are read with
+record Bounded (head : Head) (txs : List TxDecl) : Type 0 where
+  nodes : head.nodes ≤ 8
+  slots : head.slots ≤ 8
+  few : length txs ≤ 10000
+
 -- where a step is wanted, a step's line adds it
-taken : (head : Head) (names : List (List ℕ)) (objects : List ObjectDecl) (txs : List TxDecl) (front : List Step) (step : Step) → head.nodes ≤ 8 → head.slots ≤ 8 → length txs ≤ 10000 → length front < 50000 → FitsStep (config_at head objects) (length txs) step
+taken : (head : Head) (names : List (List ℕ)) (objects : List ObjectDecl) (txs : List TxDecl) (front : List Step) (step : Step) → Bounded head txs → length front < 50000 → FitsStep (config_at head objects) (length txs) step
     → line_taken false (at_stage stages.Steps head names objects txs front) stages.Steps (step_text (word_of_step step) ∷ step_rest step) ≡ Ok (false, at_stage stages.Steps head names objects txs (front ++ step ∷ []))
 unfolding line_taken body_taken word_at more step_line_taken step_taken
-taken head names objects txs front step nodes slots few room fits =
-    rw (no_end (word_of_step step), step_word_of-text (word_of_step step), ne_eqb (length front) 50000 (λ e. omega arith), step_at-words (config_at head objects) (length txs) step nodes slots (omega arith) fits) refl
+taken head names objects txs front step b room fits =
+    rw (no_end (word_of_step step), step_word_of-text (word_of_step step), ne_eqb (length front) 50000 (λ e. omega arith), step_at-words (config_at head objects) (length txs) step b.nodes b.slots (omega (arith, b.few)) fits) refl
 
-step_leads : (head : Head) (names : List (List ℕ)) (objects : List ObjectDecl) (txs : List TxDecl) (front : List Step) (step : Step) → head.nodes ≤ 8 → head.slots ≤ 8 → length txs ≤ 10000 → length front < 50000 → FitsStep (config_at head objects) (length txs) step
+step_leads : (head : Head) (names : List (List ℕ)) (objects : List ObjectDecl) (txs : List TxDecl) (front : List Step) (step : Step) → Bounded head txs → length front < 50000 → FitsStep (config_at head objects) (length txs) step
     → Leads false (at_stage stages.Steps head names objects txs front) (step_words step ∷ []) (at_stage stages.Steps head names objects txs (front ++ step ∷ []))
-step_leads head names objects txs front step nodes slots few room fits =
-    leads_one false _ _ _ (step_line (config_at head objects) (length txs) step nodes slots (omega arith) fits) (rw step_words-parts (taken head names objects txs front step nodes slots few room fits))
+step_leads head names objects txs front step b room fits =
+    leads_one false _ _ _ (step_line (config_at head objects) (length txs) step b.nodes b.slots (omega (arith, b.few)) fits) (rw step_words-parts (taken head names objects txs front step b room fits))
 
-steps_lead : (head : Head) (names : List (List ℕ)) (objects : List ObjectDecl) (txs : List TxDecl) (front steps : List Step) → head.nodes ≤ 8 → head.slots ≤ 8 → length txs ≤ 10000 → length (front ++ steps) ≤ 50000 → AllByRecursion (FitsStep (config_at head objects) (length txs)) steps
+steps_lead : (head : Head) (names : List (List ℕ)) (objects : List ObjectDecl) (txs : List TxDecl) (front steps : List Step) → Bounded head txs → length (front ++ steps) ≤ 50000 → AllByRecursion (FitsStep (config_at head objects) (length txs)) steps
     → Leads false (at_stage stages.Steps head names objects txs front) (map step_words steps) (at_stage stages.Steps head names objects txs (front ++ steps))
-steps_lead head names objects txs front [] nodes slots few room fits = rw append-nil (leads_none false _)
-steps_lead head names objects txs front (step ∷ steps) nodes slots few room fits =
+steps_lead head names objects txs front [] b room fits = rw append-nil (leads_none false _)
+steps_lead head names objects txs front (step ∷ steps) b room fits =
     let short : length front < 50000 = omega (arith, rw length-append at room) in
-    let first = step_leads head names objects txs front step nodes slots few short fits.0 in
+    let first = step_leads head names objects txs front step b short fits.0 in
     let together : (front ++ step ∷ []) ++ steps ≡ front ++ step ∷ steps = append_assoc front (step ∷ []) steps in
-    let rest = steps_lead head names objects txs (front ++ step ∷ []) steps nodes slots few (rw together room) fits.1 in
+    let rest = steps_lead head names objects txs (front ++ step ∷ []) steps b (rw together room) fits.1 in
     leads_both false _ _ _ (step_words step ∷ []) (map step_words steps) first (rw together at rest)
 
 -- with `live` there is no step
-all_steps_lead : (live : Bool) (head : Head) (names : List (List ℕ)) (objects : List ObjectDecl) (txs : List TxDecl) (steps : List Step) → head.nodes ≤ 8 → head.slots ≤ 8 → length txs ≤ 10000 → length steps ≤ 50000 → (live ≡ true → steps ≡ []) → AllByRecursion (FitsStep (config_at head objects) (length txs)) steps
+all_steps_lead : (live : Bool) (head : Head) (names : List (List ℕ)) (objects : List ObjectDecl) (txs : List TxDecl) (steps : List Step) → Bounded head txs → length steps ≤ 50000 → (live ≡ true → steps ≡ []) → AllByRecursion (FitsStep (config_at head objects) (length txs)) steps
     → Leads live (at_stage stages.Steps head names objects txs []) (map step_words steps) (at_stage stages.Steps head names objects txs steps)
-all_steps_lead true head names objects txs steps nodes slots few room none fits = rw (none refl) (leads_none true _)
-all_steps_lead false head names objects txs steps nodes slots few room none fits = steps_lead head names objects txs [] steps nodes slots few room fits
+all_steps_lead true head names objects txs steps b room none fits = rw (none refl) (leads_none true _)
+all_steps_lead false head names objects txs steps b room none fits = steps_lead head names objects txs [] steps b room fits
 
 -- ---- the whole script
 
@@ -375,7 +401,7 @@ module _ (live : Bool) (s : Script) (fits : FitsScript s) (runs : FitsLive live 
   steps_all : Leads live start (declared ++ map (tx_words s.names) s.txs ++ (codes "run" ∷ []) ∷ [] ++ map step_words s.steps) (whole_state s)
   steps_all =
       leads_both live start _ _ (declared ++ map (tx_words s.names) s.txs ++ (codes "run" ∷ []) ∷ []) (map step_words s.steps) run_lead
-      (all_steps_lead live (head_of s.config) s.names s.config.objects s.txs s.steps fits.config.nodes.1 fits.config.slots.1 fits.txs.few few_steps runs.steps (recursion_from_All (FitsStep s.config (length s.txs)) s.steps fits.steps))
+      (all_steps_lead live (head_of s.config) s.names s.config.objects s.txs s.steps (record { nodes = fits.config.nodes.1; slots = fits.config.slots.1; few = fits.txs.few }) few_steps runs.steps (recursion_from_All (FitsStep s.config (length s.txs)) s.steps fits.steps))
 
   all_read : lines_taken live start 1 (parts_of (script_lines s)) ≡ Ok (whole_state s)
   unfolding script_lines

@@ -114,17 +114,18 @@ before_more live s u n p q ps f taken adds before = record {
   place = place_more live s u n p (q ∷ ps) f taken before.place;
 }
 
-before_extra : (live : Bool) (s : State) (stage : Stage) (n : ℕ) (p q : List ℕ) (ps : List (List ℕ)) (f : ScriptFault) → s.stage ≡ stage → Fits live stage s → stage ≡ stages.Steps → cut 32 p ≡ (codes "end") ∷ [] → suc n ≡ f.line → kinds.Extra ≡ f.kind → Before live s n (p ∷ q ∷ ps) f
+before_extra : (live : Bool) (s : State) (n : ℕ) (p q : List ℕ) (ps : List (List ℕ)) (f : ScriptFault) → Fits live s.stage s → s.stage ≡ stages.Steps → cut 32 p ≡ (codes "end") ∷ [] → failed (fault_at (suc n) kinds.Extra) ≡ failed f
+    → Before live s n (p ∷ q ∷ ps) f
 unfolding shown lines_text
-before_extra live s stage n p q ps f at fits is words line kind = record {
+before_extra live s n p q ps f fits is words there = record {
   ls = cut 32 p ∷ [];
   rest = [];
   whole = s;
-  at = omega (arith, line);
+  at = omega (arith, at_line (suc n) kinds.Extra f there);
   texts = text_front p [];
   fits = subst (λ (k : Stage). Fits live k s) is fits;
-  lines = rw words (ap (λ (k : Stage). lines_at k s ++ (codes "end" ∷ []) ∷ []) (sym (at ∙ is)));
-  place = inl (refl, sym kind);
+  lines = rw words (ap (λ (k : Stage). lines_at k s ++ (codes "end" ∷ []) ∷ []) (sym is));
+  place = inl (refl, sym (kind_there (suc n) kinds.Extra f there));
 }
 
 -- the kind of a line that was not taken
@@ -151,7 +152,7 @@ before_fault live s n (p ∷ q ∷ ps) f some fits h =
     go (Ok (true, u)) e g rest =
         let goes = read_is (line_taken live s s.stage (cut 32 p)) (true, u) (Goes live s.stage s (cut 32 p)) e (line_taken-sound live s.stage s (cut 32 p) refl fits) in
         let there = choose (is_last (q ∷ ps)) g in
-        before_extra live s s.stage n p q ps f refl fits goes.1 goes.2 (at_line (suc n) kinds.Extra f there) (kind_there (suc n) kinds.Extra f there)
+        before_extra live s n p q ps f fits goes.1 goes.2 there
       where
         choose : (b : Bool) → cond b (Ok u) (Err (fault_at (suc n) kinds.Extra)) ≡ Err f → failed (fault_at (suc n) kinds.Extra) ≡ failed f
         choose true i = absurd cc

@@ -91,21 +91,26 @@ extra_shared m (suc n) q t ps rs u f same lt h =
     let alike : is_last (q ∷ ps) ≡ is_last (t ∷ rs) = is_last-shown n q ps ∙ ap is_none same ∙ sym (is_last-shown n t rs) in
     rw alike at h
 
-same_fault : (live : Bool) (s : State) (m n : ℕ) (ps rs : List (List ℕ)) → AllByRecursion (Lacks 10) ps → AllByRecursion (Lacks 10) rs → shown n ps ≡ shown n rs
-    → (f : ScriptFault) → f.line < m + n → lines_taken live s m ps ≡ Err f → lines_taken live s m rs ≡ Err f
+-- parts without line ends, whose first lines are the same
+record AreAlike (n : ℕ) (ps rs : List (List ℕ)) : Type 0 where
+  lack : AllByRecursion (Lacks 10) ps
+  free : AllByRecursion (Lacks 10) rs
+  same : shown n ps ≡ shown n rs
+
+same_fault : (live : Bool) (s : State) (m n : ℕ) (ps rs : List (List ℕ)) → AreAlike n ps rs → (f : ScriptFault) → f.line < m + n → lines_taken live s m ps ≡ Err f → lines_taken live s m rs ≡ Err f
 unfolding lines_taken line_done shown unended Lacks
-same_fault live s m zero ps rs lack free same f lt h = let low = from_line live s m ps f h in absurd (omega arith)
-same_fault live s m (suc n) [] [] lack free same f lt h = h
-same_fault live s m (suc n) [] (r ∷ []) lack free same f lt h = rw (← same) h
-same_fault live s m (suc n) [] (r ∷ t ∷ rs) lack free same f lt h = absurd (not_ended [] r (shown n (t ∷ rs)) tt same)
-same_fault live s m (suc n) (p ∷ []) [] lack free same f lt h = rw same at h
-same_fault live s m (suc n) (p ∷ []) (r ∷ []) lack free same f lt h = rw same at h
-same_fault live s m (suc n) (p ∷ []) (r ∷ t ∷ rs) lack free same f lt h = absurd (not_ended p r (shown n (t ∷ rs)) lack.0 same)
-same_fault live s m (suc n) (p ∷ q ∷ ps) [] lack free same f lt h = absurd (not_ended [] p (shown n (q ∷ ps)) tt (sym same))
-same_fault live s m (suc n) (p ∷ q ∷ ps) (r ∷ []) lack free same f lt h = absurd (not_ended r p (shown n (q ∷ ps)) free.0 (sym same))
-same_fault live s m (suc n) (p ∷ q ∷ ps) (r ∷ t ∷ rs) lack free same f lt h =
-    let both = same_line p r (shown n (q ∷ ps)) (shown n (t ∷ rs)) lack.0 free.0 same in
-    rw (← both.0) (go both.1 (line_taken live s s.stage (cut 32 p)) h (λ u lesser g. same_fault live u (suc m) n (q ∷ ps) (t ∷ rs) lack.1 free.1 both.1 f lesser g))
+same_fault live s m zero ps rs a f lt h = let low = from_line live s m ps f h in absurd (omega arith)
+same_fault live s m (suc n) [] [] a f lt h = h
+same_fault live s m (suc n) [] (r ∷ []) a f lt h = rw (← a.same) h
+same_fault live s m (suc n) [] (r ∷ t ∷ rs) a f lt h = absurd (not_ended [] r (shown n (t ∷ rs)) tt a.same)
+same_fault live s m (suc n) (p ∷ []) [] a f lt h = rw a.same at h
+same_fault live s m (suc n) (p ∷ []) (r ∷ []) a f lt h = rw a.same at h
+same_fault live s m (suc n) (p ∷ []) (r ∷ t ∷ rs) a f lt h = absurd (not_ended p r (shown n (t ∷ rs)) a.lack.0 a.same)
+same_fault live s m (suc n) (p ∷ q ∷ ps) [] a f lt h = absurd (not_ended [] p (shown n (q ∷ ps)) tt (sym a.same))
+same_fault live s m (suc n) (p ∷ q ∷ ps) (r ∷ []) a f lt h = absurd (not_ended r p (shown n (q ∷ ps)) a.free.0 (sym a.same))
+same_fault live s m (suc n) (p ∷ q ∷ ps) (r ∷ t ∷ rs) a f lt h =
+    let both = same_line p r (shown n (q ∷ ps)) (shown n (t ∷ rs)) a.lack.0 a.free.0 a.same in
+    rw (← both.0) (go both.1 (line_taken live s s.stage (cut 32 p)) h (λ u lesser g. same_fault live u (suc m) n (q ∷ ps) (t ∷ rs) (record { lack = a.lack.1; free = a.free.1; same = both.1 }) f lesser g))
   where
     go : shown n (q ∷ ps) ≡ shown n (t ∷ rs) → (r' : Result (Bool × State) Kind) → line_done r' m (q ∷ ps) (λ u. lines_taken live u (suc m) (q ∷ ps)) ≡ Err f
         → ((u : State) → f.line < suc m + n → lines_taken live u (suc m) (q ∷ ps) ≡ Err f → lines_taken live u (suc m) (t ∷ rs) ≡ Err f)
@@ -119,6 +124,7 @@ pub none_begins : (live : Bool) (bytes : List ℕ) (f : ScriptFault) → lines_t
 none_begins live bytes f h begins =
     let text = text_taken live begins.script begins.opened in
     let same : shown f.line (cut 10 bytes) ≡ shown f.line (cut 10 (spelling begins.script)) = sym (first_lines-shown f.line bytes) ∙ sym begins.same ∙ first_lines-shown f.line (spelling begins.script) in
-    let fails = same_fault live start 1 f.line (cut 10 bytes) (cut 10 (spelling begins.script)) (parts_lack 10 bytes) (parts_lack 10 (spelling begins.script)) same f (omega arith) h in
+    let fails = same_fault live start 1 f.line (cut 10 bytes) (cut 10 (spelling begins.script))
+    (record { lack = parts_lack 10 bytes; free = parts_lack 10 (spelling begins.script); same = same }) f (omega arith) h in
     let taken = text.taken in
     cc

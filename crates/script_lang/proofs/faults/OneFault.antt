@@ -62,19 +62,24 @@ sort kinds.Extra = extra refl
 sort kinds.Live = word tt
 sort kinds.Size = size refl
 
-one_sort : (Opened : Script → Type 0) (o : Opening) (bytes : List ℕ) (n : ℕ) (k l : Kind) → IsKindOfLine Opened bytes n k → IsKindOfLine Opened bytes n l → k ≢ kinds.Size → l ≢ kinds.Size
-    → (IsOfWord k → IsWordFault o bytes n k) → (IsOfWord l → IsWordFault o bytes n l) → Sort k → Sort l → k ≡ l
-one_sort Opened o bytes n k l h g small few v w (missing e) s = e ∙ sym (g.missing.1 (h.missing.0 e))
-one_sort Opened o bytes n k l h g small few v w (line_end e) s = e ∙ sym (g.line_end.1 (h.line_end.0 e))
-one_sort Opened o bytes n k l h g small few v w (extra e) s = e ∙ sym (g.extra.1 (h.extra.0 e))
-one_sort Opened o bytes n k l h g small few v w (size e) s = absurd (small e)
-one_sort Opened o bytes n k l h g small few v w (word a) (missing e) = h.missing.1 (g.missing.0 e) ∙ sym e
-one_sort Opened o bytes n k l h g small few v w (word a) (line_end e) = h.line_end.1 (g.line_end.0 e) ∙ sym e
-one_sort Opened o bytes n k l h g small few v w (word a) (extra e) = h.extra.1 (g.extra.0 e) ∙ sym e
-one_sort Opened o bytes n k l h g small few v w (word a) (size e) = absurd (few e)
-one_sort Opened o bytes n k l h g small few v w (word a) (word b) =
-    let x = v a in
-    let y = w b in
+-- the kind is that of a fault of the bytes in this line
+record IsKindHere (Opened : Script → Type 0) (o : Opening) (bytes : List ℕ) (n : ℕ) (k : Kind) : Type 0 where
+  of_line : IsKindOfLine Opened bytes n k
+  not_size : k ≢ kinds.Size
+  of_word : IsOfWord k → IsWordFault o bytes n k
+
+one_sort : (Opened : Script → Type 0) (o : Opening) (bytes : List ℕ) (n : ℕ) (k l : Kind) → IsKindHere Opened o bytes n k → IsKindHere Opened o bytes n l → Sort k → Sort l → k ≡ l
+one_sort Opened o bytes n k l h g (missing e) s = e ∙ sym (g.of_line.missing.1 (h.of_line.missing.0 e))
+one_sort Opened o bytes n k l h g (line_end e) s = e ∙ sym (g.of_line.line_end.1 (h.of_line.line_end.0 e))
+one_sort Opened o bytes n k l h g (extra e) s = e ∙ sym (g.of_line.extra.1 (h.of_line.extra.0 e))
+one_sort Opened o bytes n k l h g (size e) s = absurd (h.not_size e)
+one_sort Opened o bytes n k l h g (word a) (missing e) = h.of_line.missing.1 (g.of_line.missing.0 e) ∙ sym e
+one_sort Opened o bytes n k l h g (word a) (line_end e) = h.of_line.line_end.1 (g.of_line.line_end.0 e) ∙ sym e
+one_sort Opened o bytes n k l h g (word a) (extra e) = h.of_line.extra.1 (g.of_line.extra.0 e) ∙ sym e
+one_sort Opened o bytes n k l h g (word a) (size e) = absurd (g.not_size e)
+one_sort Opened o bytes n k l h g (word a) (word b) =
+    let x = h.of_word a in
+    let y = g.of_word b in
     one_row o _ _ x.index y.index k l x.word y.word
 
 module _ (live : Bool) (bytes : List ℕ) (f g : ScriptFault) (told : IsFaultOf live bytes f) (again : IsFaultOf live bytes g) where
@@ -98,8 +103,11 @@ module _ (live : Bool) (bytes : List ℕ) (f g : ScriptFault) (told : IsFaultOf 
       let few : g.kind ≢ kinds.Size = λ e. other (again.size.line.1 (again.size.kind.0 e)) in
       let back = sym line in
       let kind : f.kind ≡ g.kind =
-      one_sort (FitsLive live) (opening live) bytes f.line f.kind g.kind (told.kind some) (subst (λ (n : ℕ). IsKindOfLine (FitsLive live) bytes n g.kind) back (again.kind other)) small few
-      told.word (λ a. subst (λ (n : ℕ). IsWordFault (opening live) bytes n g.kind) back (again.word a)) (sort f.kind) (sort g.kind) in
+      one_sort (FitsLive live) (opening live) bytes f.line f.kind g.kind (record { of_line = told.kind some; not_size = small; of_word = told.word }) (record {
+        of_line = subst (λ (n : ℕ). IsKindOfLine (FitsLive live) bytes n g.kind) back (again.kind other);
+        not_size = few;
+        of_word = λ a. subst (λ (n : ℕ). IsWordFault (opening live) bytes n g.kind) back (again.word a);
+      }) (sort f.kind) (sort g.kind) in
       ap (λ (n : ℕ). record { line = n; kind = f.kind }) line ∙ ap (λ (k : Kind). record { line = g.line; kind = k }) kind
 
 -- two faults of the same bytes are one

@@ -36,13 +36,20 @@ pub or_false : (x y : Bool) → (x || y) ≡ false → (x ≡ false) × (y ≡ f
 or_false true y h = absurd cc
 or_false false y h = (refl, h)
 
-listed_of-sound : (nodes : ℕ) (most owner : Option ℕ) (listed : List ℕ) (lowest : ℕ) (w : List ℕ) → IfRead (listed_of nodes most owner listed lowest w) (λ n. (w ≡ decimal n) × (lowest ≤ n) × (n < nodes) × (is_owner owner n ≡ false))
+-- the word is that of a node which can be listed next
+record IsNextNode (nodes : ℕ) (owner : Option ℕ) (lowest : ℕ) (w : List ℕ) (n : ℕ) : Type 0 where
+  word : w ≡ decimal n
+  high : lowest ≤ n
+  below : n < nodes
+  other : is_owner owner n ≡ false
+
+listed_of-sound : (nodes : ℕ) (most owner : Option ℕ) (listed : List ℕ) (lowest : ℕ) (w : List ℕ) → IfRead (listed_of nodes most owner listed lowest w) (IsNextNode nodes owner lowest w)
 unfolding listed_of
 listed_of-sound nodes most owner listed lowest w =
     read_cond (is_full most (length listed)) _ _ _ (λ t. read_err _ _)
     (λ f. read_bind _ _ _ (range_of-sound 0 nodes w)
     (λ n p. read_cond (nat_lt n lowest || is_owner owner n) _ _ _ (λ t. read_err _ _)
-    (λ g. let both = or_false (nat_lt n lowest) (is_owner owner n) g in read_ok _ _ (p.0, ltb-false n lowest both.0, p.3, both.1))))
+    (λ g. let both = or_false (nat_lt n lowest) (is_owner owner n) g in read_ok _ _ (record { word = p.0; high = ltb-false n lowest both.0; below = p.3; other = both.1 }))))
 
 listed_none : (nodes : ℕ) (owner : Option ℕ) (lowest : ℕ) (listed : List ℕ) → IsListed nodes owner lowest listed [] listed
 unfolding RisesFrom has
@@ -65,20 +72,19 @@ owner_same None k n h g = absurd cc
 owner_same (Some o) k n h g = grind (arith, nat_tests)
 
 listed_more : (nodes : ℕ) (owner : Option ℕ) (lowest : ℕ) (listed : List ℕ) (w : List ℕ) (ws : List (List ℕ)) (n : ℕ) (all : List ℕ)
-    → IsBelow lowest listed → w ≡ decimal n → lowest ≤ n → n < nodes → is_owner owner n ≡ false
-    → IsListed nodes owner (suc n) (with_node n listed) ws all → IsListed nodes owner lowest listed (w ∷ ws) all
+    → IsBelow lowest listed → IsNextNode nodes owner lowest w n → IsListed nodes owner (suc n) (with_node n listed) ws all → IsListed nodes owner lowest listed (w ∷ ws) all
 unfolding RisesFrom
-listed_more nodes owner lowest listed w ws n all low is le lt other rest = record {
+listed_more nodes owner lowest listed w ws n all low next rest = record {
   ns = n ∷ rest.ns;
-  words = rw (is, ← rest.words) refl;
-  whole = rest.whole ∙ rw (with_node-last n lowest listed low le, append_assoc) refl;
-  rises = (le, rest.rises);
+  words = rw (next.word, ← rest.words) refl;
+  whole = rest.whole ∙ rw (with_node-last n lowest listed low next.high, append_assoc) refl;
+  rises = (next.high, rest.rises);
   below = λ k h. below k (rw has_cons at h);
-  apart = λ k h. rw (has_cons, owner_same owner k n h other, rest.apart k h) refl;
+  apart = λ k h. rw (has_cons, owner_same owner k n h next.other, rest.apart k h) refl;
 }
   where
     below : (k : ℕ) → ((k == n) || has k rest.ns) ≡ true → k < nodes
-    below k h = grind (arith, nat_tests, rest.below k)
+    below k h = grind (arith, nat_tests, next.below, rest.below k)
 
 -- if nodes are read behind those listed, then the words spell the further nodes, which rise and fit
 pub nodes_after-sound : (nodes : ℕ) (most owner : Option ℕ) (listed : List ℕ) (lowest : ℕ) (ws : List (List ℕ)) → IsBelow lowest listed → IfRead (nodes_after nodes most owner listed lowest ws) (IsListed nodes owner lowest listed ws)
@@ -87,8 +93,8 @@ nodes_after-sound nodes most owner listed lowest [] low = read_ok _ _ (listed_no
 nodes_after-sound nodes most owner listed lowest (w ∷ ws) low =
     read_bind _ _ _ (listed_of-sound nodes most owner listed lowest w)
     (λ n p.
-    let below : IsBelow (suc n) (with_node n listed) = IsBelow-with_node (suc n) n listed (omega arith) (IsBelow-more lowest (suc n) listed (omega (arith, p.1)) low) in
-    read_weaken _ _ (λ all rest. listed_more nodes owner lowest listed w ws n all low p.0 p.1 p.2 p.3 rest) (nodes_after-sound nodes most owner (with_node n listed) (suc n) ws below))
+    let below : IsBelow (suc n) (with_node n listed) = IsBelow-with_node (suc n) n listed (omega arith) (IsBelow-more lowest (suc n) listed (omega (arith, p.high)) low) in
+    read_weaken _ _ (λ all rest. listed_more nodes owner lowest listed w ws n all low p rest) (nodes_after-sound nodes most owner (with_node n listed) (suc n) ws below))
 
 -- ---- what is spelled is read
 
