@@ -8,6 +8,7 @@ use Rattle.zeus_model.specs.Readers.{state_of}
 use Rattle.zeus_model.specs.declared.answer.TxState.TheVariants.{New, Current, Pending, Passed, Acked, Refused}
 use Rattle.history_book.proofs.Rows.{none_past}
 
+-- a transaction has neither an entry nor a point
 pub record IsFree (r : TxRecord) : Type 0 where
   pub entry : r.entry ≡ None
   pub point : r.point ≡ None

@@ -8,11 +8,13 @@ invariant_of-self c =
     let there = rw (← c.self.view_is) at c.requires in
     let found = rw c.place.ensures at c.index_mut-record.ensures.value in
     rw c.place.ensures
-    (kept_marked (λ (r : TxRecord). record r { acked = Some c.self.inside.steps }) _ c.args.id _ c.ack.new.self _ _ _ _ (mark_acked c.self.inside.steps) c.self.invariant there found c.ack.ensures)
+    (kept_marked (λ (r : TxRecord). record r { acked = Some c.self.inside.steps }) c.self.inside c.args.id c.ack.new.self (mark_acked c.self.inside.steps) c.self.invariant
+    (record { there = there; before = _; read = found; changed = c.ack.ensures }))
 
 pub returns : goal.returns
 returns c =
     let there = rw (← c.self.view_is) at c.requires in
     let found = rw c.place.ensures at c.index_mut-record.ensures.value in
     rw (← c.self.view_is, c.place.ensures)
-    (seen_marked (λ (r : TxRecord). record r { acked = Some c.self.inside.steps }) _ _ _ _ _ c.args.id _ c.ack.new.self (mark_acked c.self.inside.steps) c.self.invariant.pointed there found c.ack.ensures)
+    (seen_marked (λ (r : TxRecord). record r { acked = Some c.self.inside.steps }) c.self.inside c.args.id c.ack.new.self (mark_acked c.self.inside.steps) c.self.invariant.pointed
+    (record { there = there; before = _; read = found; changed = c.ack.ensures }))

@@ -20,7 +20,11 @@ invariant_of-self c =
     let replied = rw (← c.self.view_is) at c.requires.replied in
     let found = rw c.place.ensures at c.index_mut-record.ensures.value in
     rw c.place.ensures
-    (kept_pointed c.self.inside.steps _ c.args.id _ c.set_point.new.self _ _ _ _ _ c.self.invariant none replied (record { ids = c.push.ensures.ids; room = c.push.ensures.room }) there found c.set_point.ensures)
+    (kept_pointed c.self.inside c.args.id c.set_point.new.self c.push.new.self c.self.invariant replied (record {
+      changed = record { there = there; before = _; read = found; changed = c.set_point.ensures };
+      first = none;
+      added = record { ids = c.push.ensures.ids; room = c.push.ensures.room };
+    }))
 
 pub returns : goal.returns
 returns c =
@@ -28,4 +32,8 @@ returns c =
     let none = rw (← c.self.view_is) at c.requires.first in
     let found = rw c.place.ensures at c.index_mut-record.ensures.value in
     rw (← c.self.view_is, c.place.ensures)
-    (seen_pointed c.self.inside.steps c.self.inside.records.items c.self.inside.nodes c.self.inside.slots c.args.id _ c.set_point.new.self c.self.inside.points c.push.new.self c.self.invariant.pointed none (record { ids = c.push.ensures.ids; room = c.push.ensures.room }) there found c.set_point.ensures)
+    (seen_pointed c.self.inside c.args.id c.set_point.new.self c.push.new.self c.self.invariant.pointed (record {
+      changed = record { there = there; before = _; read = found; changed = c.set_point.ensures };
+      first = none;
+      added = record { ids = c.push.ensures.ids; room = c.push.ensures.room };
+    }))

@@ -8,11 +8,13 @@ invariant_of-self c =
     let there = rw (← c.self.view_is) at c.requires in
     let found = rw c.place.ensures at c.index_mut-record.ensures.value in
     rw c.place.ensures
-    (kept_marked (λ (r : TxRecord). record r { begun = Some c.self.inside.steps }) _ c.args.id _ c.begin.new.self _ _ _ _ (mark_begun c.self.inside.steps) c.self.invariant there found c.begin.ensures)
+    (kept_marked (λ (r : TxRecord). record r { begun = Some c.self.inside.steps }) c.self.inside c.args.id c.begin.new.self (mark_begun c.self.inside.steps) c.self.invariant
+    (record { there = there; before = _; read = found; changed = c.begin.ensures }))
 
 pub returns : goal.returns
 returns c =
     let there = rw (← c.self.view_is) at c.requires in
     let found = rw c.place.ensures at c.index_mut-record.ensures.value in
     rw (← c.self.view_is, c.place.ensures)
-    (seen_marked (λ (r : TxRecord). record r { begun = Some c.self.inside.steps }) _ _ _ _ _ c.args.id _ c.begin.new.self (mark_begun c.self.inside.steps) c.self.invariant.pointed there found c.begin.ensures)
+    (seen_marked (λ (r : TxRecord). record r { begun = Some c.self.inside.steps }) c.self.inside c.args.id c.begin.new.self (mark_begun c.self.inside.steps) c.self.invariant.pointed
+    (record { there = there; before = _; read = found; changed = c.begin.ensures }))

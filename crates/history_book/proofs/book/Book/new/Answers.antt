@@ -8,8 +8,15 @@ use Rattle.history_book.proofs.book.Book.new.Goals as goal
 pub invariant_of-result : goal.invariant_of-result
 invariant_of-result c =
     let all : c.loop-id._id ≡ c.args.txs = omega arith in
-    kept_start c.args.txs _ _ _ _ _ (omega arith) (c.loop-id.invariant.items ∙ ap (λ n. replicate n no_record) all) c.in_ok-with_room.ensures.ids c.in_ok-with_room.ensures.room
-    c.in_ok-new.ensures.size c.in_ok-new.ensures.none c.in_ok-new.ensures.room
+    kept_start c.args.txs c.loop-id.records.items c.in_ok-with_room.field-0 c.args.config.now.nodes c.args.config.now.slots c.in_ok-new.field-0 (record {
+      few = omega arith;
+      records = c.loop-id.invariant.items ∙ ap (λ n. replicate n no_record) all;
+      no_points = c.in_ok-with_room.ensures.ids;
+      room = c.in_ok-with_room.ensures.room;
+      streams = c.in_ok-new.ensures.size;
+      no_entries = c.in_ok-new.ensures.none;
+      more = c.in_ok-new.ensures.room;
+    })
 
 pub returns : goal.returns
 returns c =

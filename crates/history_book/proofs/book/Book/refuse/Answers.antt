@@ -8,11 +8,13 @@ invariant_of-self c =
     let there = rw (← c.self.view_is) at c.requires in
     let found = rw c.place.ensures at c.index_mut-record.ensures.value in
     rw c.place.ensures
-    (kept_marked (λ (r : TxRecord). record r { refused = true }) _ c.args.id _ c.refuse.new.self _ _ _ _ mark_refused c.self.invariant there found c.refuse.ensures)
+    (kept_marked (λ (r : TxRecord). record r { refused = true }) c.self.inside c.args.id c.refuse.new.self mark_refused c.self.invariant
+    (record { there = there; before = _; read = found; changed = c.refuse.ensures }))
 
 pub returns : goal.returns
 returns c =
     let there = rw (← c.self.view_is) at c.requires in
     let found = rw c.place.ensures at c.index_mut-record.ensures.value in
     rw (← c.self.view_is, c.place.ensures)
-    (seen_marked (λ (r : TxRecord). record r { refused = true }) _ _ _ _ _ c.args.id _ c.refuse.new.self mark_refused c.self.invariant.pointed there found c.refuse.ensures)
+    (seen_marked (λ (r : TxRecord). record r { refused = true }) c.self.inside c.args.id c.refuse.new.self mark_refused c.self.invariant.pointed
+    (record { there = there; before = _; read = found; changed = c.refuse.ensures }))

@@ -1,6 +1,4 @@
-use Rattle.std.proofs.Common.{Some}
-use Rattle.zeus_model.specs.Book.{TxRecord}
-use Rattle.history_book.proofs.Keeping.{kept_replied, seen_unpointed}
+use Rattle.history_book.proofs.Keeping.{kept_replied, seen_unpointed, with_reply}
 use Rattle.history_book.proofs.book.Book.set_reply.Goals as goal
 
 pub invariant_of-self : goal.invariant_of-self
@@ -9,7 +7,8 @@ invariant_of-self c =
     let none = rw (← c.self.view_is) at c.requires.first in
     let found = rw c.place.ensures at c.index_mut-record.ensures.value in
     rw c.place.ensures
-    (kept_replied c.args.reply _ c.args.id _ c.set_reply.new.self _ _ _ _ c.self.invariant none there found c.set_reply.ensures)
+    (kept_replied c.args.reply c.self.inside c.args.id c.set_reply.new.self c.self.invariant none
+    (record { there = there; before = _; read = found; changed = c.set_reply.ensures }))
 
 pub returns : goal.returns
 returns c =
@@ -17,4 +16,5 @@ returns c =
     let none = rw (← c.self.view_is) at c.requires.first in
     let found = rw c.place.ensures at c.index_mut-record.ensures.value in
     rw (← c.self.view_is, c.place.ensures)
-    (seen_unpointed (λ (r : TxRecord). record r { reply = Some c.args.reply }) _ _ _ _ _ c.args.id _ c.set_reply.new.self c.self.invariant.pointed none there found c.set_reply.ensures)
+    (seen_unpointed (with_reply c.args.reply) c.self.inside c.args.id c.set_reply.new.self c.self.invariant.pointed none
+    (record { there = there; before = _; read = found; changed = c.set_reply.ensures }))
