@@ -130,7 +130,13 @@ from_directory : (live : Bool) (s : State) → s.stage ≡ stages.Directory → 
 unfolding line_taken more directory_taken keyword_at word_at HasRoom HeadFits RisesFrom
 from_directory live s at fits =
     let listed : nodes_after s.head.nodes (Some s.head.nodes) None [] 0 (map decimal (0 ∷ [])) ≡ Ok (0 ∷ []) =
-    nodes_after-nodes s.head.nodes (Some s.head.nodes) None [] 0 (0 ∷ []) fits.head.1.1 (none_below 0) (omega arith, tt) (below_some s.head.nodes fits.head.1.0) (λ k h. no_owner k (0 ∷ []) h) fits.head.1.0 in
+    nodes_after-nodes s.head.nodes (Some s.head.nodes) None [] 0 (0 ∷ []) fits.head.1.1 (record {
+      low = none_below 0;
+      rises = (omega arith, tt);
+      below = below_some s.head.nodes fits.head.1.0;
+      apart = λ k h. no_owner k (0 ∷ []) h;
+      room = fits.head.1.0;
+    }) in
     with_line live stages.Directory s (record s { stage = stages.Degree; head = record s.head { directory = 0 ∷ [] } }) (codes "directory" ∷ map decimal (0 ∷ [])) at fits (rw listed refl)
     (λ after. from_degree live _ refl after)
 

@@ -140,7 +140,8 @@ directory_leads : (live : Bool) (v n k : ℕ) (ns : List ℕ) → n ≤ 8 → ns
 unfolding line_taken more directory_taken keyword_at word_at HasRoom
 directory_leads live v n k ns few some rises below =
     let room : length ns + 0 ≤ n = length-below 0 n ns rises below (omega arith) in
-    let listed : nodes_after n (Some n) None [] 0 (map decimal ns) ≡ Ok ns = nodes_after-nodes n (Some n) None [] 0 ns few (none_below 0) rises below (λ k h. no_owner k ns h) (omega (arith, room)) in
+    let listed : nodes_after n (Some n) None [] 0 (map decimal ns) ≡ Ok ns = nodes_after-nodes n (Some n) None [] 0 ns few
+    (record { low = none_below 0; rises = rises; below = below; apart = λ k h. no_owner k ns h; room = omega (arith, room) }) in
     leads_one live _ _ _ (directory_line n ns few below) (rw (listed, some_nodes-some ns some) refl)
 
 degree_leads : (live : Bool) (v n k : ℕ) (ns : List ℕ) (d : ℕ) → 1 ≤ d → d ≤ 8 → Leads live (at_stage stages.Degree (with_directory v n k ns) [] [] [] []) ((codes "degree" ∷ decimal d ∷ []) ∷ []) (at_stage stages.Objects (with_degree v n k ns (Some d)) [] [] [] [])

@@ -175,7 +175,7 @@ step_at-words nodes (steps.Hear i) few h = rw (range_at-decimal 0 (2 ^ 32) i [] 
 step_at-words nodes (steps.Take i) few h = rw (range_at-decimal 0 (2 ^ 32) i [] (omega arith) (omega arith) h) refl
 step_at-words nodes (steps.Act n) few h = rw (range_at-decimal 0 nodes n [] (omega arith) (omega arith) h) refl
 step_at-words nodes (steps.View set) few h =
-    rw (nodes_after-nodes nodes None None [] 0 set few (none_below 0) h.0 h.1 (λ k g. no_owner k set g) (any_room _)) refl
+    rw (nodes_after-nodes nodes None None [] 0 set few (record { low = none_below 0; rises = h.0; below = h.1; apart = λ k g. no_owner k set g; room = any_room _ })) refl
 
 step_word_of-text : (k : StepWord) → (step_word_of (step_text k) ≡ Some k) × (bytes_eq (step_text k) (codes "end") ≡ false)
 unfolding step_word_of step_text

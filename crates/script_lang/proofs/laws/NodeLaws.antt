@@ -117,22 +117,38 @@ none_owner : (o : Bool) (k : Bool) → (o ≡ true → k ≡ false) → k ≡ tr
 none_owner true k h g = let no = h refl in absurd cc
 none_owner false k h g = refl
 
--- if further nodes rise, are in range, are not the owner and have room, then reading their words gives the list with them
-pub nodes_after-nodes : (nodes : ℕ) (most owner : Option ℕ) (listed : List ℕ) (lowest : ℕ) (ns : List ℕ) → nodes ≤ 8 → IsBelow lowest listed → RisesFrom lowest ns → IsBelow nodes ns
-    → ((k : ℕ) → is_owner owner k ≡ true → has k ns ≡ false) → HasRoom most (length listed + length ns) → nodes_after nodes most owner listed lowest (map decimal ns) ≡ Ok (listed ++ ns)
+-- further nodes rise behind those that are listed, are in range, are not the owner and have room
+pub record CanFollow (nodes : ℕ) (most owner : Option ℕ) (listed : List ℕ) (lowest : ℕ) (ns : List ℕ) : Type 0 where
+  pub low : IsBelow lowest listed
+  pub rises : RisesFrom lowest ns
+  pub below : IsBelow nodes ns
+  pub apart : (k : ℕ) → is_owner owner k ≡ true → has k ns ≡ false
+  pub room : HasRoom most (length listed + length ns)
+
+-- if further nodes can follow, then reading their words gives the list with them
+pub nodes_after-nodes : (nodes : ℕ) (most owner : Option ℕ) (listed : List ℕ) (lowest : ℕ) (ns : List ℕ) → nodes ≤ 8 → CanFollow nodes most owner listed lowest ns
+    → nodes_after nodes most owner listed lowest (map decimal ns) ≡ Ok (listed ++ ns)
 unfolding nodes_after RisesFrom
-nodes_after-nodes nodes most owner listed lowest [] few low rises below apart room = ap Ok (sym (append-nil listed))
-nodes_after-nodes nodes most owner listed lowest (n ∷ ns) few low rises below apart room =
+nodes_after-nodes nodes most owner listed lowest [] few can = ap Ok (sym (append-nil listed))
+nodes_after-nodes nodes most owner listed lowest (n ∷ ns) few can =
+    let low = can.low in
+    let rises = can.rises in
+    let below = can.below in
     let lt : n < nodes = below n (has-head n ns) in
-    let other : is_owner owner n ≡ false = none_owner (is_owner owner n) (has n (n ∷ ns)) (apart n) (has-head n ns) in
-    let not : is_full most (length listed) ≡ false = not_full most (length listed) (length listed + length (n ∷ ns)) (omega arith) room in
+    let other : is_owner owner n ≡ false = none_owner (is_owner owner n) (has n (n ∷ ns)) (can.apart n) (has-head n ns) in
+    let not : is_full most (length listed) ≡ false = not_full most (length listed) (length listed + length (n ∷ ns)) (omega arith) can.room in
     let here : listed_of nodes most owner listed lowest (decimal n) ≡ Ok n = listed_of-node nodes most owner listed lowest n few not rises.0 lt other in
     let more : with_node n listed ≡ listed ++ n ∷ [] = with_node-last n lowest listed low rises.0 in
     let high : IsBelow (suc n) (with_node n listed) = IsBelow-with_node (suc n) n listed (omega arith) (IsBelow-more lowest (suc n) listed (omega (arith, rises.0)) low) in
-    let apart_rest : (k : ℕ) → is_owner owner k ≡ true → has k ns ≡ false = λ k h. tail_apart k (apart k h) in
     let length_is : length (with_node n listed) + length ns ≡ length listed + length (n ∷ ns) = rw (more, length-append) (omega arith) in
-    let room_rest : HasRoom most (length (with_node n listed) + length ns) = rw length_is room in
-    let rest = nodes_after-nodes nodes most owner (with_node n listed) (suc n) ns few high rises.1 (λ k h. below k (has-tail k n ns h)) apart_rest room_rest in
+    let others : CanFollow nodes most owner (with_node n listed) (suc n) ns = record {
+      low = high;
+      rises = rises.1;
+      below = λ k h. below k (has-tail k n ns h);
+      apart = λ k h. tail_apart k (can.apart k h);
+      room = rw length_is can.room;
+    } in
+    let rest = nodes_after-nodes nodes most owner (with_node n listed) (suc n) ns few others in
     rw here (rest ∙ ap Ok (rw (more, append_assoc) refl))
   where
     tail_apart : (k : ℕ) → has k (n ∷ ns) ≡ false → has k ns ≡ false

@@ -119,5 +119,11 @@ pub object_at-object : (version nodes : ℕ) (names : List (List ℕ)) (name : L
 unfolding object_at word_at HasRoom
 object_at-object version nodes names name o few is new fits keeps =
     let others : nodes_after nodes None (Some o.owner) [] 0 (map decimal (without o.owner o.replicas)) ≡ Ok (without o.owner o.replicas) =
-    nodes_after-nodes nodes None (Some o.owner) [] 0 (without o.owner o.replicas) few (none_below 0) (RisesFrom-without 0 o.owner o.replicas keeps.rising) (below_without nodes o.owner o.replicas keeps.replicas) (owner_apart o.owner o.replicas) tt in
+    nodes_after-nodes nodes None (Some o.owner) [] 0 (without o.owner o.replicas) few (record {
+      low = none_below 0;
+      rises = RisesFrom-without 0 o.owner o.replicas keeps.rising;
+      below = below_without nodes o.owner o.replicas keeps.replicas;
+      apart = owner_apart o.owner o.replicas;
+      room = tt;
+    }) in
     rw (new_name_of-name names name is new, value_at-text version o.value (decimal o.owner ∷ map decimal (without o.owner o.replicas)) fits, range_at-decimal 0 nodes o.owner (map decimal (without o.owner o.replicas)) (omega (arith, keeps.owner)) (omega arith) keeps.owner, others, with-without o.owner o.replicas keeps.own_copy keeps.rising) refl

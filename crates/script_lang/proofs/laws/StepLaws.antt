@@ -157,6 +157,6 @@ step_at-words config txs (steps.Deliver n m i) few slots small fits =
 step_at-words config txs (steps.Tick n) few slots small fits = rw (range_at-decimal 0 config.nodes n [] (omega arith) (omega arith) fits) refl
 step_at-words config txs (steps.Stop n) few slots small fits = rw (range_at-decimal 0 config.nodes n [] (omega arith) (omega arith) fits) refl
 step_at-words config txs (steps.View ns) few slots small fits =
-    rw (nodes_after-nodes config.nodes None None [] 0 ns few (none_below 0) fits.0 fits.1 (λ k h. no_owner k ns h) (any_room _)) refl
+    rw (nodes_after-nodes config.nodes None None [] 0 ns few (record { low = none_below 0; rises = fits.0; below = fits.1; apart = λ k h. no_owner k ns h; room = any_room _ })) refl
 step_at-words config txs (steps.Install n e) few slots small fits =
     rw (range_at-decimal 0 config.nodes n (decimal e ∷ []) (omega (arith, fits.0)) (omega arith) fits.0, range_at-decimal 1 (2 ^ 32) e [] (omega (arith, fits.2)) fits.1 fits.2) refl
