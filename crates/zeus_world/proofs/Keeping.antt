@@ -103,11 +103,15 @@ promised_stepped w v s t r f promise is e =
     let after : v ≡ stepped w s = e ∙ ap (λ (u : Step). stepped w u) (sym is) in
     rw after (reached_promised (stepped w s) (reached_step w s r f) promise)
 
+-- a call took the step of the world w and told of it, or memory was wanting and the world stayed
+pub record TakesOrStays (w v : World) (s : Step) (told : StepEvent) (r : Result (Unit {0}) NoMemory) : Type 0 where
+  pub ok : IfOk r (λ u. IsTaken told v (happens w s))
+  pub err : OnErr r (v ≡ w)
+
 -- if every run keeps its promise, then so does the world after a call, whether the step was taken or memory was wanting
-pub promised_after : (w v : World) (s t : Step) (told : StepEvent) (r : Result (Unit {0}) NoMemory) → IsReached w → FitsStep w.config (length w.txs) s → EveryRunKeepsItsPromise → s ≡ t
-    → IfOk r (λ u. IsTaken told v (happens w t)) → OnErr r (v ≡ w) → HasPromise v
-promised_after w v s t told (Ok u) r f promise is ok err = promised_stepped w v s t r f promise is ok.becomes
-promised_after w v s t told (Err e) r f promise is ok err = rw err (reached_promised w r promise)
+pub promised_after : (w v : World) (s t : Step) (told : StepEvent) (r : Result (Unit {0}) NoMemory) → IsReached w → FitsStep w.config (length w.txs) s → EveryRunKeepsItsPromise → s ≡ t → TakesOrStays w v t told r → HasPromise v
+promised_after w v s t told (Ok u) r f promise is call = promised_stepped w v s t r f promise is call.ok.becomes
+promised_after w v s t told (Err e) r f promise is call = rw call.err (reached_promised w r promise)
 
 -- the world at the start is kept
 pub kept_start : (c : Config) (txs : List TxDecl) (w : World) (b : BookState) → KeepsLimits c → FitsTxs c txs → w ≡ start c txs → (book : Book) → b ≡ record { book = book; nodes = c.nodes; slots = c.slots } → IsKept w b

@@ -82,16 +82,26 @@ room_most : (L : List LinkState) (count most : ℕ) → count ≤ most → HasRo
 unfolding HasRoom
 room_most L count most h r to k = let m = r to k in omega arith
 
--- if the letters of a node's act fit, and each of its links has room for 64, then those that it said can be posted
-pub can_post : (w : World) (n : ℕ) (all said : List Letter) (L : List (List LinkState)) → said ≡ take 64 all → IsRanged w → n < w.config.nodes → letters L ≡ w.links → AreBy n all → AllFit (limits_of w.config) all → HasRoom 64 (nth [] L n) → CanPost L said
-can_post w n all said L is r h e by fit room =
-    let size : length L ≡ w.config.nodes = sym (length-letters L) ∙ ap length e ∙ r.senders in
-    let row : length (nth [] L n) ≡ w.config.nodes = length-row L n ∙ ap (λ (x : List (List (List Letter))). length (nth [] x n)) e ∙ r.receivers n h in
+-- the node of this number can send the first 64 of the letters: it is of the ranged world w, whose links these are, the
+-- letters are its own and fit, and each of its links has room for 64
+pub record CanSend (w : World) (n : ℕ) (all : List Letter) (L : List (List LinkState)) : Type 0 where
+  pub ranged : IsRanged w
+  pub there : n < w.config.nodes
+  pub links : letters L ≡ w.links
+  pub by : AreBy n all
+  pub fit : AllFit (limits_of w.config) all
+  pub room : HasRoom 64 (nth [] L n)
+
+-- if a node can send the letters of its act, then those that it said can be posted
+pub can_post : (w : World) (n : ℕ) (all said : List Letter) (L : List (List LinkState)) → said ≡ take 64 all → CanSend w n all L → CanPost L said
+can_post w n all said L is can =
+    let size : length L ≡ w.config.nodes = sym (length-letters L) ∙ ap length can.links ∙ can.ranged.senders in
+    let row : length (nth [] L n) ≡ w.config.nodes = length-row L n ∙ ap (λ (x : List (List (List Letter))). length (nth [] x n)) can.links ∙ can.ranged.receivers n can.there in
     rw is (record {
       sender = n;
-      there = rw size h;
-      receivers = are_from n (length (nth [] L n)) (limits_of w.config) (take 64 all) (are_limits w.config r.limits) row (by_take n 64 all by) (AllFit-take (limits_of w.config) 64 all fit);
-      room = room_most (nth [] L n) (length (take 64 all)) 64 (length-take-most 64 all) room;
+      there = rw size can.there;
+      receivers = are_from n (length (nth [] L n)) (limits_of w.config) (take 64 all) (are_limits w.config can.ranged.limits) row (by_take n 64 all can.by) (AllFit-take (limits_of w.config) 64 all can.fit);
+      room = room_most (nth [] L n) (length (take 64 all)) 64 (length-take-most 64 all) can.room;
     })
 
 -- a link's sender is there
@@ -117,48 +127,92 @@ has_lists b count points acked e p a =
 abbrev pub world_with : World → List Node → List (List (List Letter)) → Book → World
 world_with w nodes links book = record { config = w.config; txs = w.txs; nodes = nodes; links = links; views = w.views; book = book }
 
--- a node has acted, behind what was noted before
-pub settled_taken : (w : World) (n : ℕ) (after : Node) (a : Answer) (said : List Letter) (passed : List Passed) (c : BookChange) (b b' : BookState) (L L' : List (List LinkState)) (r s : StepEvent)
-    → n < length w.nodes → letters L ≡ w.links → IsMade c b r.points r.acked → r.answer ≡ a → IsSettled n said passed b b' L L' r s
-    → IsTaken s (world_with w (set w.nodes n after) (letters L') b'.book) (acted w n after a said (change_then c (λ d. book_passes d n (in_stream_order passed))))
-settled_taken w n after a said passed c b b' L L' r s h e m says settled =
-    let change : BookChange = change_then c (λ d. book_passes d n (in_stream_order passed)) in
-    let passes : BookChange = book_passes c.book n (in_stream_order passed) in
-    let same : book_passes b.book n (in_stream_order passed) ≡ passes = ap (λ (d : Book). book_passes d n (in_stream_order passed)) m.book in
-    let book : b'.book ≡ counted change.book = ap (λ (d : BookState). d.book) settled.book ∙ ap (λ (d : BookChange). counted d.book) same in
-    let links : letters L' ≡ all_posted w.links said = settled.links ∙ ap (λ (x : List (List (List Letter))). all_posted x said) e in
-    let nodes : set w.nodes n after ≡ put no_node w.nodes n after = sym (put-set no_node w.nodes n after h) in
+-- a node answers, becomes, sends the 64 letters at most, and passes what the rules say
+pub record HasActed {A : Type 0} (d : Did A) (answer : A) (after : Node) (said : List Letter) (passed : List Passed) : Type 0 where
+  pub says : answer ≡ d.answer
+  pub becomes : after ≡ d.node
+  pub sends : said ≡ take 64 d.sent
+  pub passes : passed ≡ d.passed
+
+-- the node of this number in the world w did d, and its act was settled: its answer, the node after it, what it said and passed,
+-- and the book, the links and the event before and after; the book has what is noted of the answer, and the event tells it
+pub record SettledAct {A : Type 0} (w : World) (n : ℕ) (d : Did A) (wrap : A → Answer) (note : A → BookChange) : Type 0 where
+  pub answer : A
+  pub after : Node
+  pub said : List Letter
+  pub passed : List Passed
+  pub book : BookState
+  pub book_after : BookState
+  pub links : List (List LinkState)
+  pub links_after : List (List LinkState)
+  pub event : StepEvent
+  pub event_after : StepEvent
+  pub settled : IsSettled n said passed book book_after links links_after event event_after
+  pub did : HasActed d answer after said passed
+  pub noted : IsMade (note answer) book event.points event.acked
+  pub linked : letters links ≡ w.links
+  pub says : event.answer ≡ wrap answer
+
+-- what a node answered, said and passed is what happens, where the rules say so
+acted_as : {A : Type 0} (w : World) (n : ℕ) (d : Did A) (wrap : A → Answer) (note : A → BookChange) (answer : A) (after : Node) (said : List Letter) (passed : List Passed) → HasActed d answer after said passed
+    → acted w n after (wrap answer) said (change_then (note answer) (λ b. book_passes b n (in_stream_order passed)))
+    ≡ acted w n d.node (wrap d.answer) (take 64 d.sent) (change_then (note d.answer) (λ b. book_passes b n (in_stream_order d.passed)))
+acted_as w n d wrap note answer after said passed has = rw (has.says, has.becomes, has.sends, has.passes) refl
+
+-- if a node's act was settled, then what is told is what happened, and the world is the one after it
+pub settled_taken : {A : Type 0} (w : World) (n : ℕ) (d : Did A) (wrap : A → Answer) (note : A → BookChange) → n < length w.nodes → (act : SettledAct w n d wrap note)
+    → IsTaken act.event_after (world_with w (set w.nodes n act.after) (letters act.links_after) act.book_after.book)
+    (acted w n d.node (wrap d.answer) (take 64 d.sent) (change_then (note d.answer) (λ b. book_passes b n (in_stream_order d.passed))))
+settled_taken w n d wrap note there act =
+    let c : BookChange = note act.answer in
+    let change : BookChange = change_then c (λ b. book_passes b n (in_stream_order act.passed)) in
+    let passes : BookChange = book_passes c.book n (in_stream_order act.passed) in
+    let same : book_passes act.book.book n (in_stream_order act.passed) ≡ passes = ap (λ (b : Book). book_passes b n (in_stream_order act.passed)) act.noted.book in
+    let book : act.book_after.book ≡ counted change.book = ap (λ (b : BookState). b.book) act.settled.book ∙ ap (λ (b : BookChange). counted b.book) same in
+    let links : letters act.links_after ≡ all_posted w.links act.said = act.settled.links ∙ ap (λ (x : List (List (List Letter))). all_posted x act.said) act.linked in
+    let nodes : set w.nodes n act.after ≡ put no_node w.nodes n act.after = sym (put-set no_node w.nodes n act.after there) in
+    let taken : IsTaken act.event_after (world_with w (set w.nodes n act.after) (letters act.links_after) act.book_after.book) (acted w n act.after (wrap act.answer) act.said change) =
     record {
       tells = record {
-        answer = settled.answer ∙ says;
-        points = settled.points ∙ ap (λ (xs : List ℕ). xs ++ (book_passes b.book n (in_stream_order passed)).points) m.points ∙ ap (λ (d : BookChange). c.points ++ d.points) same;
-        acked = settled.acked ∙ ap (λ (xs : List ℕ). xs ++ (book_passes b.book n (in_stream_order passed)).acked) m.acks ∙ ap (λ (d : BookChange). c.acked ++ d.acked) same;
-        sent = settled.sent ∙ ap (λ (x : List (List (List Letter))). packets x said) e;
+        answer = act.settled.answer ∙ act.says;
+        points = act.settled.points ∙ ap (λ (xs : List ℕ). xs ++ (book_passes act.book.book n (in_stream_order act.passed)).points) act.noted.points ∙ ap (λ (b : BookChange). c.points ++ b.points) same;
+        acked = act.settled.acked ∙ ap (λ (xs : List ℕ). xs ++ (book_passes act.book.book n (in_stream_order act.passed)).acked) act.noted.acks ∙ ap (λ (b : BookChange). c.acked ++ b.acked) same;
+        sent = act.settled.sent ∙ ap (λ (x : List (List (List Letter))). packets x act.said) act.linked;
       };
       becomes =
-          ap (λ (ns : List Node). world_with w ns (letters L') b'.book) nodes
-          ∙ ap (λ (x : List (List (List Letter))). world_with w (put no_node w.nodes n after) x b'.book) links
-          ∙ ap (λ (d : Book). world_with w (put no_node w.nodes n after) (all_posted w.links said) d) book;
-    }
+          ap (λ (ns : List Node). world_with w ns (letters act.links_after) act.book_after.book) nodes
+          ∙ ap (λ (x : List (List (List Letter))). world_with w (put no_node w.nodes n act.after) x act.book_after.book) links
+          ∙ ap (λ (b : Book). world_with w (put no_node w.nodes n act.after) (all_posted w.links act.said) b) book;
+    } in
+    let Taken : Event → Type 0 = λ e. IsTaken act.event_after (world_with w (set w.nodes n act.after) (letters act.links_after) act.book_after.book) e in
+    subst Taken (acted_as w n d wrap note act.answer act.after act.said act.passed act.did) taken
 
 -- a step that the world answers alone
 pub alone_taken : (w v : World) (a : Answer) (r : StepEvent) (e : Event) → e ≡ refuse_step w a → v ≡ record w { book = counted w.book } → IsAlone a r → IsTaken r v e
 alone_taken w v a r e is f alone =
     rw is (record { tells = record { answer = alone.says; points = alone.points; acked = alone.acked; sent = alone.sent }; becomes = f })
 
+-- an answer of the world w that is all a step tells: the links stay, and the book is b with the step counted
+pub record LoneAnswer (w : World) (a : Answer) (b : Book) : Type 0 where
+  pub links : List (List (List Letter))
+  pub book : Book
+  pub event : StepEvent
+  pub linked : links ≡ w.links
+  pub counts : book ≡ counted b
+  pub alone : IsAlone a event
+
 -- a node has acted, and nothing was sent and nothing has passed
-pub quiet_taken : (w : World) (n : ℕ) (after : Node) (a : Answer) (c : BookChange) (links : List (List (List Letter))) (b : Book) (r : StepEvent)
-    → n < length w.nodes → links ≡ w.links → b ≡ counted c.book → c.points ≡ [] → c.acked ≡ [] → IsAlone a r
-    → IsTaken r (world_with w (set w.nodes n after) links b) (acted w n after a [] c)
+pub quiet_taken : (w : World) (n : ℕ) (after : Node) (a : Answer) (c : BookChange) → n < length w.nodes → c.points ≡ [] → c.acked ≡ [] → (told : LoneAnswer w a c.book)
+    → IsTaken told.event (world_with w (set w.nodes n after) told.links told.book) (acted w n after a [] c)
 unfolding all_posted packets
-quiet_taken w n after a c links b r h e f p q alone =
-    let nodes : set w.nodes n after ≡ put no_node w.nodes n after = sym (put-set no_node w.nodes n after h) in
+quiet_taken w n after a c there p q told =
+    let nodes : set w.nodes n after ≡ put no_node w.nodes n after = sym (put-set no_node w.nodes n after there) in
     record {
-      tells = record { answer = alone.says; points = alone.points ∙ sym p; acked = alone.acked ∙ sym q; sent = alone.sent };
+      tells = record { answer = told.alone.says; points = told.alone.points ∙ sym p; acked = told.alone.acked ∙ sym q; sent = told.alone.sent };
       becomes =
-          ap (λ (ns : List Node). world_with w ns links b) nodes
-          ∙ ap (λ (x : List (List (List Letter))). world_with w (put no_node w.nodes n after) x b) e
-          ∙ ap (λ (d : Book). world_with w (put no_node w.nodes n after) w.links d) f;
+          ap (λ (ns : List Node). world_with w ns told.links told.book) nodes
+          ∙ ap (λ (x : List (List (List Letter))). world_with w (put no_node w.nodes n after) x told.book) told.linked
+          ∙ ap (λ (b : Book). world_with w (put no_node w.nodes n after) w.links b) told.counts;
     }
 
 -- ---- links that are there, and a world that only counts
@@ -171,10 +225,10 @@ link_there w from to L r h k e =
     record { from = rw size h; to = rw row k }
 
 -- if a step is refused and its answer alone is told, then what is told is what happens
-pub alone_as : (w : World) (a : Answer) (r : StepEvent) (e : Event) (links : List (List (List Letter))) (b : Book) → e ≡ refuse_step w a → links ≡ w.links → b ≡ counted w.book → IsAlone a r → IsTaken r (world_with w w.nodes links b) e
-alone_as w a r e links b is f g alone =
-    alone_taken w (world_with w w.nodes links b) a r e is
-    (ap (λ (x : List (List (List Letter))). world_with w w.nodes x b) f ∙ ap (λ (d : Book). world_with w w.nodes w.links d) g) alone
+pub alone_as : (w : World) (a : Answer) (e : Event) → e ≡ refuse_step w a → (told : LoneAnswer w a w.book) → IsTaken told.event (world_with w w.nodes told.links told.book) e
+alone_as w a e is told =
+    alone_taken w (world_with w w.nodes told.links told.book) a told.event e is
+    (ap (λ (x : List (List (List Letter))). world_with w w.nodes x told.book) told.linked ∙ ap (λ (b : Book). world_with w w.nodes w.links b) told.counts) told.alone
 
 -- what a change says of the book and of lists that were empty
 pub made_first : (b b1 : BookState) (p q p1 q1 : IdsState) (f : Book → BookChange) → p.ids ≡ [] → q.ids ≡ [] → so_far b1 p1 q1 ≡ change_then (so_far b p q) f → IsMade (f b.book) b1 p1 q1

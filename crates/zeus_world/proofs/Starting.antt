@@ -38,9 +38,9 @@ abbrev pub world_made : Config → List TxDecl → List Node → List (List (Lis
 world_made c txs nodes links views book = record { config = c; txs = txs; nodes = nodes; links = links; views = views; book = book }
 
 -- what a run is made of at its start
-pub started : (c : Config) (txs : List TxDecl) (nodes : List Node) (L : List (List LinkState)) (views : List (List ℕ)) (b : BookState) (n : ℕ) → nodes ≡ map (start_node c) (below c.nodes)
-    → L ≡ replicate c.nodes (replicate c.nodes no_link) → views ≡ below c.nodes ∷ [] → n ≡ length txs
-    → b ≡ record { book = record { steps = 0; points = []; records = replicate n no_record }; nodes = c.nodes; slots = c.slots }
+pub started : (c : Config) (txs : List TxDecl) (nodes : List Node) (L : List (List LinkState)) (views : List (List ℕ)) (b : BookState) → nodes ≡ map (start_node c) (below c.nodes)
+    → L ≡ replicate c.nodes (replicate c.nodes no_link) → views ≡ below c.nodes ∷ []
+    → b ≡ record { book = record { steps = 0; points = []; records = replicate (length txs) no_record }; nodes = c.nodes; slots = c.slots }
     → world_made c txs nodes (letters L) views b.book ≡ start c txs
 unfolding start
-started c txs nodes L views b n e f g h k = rw (e, f, g, k, h, rows_none c.nodes c.nodes) refl
+started c txs nodes L views b e f g k = rw (e, f, g, k, rows_none c.nodes c.nodes) refl

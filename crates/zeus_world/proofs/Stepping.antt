@@ -1,5 +1,5 @@
 -- What happens in each step, by what its node did.
-use Rattle.std.proofs.Common.{ℕ, zero, suc, ◌≡◌, ◌<◌, ◌≤◌, ◌+◌, ◌-◌, ◌^◌, ◌++◌, Bool, true, false, not, List, [], ◌∷◌, Option, Some, None, length, take, refl, sym, ap, ◌∙◌, subst, arith}
+use Rattle.std.proofs.Common.{ℕ, zero, suc, ◌≡◌, ◌<◌, ◌≤◌, ◌+◌, ◌-◌, ◌^◌, Bool, true, false, not, List, [], Option, Some, None, length, take, refl, sym, ap, ◌∙◌, subst, arith}
 use Rattle.std.specs.Prelude.{nat_lt, if◌then◌else◌, is_none}
 use Rattle.std.proofs.Math.ListN.{get_or, set}
 use Rattle.std.proofs.Common.{◌⊎◌, inl, inr}
@@ -16,8 +16,7 @@ use Rattle.zeus_base.specs.declared.step.Step.TheVariants.{Begin, Try, Deliver, 
 use Rattle.zeus_packet.specs.declared.letter.Letter.{Letter}
 use Rattle.zeus_packet.specs.declared.place.View.{View as ViewOf}
 use Rattle.zeus_txn.specs.declared.tx.TxDecl.{TxDecl}
-use Rattle.zeus_model.specs.Act.{Did}
-use Rattle.zeus_model.specs.Book.{Book, BookChange, book_passes, book_tried, change_then, book_only, counted, in_stream_order}
+use Rattle.zeus_model.specs.Book.{Book, BookChange, book_passes, book_tried, change_then, book_only, in_stream_order}
 use Rattle.zeus_model.specs.Local.{begin, try_slot}
 use Rattle.zeus_model.specs.Membership.{install, stop, tick}
 use Rattle.zeus_model.specs.Receive.{receive}
@@ -36,20 +35,21 @@ use Rattle.zeus_model.specs.declared.answer.Tried.{Tried}
 use Rattle.zeus_model.specs.declared.answer.Answer.TheVariants.{Begin as BeginAnswer, Try as TryAnswer, Receive as ReceiveAnswer, Tick as TickAnswer, Stop as StopAnswer, Install as InstallAnswer, NoPacket, NoView}
 use Rattle.zeus_base.specs.declared.config.Limits.{Limits}
 use Rattle.zeus_packet.specs.Fits.{nodes_fit}
-use Rattle.node_ranges.specs.Ranges.{AllFit, KeepsRanges, limits_of as node_limits}
+use Rattle.node_ranges.specs.Ranges.{KeepsRanges, limits_of as node_limits}
 use Rattle.history_book.specs.Books.{BookState, HasLists}
-use Rattle.history_book.specs.Ids.{IdsState}
 use Rattle.history_book.specs.Tries.{CanNote}
 use Rattle.reached_worlds.specs.Ranged.{IsRanged}
 use Rattle.reached_worlds.proofs.Passes.{IsOfBelow, book_tried-sized}
 use Rattle.reached_worlds.proofs.Reaching.{IsKnown}
 use Rattle.reached_worlds.proofs.Telling.{can_note, try_of_below}
-use Rattle.reached_worlds.proofs.Signed.{AreBy, tick-passed}
-use Rattle.lossy_fabric.specs.Links.{LinkState, HasRoom, letters}
-use Rattle.zeus_world.specs.Settling.{CanSettle, IsSettled}
-use Rattle.zeus_world.specs.Taken.{IsAlone, IsTaken}
+use Rattle.reached_worlds.proofs.Signed.{tick-passed}
+use Rattle.lossy_fabric.specs.Links.{LinkState, letters}
+use Rattle.zeus_world.specs.Settling.{CanSettle}
+use Rattle.zeus_world.specs.Shown.{IsKept}
+use Rattle.zeus_world.specs.Taken.{IsTaken}
 use Rattle.zeus_world.specs.declared.event.StepEvent.{StepEvent}
-use Rattle.zeus_world.proofs.Settling.{IsMade, can_post, few_letters, quiet_taken, settled_taken, world_with}
+use Rattle.zeus_world.proofs.Keeping.{known}
+use Rattle.zeus_world.proofs.Settling.{CanSend, LoneAnswer, SettledAct, can_post, few_letters, quiet_taken, settled_taken, world_with}
 
 -- ---- a node of the world
 
@@ -80,26 +80,9 @@ place_there w n r h = rw r.count h
 
 -- ---- a node has acted
 
--- a node answers, becomes, sends the 64 letters at most, and passes what the rules say
-pub record HasActed {A : Type 0} (d : Did A) (answer : A) (after : Node) (said : List Letter) (passed : List Passed) : Type 0 where
-  pub says : answer ≡ d.answer
-  pub becomes : after ≡ d.node
-  pub sends : said ≡ take 64 d.sent
-  pub passes : passed ≡ d.passed
-
--- if the letters of a node's act fit, the links have room for 64, and book and lists have theirs, then it can be settled
-pub can_settle : (w : World) (n : ℕ) (all said : List Letter) (b : BookState) (L : List (List LinkState)) (r : StepEvent) → said ≡ take 64 all → IsRanged w → n < w.config.nodes → letters L ≡ w.links
-    → AreBy n all → AllFit (limits_of w.config) all → HasRoom 64 (nth [] L n) → b.book.steps + 1 < 2 ^ 64 → HasLists b.book r.points r.acked → CanSettle b L said r
-can_settle w n all said b L r is ranged h e by fit room steps lists =
-    let few = few_letters said all is in
-    record { counts = steps; post = can_post w n all said L is ranged h e by fit room; lists = lists; few = few }
-
--- if a node has acted and its act was settled, then what is told is what happened, and the world is the one after it
-pub settled_as : {A : Type 0} (w : World) (n : ℕ) (wrap : A → Answer) (d : Did A) (answer : A) (after : Node) (said : List Letter) (passed : List Passed) (c : BookChange) (b b' : BookState) (L L' : List (List LinkState)) (r s : StepEvent)
-    → HasActed d answer after said passed → n < length w.nodes → letters L ≡ w.links → IsMade c b r.points r.acked → r.answer ≡ wrap answer → IsSettled n said passed b b' L L' r s
-    → IsTaken s (world_with w (set w.nodes n after) (letters L') b'.book) (acted w n d.node (wrap d.answer) (take 64 d.sent) (change_then c (λ e. book_passes e n (in_stream_order d.passed))))
-settled_as w n wrap d answer after said passed c b b' L L' r s did h e m says settled =
-    rw (← did.says, ← did.becomes, ← did.sends, ← did.passes) (settled_taken w n after (wrap answer) said passed c b b' L L' r s h e m says settled)
+-- if a node can send the letters of its act, and book and lists have room for it, then the act can be settled
+pub can_settle : (w : World) (n : ℕ) (all said : List Letter) (b : BookState) (L : List (List LinkState)) (r : StepEvent) → said ≡ take 64 all → CanSend w n all L → b.book.steps + 1 < 2 ^ 64 → HasLists b.book r.points r.acked → CanSettle b L said r
+can_settle w n all said b L r is can steps lists = record { counts = steps; post = can_post w n all said L is can; lists = lists; few = few_letters said all is }
 
 -- ---- what happens
 
@@ -221,10 +204,10 @@ install_fits c txs n e h = record { node = h.0; first = h.1 }
 -- ---- what is taken
 
 -- if a node stopped and nothing else is told, then what is told and the world are those of the stop
-pub stop_taken : (w : World) (n : ℕ) (k after : Node) (t : Stopping) (links : List (List (List Letter))) (b : Book) (r : StepEvent) → IsNodeAt w n k → t ≡ (stop k).answer → after ≡ (stop k).node
-    → links ≡ w.links → b ≡ counted w.book → IsAlone (StopAnswer t) r → IsTaken r (world_with w (set w.nodes n after) links b) (happens w (Stop n))
-stop_taken w n k after t links b r at says becomes e f alone =
-    rw (stop_happens w n k at, ← says, ← becomes) (quiet_taken w n after (StopAnswer t) (book_only w.book) links b r at.place e f refl refl alone)
+pub stop_taken : (w : World) (n : ℕ) (k after : Node) (t : Stopping) → IsNodeAt w n k → t ≡ (stop k).answer → after ≡ (stop k).node → (told : LoneAnswer w (StopAnswer t) w.book)
+    → IsTaken told.event (world_with w (set w.nodes n after) told.links told.book) (happens w (Stop n))
+stop_taken w n k after t at says becomes told =
+    rw (stop_happens w n k at, ← says, ← becomes) (quiet_taken w n after (StopAnswer t) (book_only w.book) at.place refl refl told)
 
 -- a change in which nothing has its point and nothing is acknowledged
 record IsQuietly (c : BookChange) : Type 0 where
@@ -238,48 +221,38 @@ begun_quiet b k (Busy id) = record { points = refl; acks = refl }
 begun_quiet b k BeginStopped = record { points = refl; acks = refl }
 
 -- if a node began a transaction and nothing else is told, then what is told and the world are those of the begin
-pub begin_taken : (w : World) (k : ℕ) (n after : Node) (t : BeginOutcome) (links : List (List (List Letter))) (b : Book) (r : StepEvent) → IsNodeAt w (tx_decl w k).node n → None ≡ begin_refused w k
-    → t ≡ (begin n (tx_decl w k).slot k (tx_decl w k).tx).answer → after ≡ (begin n (tx_decl w k).slot k (tx_decl w k).tx).node
-    → links ≡ w.links → b ≡ counted (book_begun w.book k t).book → IsAlone (BeginAnswer t) r → IsTaken r (world_with w (set w.nodes (tx_decl w k).node after) links b) (happens w (Begin k))
-begin_taken w k n after t links b r at is says becomes e f alone =
+pub begin_taken : (w : World) (k : ℕ) (n after : Node) (t : BeginOutcome) → IsNodeAt w (tx_decl w k).node n → None ≡ begin_refused w k
+    → t ≡ (begin n (tx_decl w k).slot k (tx_decl w k).tx).answer → after ≡ (begin n (tx_decl w k).slot k (tx_decl w k).tx).node → (told : LoneAnswer w (BeginAnswer t) (book_begun w.book k t).book)
+    → IsTaken told.event (world_with w (set w.nodes (tx_decl w k).node after) told.links told.book) (happens w (Begin k))
+begin_taken w k n after t at is says becomes told =
     let quiet = begun_quiet w.book k t in
     rw (begin_happens w k n at is, ← says, ← becomes)
-    (quiet_taken w (tx_decl w k).node after (BeginAnswer t) (book_begun w.book k t) links b r at.place e f quiet.points quiet.acks alone)
+    (quiet_taken w (tx_decl w k).node after (BeginAnswer t) (book_begun w.book k t) at.place quiet.points quiet.acks told)
 
 -- if a node ticked and its act was settled, then what is told and the world are those of the tick
-pub tick_taken : (w : World) (n : ℕ) (k after : Node) (t : Ticking) (said : List Letter) (passed : List Passed) (b b' : BookState) (L L' : List (List LinkState)) (r s : StepEvent) → IsNodeAt w n k
-    → HasActed (tick k) t after said passed → letters L ≡ w.links → b.book ≡ w.book → IsAlone (TickAnswer t) r → IsSettled n said passed b b' L L' r s
-    → IsTaken s (world_with w (set w.nodes n after) (letters L') b'.book) (happens w (Tick n))
-tick_taken w n k after t said passed b b' L L' r s at did e f alone settled =
-    rw (tick_happens w n k at)
-    (settled_as w n TickAnswer (tick k) t after said passed (book_only w.book) b b' L L' r s did at.place e (record { book = f; points = alone.points; acks = alone.acked }) alone.says settled)
+pub tick_taken : (w : World) (n : ℕ) (k : Node) → IsNodeAt w n k → (act : SettledAct w n (tick k) TickAnswer (λ (a : Ticking). book_only w.book))
+    → IsTaken act.event_after (world_with w (set w.nodes n act.after) (letters act.links_after) act.book_after.book) (happens w (Tick n))
+tick_taken w n k at act = rw (tick_happens w n k at) (settled_taken w n (tick k) TickAnswer (λ (a : Ticking). book_only w.book) at.place act)
 
 -- if a node received a packet's letter and its act was settled, then what is told and the world are those of the delivery
-pub deliver_taken : (w : World) (from to i : ℕ) (l : Letter) (k after : Node) (t : Receiving) (said : List Letter) (passed : List Passed) (b b' : BookState) (L L' : List (List LinkState)) (r s : StepEvent) → IsNodeAt w to k
-    → nth_letter (link w.links from to) i ≡ Some l
-    → HasActed (receive k l) t after said passed → letters L ≡ w.links → b.book ≡ w.book → IsAlone (ReceiveAnswer t) r → IsSettled to said passed b b' L L' r s
-    → IsTaken s (world_with w (set w.nodes to after) (letters L') b'.book) (happens w (Deliver from to i))
-deliver_taken w from to i l k after t said passed b b' L L' r s at is did e f alone settled =
-    rw (deliver_happens w from to i l k at is)
-    (settled_as w to ReceiveAnswer (receive k l) t after said passed (book_only w.book) b b' L L' r s did at.place e (record { book = f; points = alone.points; acks = alone.acked }) alone.says settled)
+pub deliver_taken : (w : World) (from to i : ℕ) (l : Letter) (k : Node) → IsNodeAt w to k → nth_letter (link w.links from to) i ≡ Some l
+    → (act : SettledAct w to (receive k l) ReceiveAnswer (λ (a : Receiving). book_only w.book))
+    → IsTaken act.event_after (world_with w (set w.nodes to act.after) (letters act.links_after) act.book_after.book) (happens w (Deliver from to i))
+deliver_taken w from to i l k at is act =
+    rw (deliver_happens w from to i l k at is) (settled_taken w to (receive k l) ReceiveAnswer (λ (a : Receiving). book_only w.book) at.place act)
 
 -- if a node installed a view and its act was settled, then what is told and the world are those of the install
-pub install_taken : (w : World) (n e : ℕ) (v : ViewOf) (k after : Node) (t : Installing) (said : List Letter) (passed : List Passed) (b b' : BookState) (L L' : List (List LinkState)) (r s : StepEvent) → IsNodeAt w n k
-    → e ≤ length w.views → v ≡ record { epoch = e; members = nth [] w.views (e - 1) }
-    → HasActed (install k v) t after said passed → letters L ≡ w.links → b.book ≡ w.book → IsAlone (InstallAnswer t) r → IsSettled n said passed b b' L L' r s
-    → IsTaken s (world_with w (set w.nodes n after) (letters L') b'.book) (happens w (Install n e))
-install_taken w n e v k after t said passed b b' L L' r s at less is did f g alone settled =
-    rw (install_happens w n e v k at less is)
-    (settled_as w n InstallAnswer (install k v) t after said passed (book_only w.book) b b' L L' r s did at.place f (record { book = g; points = alone.points; acks = alone.acked }) alone.says settled)
+pub install_taken : (w : World) (n e : ℕ) (v : ViewOf) (k : Node) → IsNodeAt w n k → e ≤ length w.views → v ≡ record { epoch = e; members = nth [] w.views (e - 1) }
+    → (act : SettledAct w n (install k v) InstallAnswer (λ (a : Installing). book_only w.book))
+    → IsTaken act.event_after (world_with w (set w.nodes n act.after) (letters act.links_after) act.book_after.book) (happens w (Install n e))
+install_taken w n e v k at less is act =
+    rw (install_happens w n e v k at less is) (settled_taken w n (install k v) InstallAnswer (λ (a : Installing). book_only w.book) at.place act)
 
 -- if a slot was tried and its act was settled, then what is told and the world are those of the try
-pub try_taken : (w : World) (n slot : ℕ) (k after : Node) (t : Tried) (said : List Letter) (passed : List Passed) (b b' : BookState) (L L' : List (List LinkState)) (r s : StepEvent) → IsNodeAt w n k
-    → HasActed (try_slot k slot) t after said passed → letters L ≡ w.links → IsMade (book_tried w.book record { node = n; slot = slot } w.config.degree t) b r.points r.acked → r.answer ≡ TryAnswer t
-    → IsSettled n said passed b b' L L' r s
-    → IsTaken s (world_with w (set w.nodes n after) (letters L') b'.book) (happens w (Try n slot))
-try_taken w n slot k after t said passed b b' L L' r s at did e m says settled =
-    rw (try_happens w n slot k at, ← did.says)
-    (rw (← did.says) at (settled_as w n TryAnswer (try_slot k slot) t after said passed (book_tried w.book record { node = n; slot = slot } w.config.degree t) b b' L L' r s did at.place e m says settled))
+pub try_taken : (w : World) (n slot : ℕ) (k : Node) → IsNodeAt w n k → (act : SettledAct w n (try_slot k slot) TryAnswer (λ (a : Tried). book_tried w.book record { node = n; slot = slot } w.config.degree a))
+    → IsTaken act.event_after (world_with w (set w.nodes n act.after) (letters act.links_after) act.book_after.book) (happens w (Try n slot))
+try_taken w n slot k at act =
+    rw (try_happens w n slot k at) (settled_taken w n (try_slot k slot) TryAnswer (λ (a : Tried). book_tried w.book record { node = n; slot = slot } w.config.degree a) at.place act)
 
 -- ---- what the nodes' calls and the book ask
 
@@ -288,20 +261,20 @@ pub members_fit : (limits : Limits) (n : Node) (ms : List ℕ) → KeepsRanges l
 unfolding nodes_fit
 members_fit limits n ms k h = rw k.sizes.nodes h
 
--- if a node of a known world tried a slot, then the book can note the answer
-pub can_try : (w : World) (n s : ℕ) (k : Node) (t : Tried) (b : BookState) → IsKnown w → IsNodeAt w n k → b.book ≡ w.book → b.nodes ≡ w.config.nodes → b.slots ≡ w.config.slots → s < w.config.slots → t ≡ (try_slot k s).answer
-    → CanNote b (record { node = n; slot = s }) t
-can_try w n s k t b known at book nodes slots h e =
-    let can = can_note w known.data_invariant.witness n s b book (rw nodes at.there) (rw slots h) known.data_invariant.data_invariant in
+-- if a node of a world that is kept with its book tried a slot, then the book can note the answer
+pub can_try : (w : World) (n s : ℕ) (k : Node) (t : Tried) (b : BookState) → IsKept w b → IsNodeAt w n k → b.book ≡ w.book → s < w.config.slots → t ≡ (try_slot k s).answer → CanNote b (record { node = n; slot = s }) t
+can_try w n s k t b kept at book h e =
+    let invariant = (known w b kept).data_invariant in
+    let can = can_note w invariant.witness n s b book (rw kept.nodes at.there) (rw kept.slots h) invariant.data_invariant in
     rw (e, ← at.same) can
 
 -- a try leaves the count of steps
-pub tried_counted : (w : World) (n s : ℕ) (k : Node) (t : Tried) (b1 : BookState) (p q : IdsState) → IsKnown w → IsNodeAt w n k → t ≡ (try_slot k s).answer
-    → IsMade (book_tried w.book record { node = n; slot = s } w.config.degree t) b1 p q → w.book.steps + 1 < 2 ^ 64 → b1.book.steps + 1 < 2 ^ 64
-tried_counted w n s k t b1 p q known at e m h =
-    let there : IsOfBelow (length w.book.records) t = rw (e, ← at.same) (try_of_below w known.data_invariant.witness n s known.data_invariant.data_invariant) in
+pub tried_counted : (w : World) (n s : ℕ) (k : Node) (t : Tried) (b : Book) → IsKnown w → IsNodeAt w n k → t ≡ (try_slot k s).answer
+    → b ≡ (book_tried w.book record { node = n; slot = s } w.config.degree t).book → w.book.steps + 1 < 2 ^ 64 → b.steps + 1 < 2 ^ 64
+tried_counted w n s k t b about at e is h =
+    let there : IsOfBelow (length w.book.records) t = rw (e, ← at.same) (try_of_below w about.data_invariant.witness n s about.data_invariant.data_invariant) in
     let sized = book_tried-sized w.book record { node = n; slot = s } w.config.degree t there in
-    let same : b1.book.steps ≡ w.book.steps = ap (λ (d : Book). d.steps) m.book ∙ sized.steps in
+    let same : b.steps ≡ w.book.steps = ap (λ (d : Book). d.steps) is ∙ sized.steps in
     rw same h
 
 -- an epoch of which there is a view, or none

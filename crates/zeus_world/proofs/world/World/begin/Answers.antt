@@ -17,7 +17,14 @@ invariant_of-self c =
     let w = shown c.self.inside in
     let there = rw (← c.self.view_is) at c.requires.there in
     let refused = rw (← c.self.view_is) at c.in-Some.ensures in
-    let taken = alone_as w c.in-Some.answer c.answer_alone.new.event _ (letters c.self.inside.links) c.answer_alone.new.book.book (begin_none w c.args.id c.in-Some.answer refused) refl (ap (λ (b : BookState). b.book) c.answer_alone.ensures.book) c.answer_alone.ensures.event in
+    let taken = alone_as w c.in-Some.answer _ (begin_none w c.args.id c.in-Some.answer refused) (record {
+      links = letters c.self.inside.links;
+      book = c.answer_alone.new.book.book;
+      event = c.answer_alone.new.event;
+      linked = refl;
+      counts = ap (λ (b : BookState). b.book) c.answer_alone.ensures.book;
+      alone = c.answer_alone.ensures.event;
+    }) in
     kept_after w _ _ c.self.inside.book c.answer_alone.new.book c.self.invariant (fits_begin _ _ c.args.id there) taken.becomes (ap (λ (b : BookState). b.nodes) c.answer_alone.ensures.book) (ap (λ (b : BookState). b.slots) c.answer_alone.ensures.book)
 
 pub returns-in-Some : goal.returns-in-Some
@@ -25,7 +32,14 @@ returns-in-Some c =
     let w = shown c.self.inside in
     let refused = rw (← c.self.view_is) at c.in-Some.ensures in
     rw (← c.self.view_is)
-    (alone_as w c.in-Some.answer c.answer_alone.new.event _ (letters c.self.inside.links) c.answer_alone.new.book.book (begin_none w c.args.id c.in-Some.answer refused) refl (ap (λ (b : BookState). b.book) c.answer_alone.ensures.book) c.answer_alone.ensures.event)
+    (alone_as w c.in-Some.answer _ (begin_none w c.args.id c.in-Some.answer refused) (record {
+      links = letters c.self.inside.links;
+      book = c.answer_alone.new.book.book;
+      event = c.answer_alone.new.event;
+      linked = refl;
+      counts = ap (λ (b : BookState). b.book) c.answer_alone.ensures.book;
+      alone = c.answer_alone.ensures.event;
+    }))
 
 pub index_mut-node-requires : goal.index_mut-node-requires
 index_mut-node-requires c =
@@ -88,9 +102,15 @@ invariant_of-self-2 c =
     let fit = tx_fits w c.args.id (known _ _ c.self.invariant).ranged there in
     let k = rw (c.place-2.ensures, ← tx) at c.index_mut-node.ensures.value in
     let at = node_at w (tx_decl w c.args.id).node _ (known _ _ c.self.invariant).ranged fit.node k in
-    let taken = begin_taken w c.args.id _ c.begin-begun.new.self c.begin-begun.result (letters c.self.inside.links) c.answer_alone-2.new.book.book c.answer_alone-2.new.event at refused
-    (rw (← tx) at c.begin-begun.ensures.answer) (rw (← tx) at c.begin-begun.ensures.after) refl
-    (ap (λ (b : BookState). b.book) (rw c.note_begun.ensures at c.answer_alone-2.ensures.book)) c.answer_alone-2.ensures.event in
+    let taken = begin_taken w c.args.id _ c.begin-begun.new.self c.begin-begun.result at refused (rw (← tx) at c.begin-begun.ensures.answer) (rw (← tx) at c.begin-begun.ensures.after)
+    (record {
+      links = letters c.self.inside.links;
+      book = c.answer_alone-2.new.book.book;
+      event = c.answer_alone-2.new.event;
+      linked = refl;
+      counts = ap (λ (b : BookState). b.book) (rw c.note_begun.ensures at c.answer_alone-2.ensures.book);
+      alone = c.answer_alone-2.ensures.event;
+    }) in
     rw (c.place-2.ensures, ← tx)
     (kept_after w _ _ c.self.inside.book c.answer_alone-2.new.book c.self.invariant (fits_begin _ _ c.args.id there) taken.becomes
     (ap (λ (b : BookState). b.nodes) c.answer_alone-2.ensures.book ∙ ap (λ (b : BookState). b.nodes) c.note_begun.ensures) (ap (λ (b : BookState). b.slots) c.answer_alone-2.ensures.book ∙ ap (λ (b : BookState). b.slots) c.note_begun.ensures))
@@ -106,6 +126,12 @@ returns c =
     let k = rw (c.place-2.ensures, ← tx) at c.index_mut-node.ensures.value in
     let at = node_at w (tx_decl w c.args.id).node _ (known _ _ c.self.invariant).ranged fit.node k in
     rw (← c.self.view_is, c.place-2.ensures, ← tx)
-    (begin_taken w c.args.id _ c.begin-begun.new.self c.begin-begun.result (letters c.self.inside.links) c.answer_alone-2.new.book.book c.answer_alone-2.new.event at refused
-    (rw (← tx) at c.begin-begun.ensures.answer) (rw (← tx) at c.begin-begun.ensures.after) refl
-    (ap (λ (b : BookState). b.book) (rw c.note_begun.ensures at c.answer_alone-2.ensures.book)) c.answer_alone-2.ensures.event)
+    (begin_taken w c.args.id _ c.begin-begun.new.self c.begin-begun.result at refused (rw (← tx) at c.begin-begun.ensures.answer) (rw (← tx) at c.begin-begun.ensures.after)
+    (record {
+      links = letters c.self.inside.links;
+      book = c.answer_alone-2.new.book.book;
+      event = c.answer_alone-2.new.event;
+      linked = refl;
+      counts = ap (λ (b : BookState). b.book) (rw c.note_begun.ensures at c.answer_alone-2.ensures.book);
+      alone = c.answer_alone-2.ensures.event;
+    }))

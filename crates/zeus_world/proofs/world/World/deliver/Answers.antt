@@ -58,7 +58,14 @@ invariant_of-self-in_default c =
     let none = sym (ap (λ (L : List (List (List Letter))). nth_letter (link L c.args.from c.args.to) c.args.number) c.reserve-2.ensures.letters) ∙ no_letter c.args.number _ c.in_default.ensures in
     let count = c.count-count.ensures ∙ ap (λ (L : List (List (List Letter))). length (link L c.args.from c.args.to)) c.reserve-2.ensures.letters in
     let happens = deliver_none w c.args.from c.args.to c.args.number none ∙ ap (λ n. refuse_step w (NoPacket n)) (sym count) in
-    let taken = (alone_as w _ c.answer_alone.new.event _ (letters c.reserve-2.new.self) c.answer_alone.new.book.book happens c.reserve-2.ensures.letters (ap (λ (b : BookState). b.book) c.answer_alone.ensures.book) c.answer_alone.ensures.event) in
+    let taken = alone_as w _ _ happens (record {
+      links = letters c.reserve-2.new.self;
+      book = c.answer_alone.new.book.book;
+      event = c.answer_alone.new.event;
+      linked = c.reserve-2.ensures.letters;
+      counts = ap (λ (b : BookState). b.book) c.answer_alone.ensures.book;
+      alone = c.answer_alone.ensures.event;
+    }) in
     kept_after w _ _ c.self.inside.book c.answer_alone.new.book c.self.invariant fits taken.becomes (ap (λ (b : BookState). b.nodes) c.answer_alone.ensures.book) (ap (λ (b : BookState). b.slots) c.answer_alone.ensures.book)
 
 pub returns-in_default-clause-ok : goal.returns-in_default-clause-ok
@@ -70,7 +77,14 @@ returns-in_default-clause-ok c =
     let none = sym (ap (λ (L : List (List (List Letter))). nth_letter (link L c.args.from c.args.to) c.args.number) c.reserve-2.ensures.letters) ∙ no_letter c.args.number _ c.in_default.ensures in
     let count = c.count-count.ensures ∙ ap (λ (L : List (List (List Letter))). length (link L c.args.from c.args.to)) c.reserve-2.ensures.letters in
     let happens = deliver_none w c.args.from c.args.to c.args.number none ∙ ap (λ n. refuse_step w (NoPacket n)) (sym count) in
-    rw (← c.self.view_is) (alone_as w _ c.answer_alone.new.event _ (letters c.reserve-2.new.self) c.answer_alone.new.book.book happens c.reserve-2.ensures.letters (ap (λ (b : BookState). b.book) c.answer_alone.ensures.book) c.answer_alone.ensures.event)
+    rw (← c.self.view_is) (alone_as w _ _ happens (record {
+      links = letters c.reserve-2.new.self;
+      book = c.answer_alone.new.book.book;
+      event = c.answer_alone.new.event;
+      linked = c.reserve-2.ensures.letters;
+      counts = ap (λ (b : BookState). b.book) c.answer_alone.ensures.book;
+      alone = c.answer_alone.ensures.event;
+    }))
 
 pub receive-requires-clause-fits : goal.receive-requires-clause-fits
 receive-requires-clause-fits c =
@@ -100,7 +114,8 @@ settle-requires c =
     let space = c.in_ok-reserve.ensures.space in
     let points = c.clear.ensures.points_room in
     let acked = c.clear.ensures.acked_room in
-    can_settle w c.args.to _ c.receive.new.out.sent c.self.inside.book c.reserve-2.new.self _ c.receive.ensures.sent (known _ _ c.self.invariant).ranged here c.reserve-2.ensures.letters by.by keeps.sent c.in_ok-reserve-2.ensures.room (counted)
+    can_settle w c.args.to _ c.receive.new.out.sent c.self.inside.book c.reserve-2.new.self _ c.receive.ensures.sent
+    (record { ranged = (known _ _ c.self.invariant).ranged; there = here; links = c.reserve-2.ensures.letters; by = by.by; fit = keeps.sent; room = c.in_ok-reserve-2.ensures.room }) counted
     (has_lists c.self.inside.book.book c.txs.result c.clear.new.self.points c.clear.new.self.acked c.txs.ensures (omega arith) (omega arith))
 
 pub invariant_of-self-2 : goal.invariant_of-self-2
@@ -114,9 +129,23 @@ invariant_of-self-2 c =
     let found = sym (ap (λ (L : List (List (List Letter))). nth_letter (link L c.args.from c.args.to) c.args.number) c.reserve-2.ensures.letters) ∙ found_letter c.args.number _ _ c.in-Some.ensures in
     let fit = letter_fits w c.args.from c.args.to c.args.number _ (known _ _ c.self.invariant).ranged found in
     let taken =
-    (deliver_taken w c.args.from c.args.to c.args.number c.in-Some.packet.letter _ c.receive.new.self c.receive.result c.receive.new.out.sent c.receive.new.out.passed c.self.inside.book c.settle.new.book c.reserve-2.new.self c.settle.new.links _ c.settle.new.event at found
-    (record { says = c.receive.ensures.answer; becomes = c.receive.ensures.after; sends = c.receive.ensures.sent; passes = c.receive.ensures.passed }) c.reserve-2.ensures.letters refl
-    (record { says = refl; points = c.clear.ensures.points; acked = c.clear.ensures.acked; sent = c.clear.ensures.sent }) c.settle.ensures) in
+    deliver_taken w c.args.from c.args.to c.args.number c.in-Some.packet.letter _ at found (record {
+      answer = c.receive.result;
+      after = c.receive.new.self;
+      said = c.receive.new.out.sent;
+      passed = c.receive.new.out.passed;
+      book = c.self.inside.book;
+      book_after = c.settle.new.book;
+      links = c.reserve-2.new.self;
+      links_after = c.settle.new.links;
+      event = _;
+      event_after = c.settle.new.event;
+      settled = c.settle.ensures;
+      did = record { says = c.receive.ensures.answer; becomes = c.receive.ensures.after; sends = c.receive.ensures.sent; passes = c.receive.ensures.passed };
+      noted = record { book = refl; points = c.clear.ensures.points; acks = c.clear.ensures.acked };
+      linked = c.reserve-2.ensures.letters;
+      says = refl;
+    }) in
     rw c.place.ensures
     (kept_after w _ _ c.self.inside.book c.settle.new.book c.self.invariant fits taken.becomes (ap (λ (b : BookState). b.nodes) c.settle.ensures.book) (ap (λ (b : BookState). b.slots) c.settle.ensures.book))
 
@@ -131,6 +160,20 @@ returns-clause-ok c =
     let found = sym (ap (λ (L : List (List (List Letter))). nth_letter (link L c.args.from c.args.to) c.args.number) c.reserve-2.ensures.letters) ∙ found_letter c.args.number _ _ c.in-Some.ensures in
     let fit = letter_fits w c.args.from c.args.to c.args.number _ (known _ _ c.self.invariant).ranged found in
     rw (← c.self.view_is, c.place.ensures)
-    (deliver_taken w c.args.from c.args.to c.args.number c.in-Some.packet.letter _ c.receive.new.self c.receive.result c.receive.new.out.sent c.receive.new.out.passed c.self.inside.book c.settle.new.book c.reserve-2.new.self c.settle.new.links _ c.settle.new.event at found
-    (record { says = c.receive.ensures.answer; becomes = c.receive.ensures.after; sends = c.receive.ensures.sent; passes = c.receive.ensures.passed }) c.reserve-2.ensures.letters refl
-    (record { says = refl; points = c.clear.ensures.points; acked = c.clear.ensures.acked; sent = c.clear.ensures.sent }) c.settle.ensures)
+    (deliver_taken w c.args.from c.args.to c.args.number c.in-Some.packet.letter _ at found (record {
+      answer = c.receive.result;
+      after = c.receive.new.self;
+      said = c.receive.new.out.sent;
+      passed = c.receive.new.out.passed;
+      book = c.self.inside.book;
+      book_after = c.settle.new.book;
+      links = c.reserve-2.new.self;
+      links_after = c.settle.new.links;
+      event = _;
+      event_after = c.settle.new.event;
+      settled = c.settle.ensures;
+      did = record { says = c.receive.ensures.answer; becomes = c.receive.ensures.after; sends = c.receive.ensures.sent; passes = c.receive.ensures.passed };
+      noted = record { book = refl; points = c.clear.ensures.points; acks = c.clear.ensures.acked };
+      linked = c.reserve-2.ensures.letters;
+      says = refl;
+    }))

@@ -40,7 +40,14 @@ invariant_of-self c =
     let here = places.node in
     let past = epoch_past (length w.views) c.args.epoch (c.in_default.ensures.none.0 refl) places.first in
     let happens = install_none w c.args.at c.args.epoch past ∙ ap (λ n. refuse_step w (NoView n)) (sym c.count-count.ensures.views) in
-    let taken = (alone_as w _ c.answer_alone.new.event _ (letters c.self.inside.links) c.answer_alone.new.book.book happens refl (ap (λ (b : BookState). b.book) c.answer_alone.ensures.book) c.answer_alone.ensures.event) in
+    let taken = alone_as w _ _ happens (record {
+      links = letters c.self.inside.links;
+      book = c.answer_alone.new.book.book;
+      event = c.answer_alone.new.event;
+      linked = refl;
+      counts = ap (λ (b : BookState). b.book) c.answer_alone.ensures.book;
+      alone = c.answer_alone.ensures.event;
+    }) in
     kept_after w _ _ c.self.inside.book c.answer_alone.new.book c.self.invariant fits taken.becomes (ap (λ (b : BookState). b.nodes) c.answer_alone.ensures.book) (ap (λ (b : BookState). b.slots) c.answer_alone.ensures.book)
 
 pub returns-in_default-clause-ok : goal.returns-in_default-clause-ok
@@ -51,7 +58,14 @@ returns-in_default-clause-ok c =
     let here = places.node in
     let past = epoch_past (length w.views) c.args.epoch (c.in_default.ensures.none.0 refl) places.first in
     let happens = install_none w c.args.at c.args.epoch past ∙ ap (λ n. refuse_step w (NoView n)) (sym c.count-count.ensures.views) in
-    rw (← c.self.view_is) (alone_as w _ c.answer_alone.new.event _ (letters c.self.inside.links) c.answer_alone.new.book.book happens refl (ap (λ (b : BookState). b.book) c.answer_alone.ensures.book) c.answer_alone.ensures.event)
+    rw (← c.self.view_is) (alone_as w _ _ happens (record {
+      links = letters c.self.inside.links;
+      book = c.answer_alone.new.book.book;
+      event = c.answer_alone.new.event;
+      linked = refl;
+      counts = ap (λ (b : BookState). b.book) c.answer_alone.ensures.book;
+      alone = c.answer_alone.ensures.event;
+    }))
 
 pub install-requires-clause-members : goal.install-requires-clause-members
 install-requires-clause-members c =
@@ -85,7 +99,8 @@ settle-requires c =
     let space = c.in_ok-reserve.ensures.space in
     let points = c.clear.ensures.points_room in
     let acked = c.clear.ensures.acked_room in
-    can_settle w c.args.at _ c.install.new.out.sent c.self.inside.book c.reserve-2.new.self _ c.install.ensures.sent (known _ _ c.self.invariant).ranged here c.reserve-2.ensures.letters by.by keeps.sent c.in_ok-reserve-2.ensures.room (counted)
+    can_settle w c.args.at _ c.install.new.out.sent c.self.inside.book c.reserve-2.new.self _ c.install.ensures.sent
+    (record { ranged = (known _ _ c.self.invariant).ranged; there = here; links = c.reserve-2.ensures.letters; by = by.by; fit = keeps.sent; room = c.in_ok-reserve-2.ensures.room }) counted
     (has_lists c.self.inside.book.book c.txs.result c.clear.new.self.points c.clear.new.self.acked c.txs.ensures (omega arith) (omega arith))
 
 pub invariant_of-self-2 : goal.invariant_of-self-2
@@ -101,9 +116,23 @@ invariant_of-self-2 c =
     let first : 1 ≤ c.in-Some.view.epoch = rw c.in-Some.ensures.view places.first in
     let members : nodes_fit (limits_of c.self.inside.config.now) c.in-Some.view.members ≡ true = rw c.in-Some.ensures.view (ranged.members (c.args.epoch - 1)) in
     let taken =
-    (install_taken w c.args.at c.args.epoch c.in-Some.view _ c.install.new.self c.install.result c.install.new.out.sent c.install.new.out.passed c.self.inside.book c.settle.new.book c.reserve-2.new.self c.settle.new.links _ c.settle.new.event at less c.in-Some.ensures.view
-    (record { says = c.install.ensures.answer; becomes = c.install.ensures.after; sends = c.install.ensures.sent; passes = c.install.ensures.passed }) c.reserve-2.ensures.letters refl
-    (record { says = refl; points = c.clear.ensures.points; acked = c.clear.ensures.acked; sent = c.clear.ensures.sent }) c.settle.ensures) in
+    install_taken w c.args.at c.args.epoch c.in-Some.view _ at less c.in-Some.ensures.view (record {
+      answer = c.install.result;
+      after = c.install.new.self;
+      said = c.install.new.out.sent;
+      passed = c.install.new.out.passed;
+      book = c.self.inside.book;
+      book_after = c.settle.new.book;
+      links = c.reserve-2.new.self;
+      links_after = c.settle.new.links;
+      event = _;
+      event_after = c.settle.new.event;
+      settled = c.settle.ensures;
+      did = record { says = c.install.ensures.answer; becomes = c.install.ensures.after; sends = c.install.ensures.sent; passes = c.install.ensures.passed };
+      noted = record { book = refl; points = c.clear.ensures.points; acks = c.clear.ensures.acked };
+      linked = c.reserve-2.ensures.letters;
+      says = refl;
+    }) in
     rw c.place.ensures
     (kept_after w _ _ c.self.inside.book c.settle.new.book c.self.invariant fits taken.becomes (ap (λ (b : BookState). b.nodes) c.settle.ensures.book) (ap (λ (b : BookState). b.slots) c.settle.ensures.book))
 
@@ -120,6 +149,20 @@ returns-clause-ok c =
     let first : 1 ≤ c.in-Some.view.epoch = rw c.in-Some.ensures.view places.first in
     let members : nodes_fit (limits_of c.self.inside.config.now) c.in-Some.view.members ≡ true = rw c.in-Some.ensures.view (ranged.members (c.args.epoch - 1)) in
     rw (← c.self.view_is, c.place.ensures)
-    (install_taken w c.args.at c.args.epoch c.in-Some.view _ c.install.new.self c.install.result c.install.new.out.sent c.install.new.out.passed c.self.inside.book c.settle.new.book c.reserve-2.new.self c.settle.new.links _ c.settle.new.event at less c.in-Some.ensures.view
-    (record { says = c.install.ensures.answer; becomes = c.install.ensures.after; sends = c.install.ensures.sent; passes = c.install.ensures.passed }) c.reserve-2.ensures.letters refl
-    (record { says = refl; points = c.clear.ensures.points; acked = c.clear.ensures.acked; sent = c.clear.ensures.sent }) c.settle.ensures)
+    (install_taken w c.args.at c.args.epoch c.in-Some.view _ at less c.in-Some.ensures.view (record {
+      answer = c.install.result;
+      after = c.install.new.self;
+      said = c.install.new.out.sent;
+      passed = c.install.new.out.passed;
+      book = c.self.inside.book;
+      book_after = c.settle.new.book;
+      links = c.reserve-2.new.self;
+      links_after = c.settle.new.links;
+      event = _;
+      event_after = c.settle.new.event;
+      settled = c.settle.ensures;
+      did = record { says = c.install.ensures.answer; becomes = c.install.ensures.after; sends = c.install.ensures.sent; passes = c.install.ensures.passed };
+      noted = record { book = refl; points = c.clear.ensures.points; acks = c.clear.ensures.acked };
+      linked = c.reserve-2.ensures.letters;
+      says = refl;
+    }))

@@ -23,32 +23,32 @@ returns-in-Begin-clause-promise c =
 pub returns-in-Try-clause-sound : goal.returns-in-Try-clause-sound
 returns-in-Try-clause-sound c =
     let reached = subst IsReached c.self.view_is c.self.invariant.reached in
-    promised_sound _ (promised_after c.args.self.now c.try_slot.new.self c.args.step.now _ c.try_slot.new.event c.try_slot.result reached c.requires c.every_run_keeps_its_promise.ensures c.in-Try.is c.try_slot.ensures.ok c.try_slot.ensures.err)
+    promised_sound _ (promised_after c.args.self.now c.try_slot.new.self c.args.step.now _ c.try_slot.new.event c.try_slot.result reached c.requires c.every_run_keeps_its_promise.ensures c.in-Try.is (record { ok = c.try_slot.ensures.ok; err = c.try_slot.ensures.err }))
 
 pub returns-in-Try-clause-promise : goal.returns-in-Try-clause-promise
 returns-in-Try-clause-promise c =
     let reached = subst IsReached c.self.view_is c.self.invariant.reached in
-    promised_after c.args.self.now c.try_slot.new.self c.args.step.now _ c.try_slot.new.event c.try_slot.result reached c.requires c.every_run_keeps_its_promise.ensures c.in-Try.is c.try_slot.ensures.ok c.try_slot.ensures.err
+    promised_after c.args.self.now c.try_slot.new.self c.args.step.now _ c.try_slot.new.event c.try_slot.result reached c.requires c.every_run_keeps_its_promise.ensures c.in-Try.is (record { ok = c.try_slot.ensures.ok; err = c.try_slot.ensures.err })
 
 pub returns-in-Deliver-clause-sound : goal.returns-in-Deliver-clause-sound
 returns-in-Deliver-clause-sound c =
     let reached = subst IsReached c.self.view_is c.self.invariant.reached in
-    promised_sound _ (promised_after c.args.self.now c.deliver.new.self c.args.step.now _ c.deliver.new.event c.deliver.result reached c.requires c.every_run_keeps_its_promise.ensures c.in-Deliver.is c.deliver.ensures.ok c.deliver.ensures.err)
+    promised_sound _ (promised_after c.args.self.now c.deliver.new.self c.args.step.now _ c.deliver.new.event c.deliver.result reached c.requires c.every_run_keeps_its_promise.ensures c.in-Deliver.is (record { ok = c.deliver.ensures.ok; err = c.deliver.ensures.err }))
 
 pub returns-in-Deliver-clause-promise : goal.returns-in-Deliver-clause-promise
 returns-in-Deliver-clause-promise c =
     let reached = subst IsReached c.self.view_is c.self.invariant.reached in
-    promised_after c.args.self.now c.deliver.new.self c.args.step.now _ c.deliver.new.event c.deliver.result reached c.requires c.every_run_keeps_its_promise.ensures c.in-Deliver.is c.deliver.ensures.ok c.deliver.ensures.err
+    promised_after c.args.self.now c.deliver.new.self c.args.step.now _ c.deliver.new.event c.deliver.result reached c.requires c.every_run_keeps_its_promise.ensures c.in-Deliver.is (record { ok = c.deliver.ensures.ok; err = c.deliver.ensures.err })
 
 pub returns-in-Tick-clause-sound : goal.returns-in-Tick-clause-sound
 returns-in-Tick-clause-sound c =
     let reached = subst IsReached c.self.view_is c.self.invariant.reached in
-    promised_sound _ (promised_after c.args.self.now c.tick.new.self c.args.step.now _ c.tick.new.event c.tick.result reached c.requires c.every_run_keeps_its_promise.ensures c.in-Tick.is c.tick.ensures.ok c.tick.ensures.err)
+    promised_sound _ (promised_after c.args.self.now c.tick.new.self c.args.step.now _ c.tick.new.event c.tick.result reached c.requires c.every_run_keeps_its_promise.ensures c.in-Tick.is (record { ok = c.tick.ensures.ok; err = c.tick.ensures.err }))
 
 pub returns-in-Tick-clause-promise : goal.returns-in-Tick-clause-promise
 returns-in-Tick-clause-promise c =
     let reached = subst IsReached c.self.view_is c.self.invariant.reached in
-    promised_after c.args.self.now c.tick.new.self c.args.step.now _ c.tick.new.event c.tick.result reached c.requires c.every_run_keeps_its_promise.ensures c.in-Tick.is c.tick.ensures.ok c.tick.ensures.err
+    promised_after c.args.self.now c.tick.new.self c.args.step.now _ c.tick.new.event c.tick.result reached c.requires c.every_run_keeps_its_promise.ensures c.in-Tick.is (record { ok = c.tick.ensures.ok; err = c.tick.ensures.err })
 
 pub returns-in-Stop-clause-sound : goal.returns-in-Stop-clause-sound
 returns-in-Stop-clause-sound c =
@@ -63,22 +63,22 @@ returns-in-Stop-clause-promise c =
 pub returns-in-View-clause-sound : goal.returns-in-View-clause-sound
 returns-in-View-clause-sound c =
     let reached = subst IsReached c.self.view_is c.self.invariant.reached in
-    promised_sound _ (promised_after c.args.self.now c.view.new.self c.args.step.now _ c.view.new.event c.view.result reached c.requires c.every_run_keeps_its_promise.ensures c.in-View.is c.view.ensures.ok c.view.ensures.err)
+    promised_sound _ (promised_after c.args.self.now c.view.new.self c.args.step.now _ c.view.new.event c.view.result reached c.requires c.every_run_keeps_its_promise.ensures c.in-View.is (record { ok = c.view.ensures.ok; err = c.view.ensures.err }))
 
 pub returns-in-View-clause-promise : goal.returns-in-View-clause-promise
 returns-in-View-clause-promise c =
     let reached = subst IsReached c.self.view_is c.self.invariant.reached in
-    promised_after c.args.self.now c.view.new.self c.args.step.now _ c.view.new.event c.view.result reached c.requires c.every_run_keeps_its_promise.ensures c.in-View.is c.view.ensures.ok c.view.ensures.err
+    promised_after c.args.self.now c.view.new.self c.args.step.now _ c.view.new.event c.view.result reached c.requires c.every_run_keeps_its_promise.ensures c.in-View.is (record { ok = c.view.ensures.ok; err = c.view.ensures.err })
 
 pub returns-in-Install-clause-sound : goal.returns-in-Install-clause-sound
 returns-in-Install-clause-sound c =
     let reached = subst IsReached c.self.view_is c.self.invariant.reached in
-    promised_sound _ (promised_after c.args.self.now c.install.new.self c.args.step.now _ c.install.new.event c.install.result reached c.requires c.every_run_keeps_its_promise.ensures c.in-Install.is c.install.ensures.ok c.install.ensures.err)
+    promised_sound _ (promised_after c.args.self.now c.install.new.self c.args.step.now _ c.install.new.event c.install.result reached c.requires c.every_run_keeps_its_promise.ensures c.in-Install.is (record { ok = c.install.ensures.ok; err = c.install.ensures.err }))
 
 pub returns-in-Install-clause-promise : goal.returns-in-Install-clause-promise
 returns-in-Install-clause-promise c =
     let reached = subst IsReached c.self.view_is c.self.invariant.reached in
-    promised_after c.args.self.now c.install.new.self c.args.step.now _ c.install.new.event c.install.result reached c.requires c.every_run_keeps_its_promise.ensures c.in-Install.is c.install.ensures.ok c.install.ensures.err
+    promised_after c.args.self.now c.install.new.self c.args.step.now _ c.install.new.event c.install.result reached c.requires c.every_run_keeps_its_promise.ensures c.in-Install.is (record { ok = c.install.ensures.ok; err = c.install.ensures.err })
 
 pub returns-then-steps-clause-sound : goal.returns-then-steps-clause-sound
 returns-then-steps-clause-sound c =

@@ -20,8 +20,14 @@ invariant_of-self c =
     let here = rw (← c.self.view_is) at c.requires.node in
     let k = rw c.place.ensures at c.index_mut-node.ensures.value in
     let at = node_at w c.args.at _ (known _ _ c.self.invariant).ranged here k in
-    let taken = stop_taken w c.args.at _ c.stop-stopped.new.self c.stop-stopped.result (letters c.self.inside.links) c.answer_alone.new.book.book c.answer_alone.new.event at c.stop-stopped.ensures.answer c.stop-stopped.ensures.after
-    refl (ap (λ (b : BookState). b.book) c.answer_alone.ensures.book) c.answer_alone.ensures.event in
+    let taken = stop_taken w c.args.at _ c.stop-stopped.new.self c.stop-stopped.result at c.stop-stopped.ensures.answer c.stop-stopped.ensures.after (record {
+      links = letters c.self.inside.links;
+      book = c.answer_alone.new.book.book;
+      event = c.answer_alone.new.event;
+      linked = refl;
+      counts = ap (λ (b : BookState). b.book) c.answer_alone.ensures.book;
+      alone = c.answer_alone.ensures.event;
+    }) in
     rw c.place.ensures
     (kept_after w _ _ c.self.inside.book c.answer_alone.new.book c.self.invariant (fits_stop _ _ c.args.at here) taken.becomes (ap (λ (b : BookState). b.nodes) c.answer_alone.ensures.book) (ap (λ (b : BookState). b.slots) c.answer_alone.ensures.book))
 
@@ -32,5 +38,11 @@ returns c =
     let k = rw c.place.ensures at c.index_mut-node.ensures.value in
     let at = node_at w c.args.at _ (known _ _ c.self.invariant).ranged here k in
     rw (← c.self.view_is, c.place.ensures)
-    (stop_taken w c.args.at _ c.stop-stopped.new.self c.stop-stopped.result (letters c.self.inside.links) c.answer_alone.new.book.book c.answer_alone.new.event at c.stop-stopped.ensures.answer c.stop-stopped.ensures.after
-    refl (ap (λ (b : BookState). b.book) c.answer_alone.ensures.book) c.answer_alone.ensures.event)
+    (stop_taken w c.args.at _ c.stop-stopped.new.self c.stop-stopped.result at c.stop-stopped.ensures.answer c.stop-stopped.ensures.after (record {
+      links = letters c.self.inside.links;
+      book = c.answer_alone.new.book.book;
+      event = c.answer_alone.new.event;
+      linked = refl;
+      counts = ap (λ (b : BookState). b.book) c.answer_alone.ensures.book;
+      alone = c.answer_alone.ensures.event;
+    }))

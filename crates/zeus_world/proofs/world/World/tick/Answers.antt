@@ -38,7 +38,8 @@ settle-requires c =
     let space = c.in_ok-reserve.ensures.space in
     let points = c.clear.ensures.points_room in
     let acked = c.clear.ensures.acked_room in
-    can_settle w c.args.at _ c.tick.new.out.sent c.self.inside.book c.reserve-2.new.self _ c.tick.ensures.sent (known _ _ c.self.invariant).ranged here c.reserve-2.ensures.letters by.by keeps.sent c.in_ok-reserve-2.ensures.room counted
+    can_settle w c.args.at _ c.tick.new.out.sent c.self.inside.book c.reserve-2.new.self _ c.tick.ensures.sent
+    (record { ranged = (known _ _ c.self.invariant).ranged; there = here; links = c.reserve-2.ensures.letters; by = by.by; fit = keeps.sent; room = c.in_ok-reserve-2.ensures.room }) counted
     (has_lists c.self.inside.book.book c.txs.result c.clear.new.self.points c.clear.new.self.acked c.txs.ensures (omega arith) (omega arith))
 
 pub invariant_of-self-2 : goal.invariant_of-self-2
@@ -49,9 +50,23 @@ invariant_of-self-2 c =
     let k = rw c.place.ensures at c.index_mut-node.ensures.value in
     let at = node_at w c.args.at _ (known _ _ c.self.invariant).ranged here k in
     let taken =
-    (tick_taken w c.args.at _ c.tick.new.self c.tick.result c.tick.new.out.sent c.tick.new.out.passed c.self.inside.book c.settle.new.book c.reserve-2.new.self c.settle.new.links _ c.settle.new.event at
-    (record { says = c.tick.ensures.answer; becomes = c.tick.ensures.after; sends = c.tick.ensures.sent; passes = c.tick.ensures.passed }) c.reserve-2.ensures.letters refl
-    (record { says = refl; points = c.clear.ensures.points; acked = c.clear.ensures.acked; sent = c.clear.ensures.sent }) c.settle.ensures) in
+    tick_taken w c.args.at _ at (record {
+      answer = c.tick.result;
+      after = c.tick.new.self;
+      said = c.tick.new.out.sent;
+      passed = c.tick.new.out.passed;
+      book = c.self.inside.book;
+      book_after = c.settle.new.book;
+      links = c.reserve-2.new.self;
+      links_after = c.settle.new.links;
+      event = _;
+      event_after = c.settle.new.event;
+      settled = c.settle.ensures;
+      did = record { says = c.tick.ensures.answer; becomes = c.tick.ensures.after; sends = c.tick.ensures.sent; passes = c.tick.ensures.passed };
+      noted = record { book = refl; points = c.clear.ensures.points; acks = c.clear.ensures.acked };
+      linked = c.reserve-2.ensures.letters;
+      says = refl;
+    }) in
     rw c.place.ensures
     (kept_after w _ _ c.self.inside.book c.settle.new.book c.self.invariant fits taken.becomes (ap (λ (b : BookState). b.nodes) c.settle.ensures.book) (ap (λ (b : BookState). b.slots) c.settle.ensures.book))
 
@@ -63,6 +78,20 @@ returns-clause-ok c =
     let k = rw c.place.ensures at c.index_mut-node.ensures.value in
     let at = node_at w c.args.at _ (known _ _ c.self.invariant).ranged here k in
     rw (← c.self.view_is, c.place.ensures)
-    (tick_taken w c.args.at _ c.tick.new.self c.tick.result c.tick.new.out.sent c.tick.new.out.passed c.self.inside.book c.settle.new.book c.reserve-2.new.self c.settle.new.links _ c.settle.new.event at
-    (record { says = c.tick.ensures.answer; becomes = c.tick.ensures.after; sends = c.tick.ensures.sent; passes = c.tick.ensures.passed }) c.reserve-2.ensures.letters refl
-    (record { says = refl; points = c.clear.ensures.points; acked = c.clear.ensures.acked; sent = c.clear.ensures.sent }) c.settle.ensures)
+    (tick_taken w c.args.at _ at (record {
+      answer = c.tick.result;
+      after = c.tick.new.self;
+      said = c.tick.new.out.sent;
+      passed = c.tick.new.out.passed;
+      book = c.self.inside.book;
+      book_after = c.settle.new.book;
+      links = c.reserve-2.new.self;
+      links_after = c.settle.new.links;
+      event = _;
+      event_after = c.settle.new.event;
+      settled = c.settle.ensures;
+      did = record { says = c.tick.ensures.answer; becomes = c.tick.ensures.after; sends = c.tick.ensures.sent; passes = c.tick.ensures.passed };
+      noted = record { book = refl; points = c.clear.ensures.points; acks = c.clear.ensures.acked };
+      linked = c.reserve-2.ensures.letters;
+      says = refl;
+    }))

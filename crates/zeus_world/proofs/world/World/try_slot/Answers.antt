@@ -45,7 +45,7 @@ note_tried-requires-clause-tried c =
     let here = places.node in
     let k = rw c.place.ensures at c.index_mut-node.ensures.value in
     let at = node_at w c.args.at _ (known _ _ c.self.invariant).ranged here k in
-    can_try w c.args.at c.args.slot _ c.try_slot-tried.result c.self.inside.book (known _ _ c.self.invariant) at refl c.self.invariant.nodes c.self.invariant.slots places.slot c.try_slot-tried.ensures.answer
+    can_try w c.args.at c.args.slot _ c.try_slot-tried.result c.self.inside.book c.self.invariant at refl places.slot c.try_slot-tried.ensures.answer
 
 pub note_tried-requires-clause-lists : goal.note_tried-requires-clause-lists
 note_tried-requires-clause-lists c =
@@ -69,8 +69,9 @@ settle-requires c =
     let space = c.in_ok-reserve.ensures.space in
     let points = c.clear.ensures.points_room in
     let acked = c.clear.ensures.acked_room in
-    can_settle w c.args.at _ c.try_slot-tried.new.out.sent c.note_tried.new.self c.reserve-2.new.self _ c.try_slot-tried.ensures.sent (known _ _ c.self.invariant).ranged here c.reserve-2.ensures.letters by.by keeps.sent c.in_ok-reserve-2.ensures.room (tried_counted w c.args.at c.args.slot _ c.try_slot-tried.result c.note_tried.new.self c.note_tried.new.points c.note_tried.new.acked (known _ _ c.self.invariant) at c.try_slot-tried.ensures.answer made counted)
-    c.note_tried.ensures.lists
+    can_settle w c.args.at _ c.try_slot-tried.new.out.sent c.note_tried.new.self c.reserve-2.new.self _ c.try_slot-tried.ensures.sent
+    (record { ranged = (known _ _ c.self.invariant).ranged; there = here; links = c.reserve-2.ensures.letters; by = by.by; fit = keeps.sent; room = c.in_ok-reserve-2.ensures.room })
+    (tried_counted w c.args.at c.args.slot _ c.try_slot-tried.result c.note_tried.new.self.book (known _ _ c.self.invariant) at c.try_slot-tried.ensures.answer made.book counted) c.note_tried.ensures.lists
 
 pub invariant_of-self-2 : goal.invariant_of-self-2
 invariant_of-self-2 c =
@@ -82,8 +83,23 @@ invariant_of-self-2 c =
     let at = node_at w c.args.at _ (known _ _ c.self.invariant).ranged here k in
     let made = made_first c.self.inside.book c.note_tried.new.self c.clear.new.self.points c.clear.new.self.acked c.note_tried.new.points c.note_tried.new.acked (λ b. book_tried b record { node = c.args.at; slot = c.args.slot } c.self.inside.config.now.degree c.try_slot-tried.result) c.clear.ensures.points c.clear.ensures.acked c.note_tried.ensures.change in
     let taken =
-    (try_taken w c.args.at c.args.slot _ c.try_slot-tried.new.self c.try_slot-tried.result c.try_slot-tried.new.out.sent c.try_slot-tried.new.out.passed c.note_tried.new.self c.settle.new.book c.reserve-2.new.self c.settle.new.links _ c.settle.new.event at
-    (record { says = c.try_slot-tried.ensures.answer; becomes = c.try_slot-tried.ensures.after; sends = c.try_slot-tried.ensures.sent; passes = c.try_slot-tried.ensures.passed }) c.reserve-2.ensures.letters made refl c.settle.ensures) in
+    try_taken w c.args.at c.args.slot _ at (record {
+      answer = c.try_slot-tried.result;
+      after = c.try_slot-tried.new.self;
+      said = c.try_slot-tried.new.out.sent;
+      passed = c.try_slot-tried.new.out.passed;
+      book = c.note_tried.new.self;
+      book_after = c.settle.new.book;
+      links = c.reserve-2.new.self;
+      links_after = c.settle.new.links;
+      event = _;
+      event_after = c.settle.new.event;
+      settled = c.settle.ensures;
+      did = record { says = c.try_slot-tried.ensures.answer; becomes = c.try_slot-tried.ensures.after; sends = c.try_slot-tried.ensures.sent; passes = c.try_slot-tried.ensures.passed };
+      noted = made;
+      linked = c.reserve-2.ensures.letters;
+      says = refl;
+    }) in
     rw c.place.ensures
     (kept_after w _ _ c.self.inside.book c.settle.new.book c.self.invariant fits taken.becomes (ap (λ (b : BookState). b.nodes) c.settle.ensures.book ∙ ap (λ (b : BookState). b.nodes) c.note_tried.ensures.shape) (ap (λ (b : BookState). b.slots) c.settle.ensures.book ∙ ap (λ (b : BookState). b.slots) c.note_tried.ensures.shape))
 
@@ -97,5 +113,20 @@ returns-clause-ok c =
     let at = node_at w c.args.at _ (known _ _ c.self.invariant).ranged here k in
     let made = made_first c.self.inside.book c.note_tried.new.self c.clear.new.self.points c.clear.new.self.acked c.note_tried.new.points c.note_tried.new.acked (λ b. book_tried b record { node = c.args.at; slot = c.args.slot } c.self.inside.config.now.degree c.try_slot-tried.result) c.clear.ensures.points c.clear.ensures.acked c.note_tried.ensures.change in
     rw (← c.self.view_is, c.place.ensures)
-    (try_taken w c.args.at c.args.slot _ c.try_slot-tried.new.self c.try_slot-tried.result c.try_slot-tried.new.out.sent c.try_slot-tried.new.out.passed c.note_tried.new.self c.settle.new.book c.reserve-2.new.self c.settle.new.links _ c.settle.new.event at
-    (record { says = c.try_slot-tried.ensures.answer; becomes = c.try_slot-tried.ensures.after; sends = c.try_slot-tried.ensures.sent; passes = c.try_slot-tried.ensures.passed }) c.reserve-2.ensures.letters made refl c.settle.ensures)
+    (try_taken w c.args.at c.args.slot _ at (record {
+      answer = c.try_slot-tried.result;
+      after = c.try_slot-tried.new.self;
+      said = c.try_slot-tried.new.out.sent;
+      passed = c.try_slot-tried.new.out.passed;
+      book = c.note_tried.new.self;
+      book_after = c.settle.new.book;
+      links = c.reserve-2.new.self;
+      links_after = c.settle.new.links;
+      event = _;
+      event_after = c.settle.new.event;
+      settled = c.settle.ensures;
+      did = record { says = c.try_slot-tried.ensures.answer; becomes = c.try_slot-tried.ensures.after; sends = c.try_slot-tried.ensures.sent; passes = c.try_slot-tried.ensures.passed };
+      noted = made;
+      linked = c.reserve-2.ensures.letters;
+      says = refl;
+    }))
