@@ -1,15 +1,17 @@
 -- What holds of the elements of the lists that a word chooses from.
 use Rattle.std.proofs.Common.{ℕ, zero, suc, ◌≡◌, ◌<◌, ◌≤◌, ◌+◌, ◌-◌, ◌%◌, ◌^◌, Bool, true, false, List, [], ◌∷◌, ◌++◌, Option, Some, None, length, get_or, All, arith, refl, ap, sym, subst, ◌∙◌}
-use Rattle.std.specs.Prelude.{map, filter, filter_map, slice_get, nat_lt, ◌&&◌, IfSome, if◌then◌else◌}
+use Rattle.std.specs.Prelude.{map, filter, filter_map, slice_get, nat_lt, ◌&&◌, IfSome, IsTrue, if◌then◌else◌}
 use Rattle.std.proofs.lemmas.Bool.{and_parts, cond_both, ltb-true}
-use Rattle.std.proofs.lemmas.List.Elements.{All-nil, All-cons, All-head, All-tail, All-append, All-map, All-filter, All-weaker, filter_passes}
+use Rattle.std.proofs.lemmas.List.{append-nil}
+use Rattle.std.proofs.lemmas.List.Elements.{All-nil, All-cons, All-head, All-tail, All-append, All-push, All-map, All-filter, All-weaker, filter_passes}
 use Rattle.std.proofs.lemmas.Option.{slice_get_within, slice_get-get_or}
 use Rattle.zeus_base.specs.declared.config.Config.{Config}
 use Rattle.zeus_base.specs.declared.order.Stream.{Stream}
 use Rattle.zeus_model.specs.Tables.{below, numbers_from}
 use Rattle.zeus_model.specs.Readers.{is_live}
 use Rattle.zeus_model.specs.World.{World}
-use Rattle.random_schedule.specs.Choices.{chosen, pairs, stream, streams, count_sent, can_arrive, can_repeat}
+use Rattle.random_schedule.specs.Choices.{chosen, pairs, stream, streams, count_sent, can_repeat}
+use Rattle.random_schedule.specs.Lists.{if_passes}
 use Rattle.random_schedule.specs.Ready.{IsSlot, IsLink, AreSlots, AreLinks}
 use Rattle.random_schedule.specs.Schedule.{first_packet, same_link, behind, used_at}
 use Rattle.random_schedule.specs.declared.fresh.FreshPacket.{FreshPacket}
@@ -29,6 +31,11 @@ all_got P xs i x all is =
     let read = slice_get-get_or xs i x within in
     let same : get_or xs i x ≡ x = cc (read, is) in
     subst P same (all i x within)
+
+-- if each element has a property, and so has one that is added where it passes a test, then each has it afterwards
+pub push_if_all : {A : Type 0} (P : A → Type 0) (xs : List A) (test : Bool) (x : A) → All P xs → (IsTrue test → P x) → All P (xs ++ if_passes test x)
+push_if_all P xs true x all h = All-push P xs x all (h refl)
+push_if_all P xs false x all h = subst (λ l. All P l) (sym (append-nil xs)) all
 
 -- ---- slots and links
 
@@ -81,15 +88,6 @@ trying_slots c p u slots is =
 -- a link that is chosen among some of the configuration's is one of the configuration
 pub chosen_links : (c : Config) (p : FreshPacket → Bool) (u : ℕ) (links : List FreshPacket) → AreLinks c links → IfSome (chosen u (filter p links)) (IsLink c)
 chosen_links c p u links all = chosen_all (IsLink c) u (filter p links) (All-filter p (IsLink c) links all)
-
--- the next fresh packet of a link that can bring one was sent
-pub chosen_sent : (w : World) (u : ℕ) (links : List FreshPacket) → IfSome (chosen u (filter (can_arrive w) links)) (λ p. p.number < count_sent w p)
-unfolding can_arrive
-chosen_sent w u links =
-    chosen_all (λ p. p.number < count_sent w p) u (filter (can_arrive w) links)
-    (All-weaker (λ p. can_arrive w p ≡ true) (λ p. p.number < count_sent w p)
-    (λ p h. ltb-true p.number (count_sent w p) (and_parts (is_live w p.to) (nat_lt p.number (count_sent w p)) h).1)
-    (filter (can_arrive w) links) (filter_passes (can_arrive w) links))
 
 -- on a link that can bring a packet again one was sent
 pub chosen_some : (w : World) (u : ℕ) (links : List FreshPacket) → IfSome (chosen u (filter (can_repeat w) links)) (λ p. 0 < count_sent w p)

@@ -3,8 +3,10 @@ use Rattle.std.proofs.Common.{ℕ, zero, suc, ◌≡◌, ◌<◌, ◌≤◌, ◌
 use Rattle.std.specs.Prelude.{◌&&◌, ◌||◌, slice_get, ◌%◌, length, if◌then◌else◌}
 use Rattle.std.proofs.lemmas.Bool.{cases_Bool, cond_both}
 use Rattle.std.proofs.lemmas.Bool.Decides.{nat_tests}
+use Rattle.zeus_base.proofs.NodeBits.{IsNodeSet-nodes_of}
+use Rattle.zeus_base.specs.Bits.{bits_of, nodes_of}
 use Rattle.zeus_base.specs.Nodes.{has, without}
-use Rattle.zeus_base.specs.NodeLaws.{RisesFrom, RisesFrom-lower, IsRising, IsBelow, has-head, has-tail, has-below, has-without, same_from_members}
+use Rattle.zeus_base.specs.NodeLaws.{RisesFrom, RisesFrom-lower, IsRising, IsBelow, IsNodeSet, has-head, has-tail, has-below, has-without, same_from_members}
 use Rattle.zeus_model.specs.Readers.{is_live, live_among}
 use Rattle.zeus_model.specs.Tables.{below, numbers_from}
 use Rattle.zeus_model.specs.World.{World}
@@ -33,6 +35,12 @@ live_among-below w b ms h = λ k here.
     let split = live_among-has w k ms in
     let there : has k ms ≡ true = grind arith in
     h k there
+
+-- what a byte shows rises from one node to the next
+pub rising_shown : (ns : List ℕ) → nodes_of (bits_of ns) ≡ ns → IsRising ns
+rising_shown ns shown =
+    let set : IsNodeSet ns = rw (← shown) (IsNodeSet-nodes_of (bits_of ns)) in
+    set.rising
 
 -- ---- one node after another
 
@@ -94,9 +102,11 @@ runs_no_more w all running rest n h dead =
     }
 
 -- once no node is left to look at, the running ones are the live ones of the set
-pub none_left : (w : World) (all running : List ℕ) → IsRising all → IsLeft w all [] running → running ≡ live_among w all
+pub none_left : (w : World) (all left running : List ℕ) → IsRising all → left ≡ [] → IsLeft w all left running → running ≡ live_among w all
 unfolding has
-none_left w all running r h =
+none_left w all left running r done kept =
+    let P : List ℕ → Type 0 = λ l. IsLeft w all l running in
+    let h : IsLeft w all [] running = subst P done kept in
     same_from_members 0 0 running (live_among w all) h.rising (live_among-rising w all r)
     (λ k. grind (arith, h.members k, live_among-has w k all))
 

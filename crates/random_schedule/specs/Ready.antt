@@ -1,5 +1,5 @@
 -- What is kept from step to step, so that what a word chooses from need not be searched for.
-use Rattle.std.specs.Prelude.{ℕ, ◌≡◌, ◌<◌, ◌≤◌, Bool, true, ◌||◌, List, length, map, All, slice_get, Some}
+use Rattle.std.specs.Prelude.{ℕ, ◌≡◌, ◌<◌, ◌≤◌, ◌+◌, ◌^◌, Bool, true, ◌||◌, List, length, map, All, slice_get, Some}
 use Rattle.zeus_base.specs.declared.config.Config.{Config}
 use Rattle.zeus_base.specs.declared.order.Stream.{Stream}
 use Rattle.zeus_txn.specs.declared.tx.TxDecl.{TxDecl}
@@ -28,6 +28,10 @@ pub record IsLink (c : Config) (p : FreshPacket) : Type 0 where
 -- each link of a list is one of the configuration
 abbrev pub AreLinks : Config → List FreshPacket → Type 0
 AreLinks c links = All (IsLink c) links
+
+-- the packet behind this one on its link has a number too
+abbrev pub HasNext : FreshPacket → Type 0
+HasNext p = p.number + 1 < 2 ^ 32
 
 -- the queue of a slot has its transactions
 abbrev pub IsQueue : List TxDecl → Queue → Type 0

@@ -1,10 +1,10 @@
 //! The delivery of a packet.
-ghost use Rattle.std.specs.Prelude.{◌≡◌, ◌+◌, ◌<◌, ◌^◌, ℕ, IfOk, IfSome, filter, length, map};
+ghost use Rattle.std.specs.Prelude.{◌≡◌, ◌+◌, ◌<◌, ◌^◌, ℕ, All, IfOk, IfSome, IsTrue, filter, length, map};
 ghost use Rattle.zeus_base.specs.declared.config.Config.{Config};
 ghost use Rattle.zeus_model.specs.Scripts.{FitsStep};
 ghost use Rattle.reached_worlds.specs.Ranged.{IsRanged};
 ghost use Rattle.random_schedule.specs.Choices.{can_arrive, can_repeat, count_sent};
-ghost use Rattle.random_schedule.specs.Ready.{AreLinks, IsLink};
+ghost use Rattle.random_schedule.specs.Ready.{AreLinks, HasNext, IsLink};
 ghost use Rattle.random_schedule.specs.Schedule.{arrival, arrival_at, behind, fresh_after, fresh_step, repeat_at, repeat_step, used_at};
 
 use crate::fresh::FreshPacket;
@@ -30,7 +30,8 @@ fn count_sent(world: &World, link: &FreshPacket) -> u32
 fn can_arrive(world: &World, link: &FreshPacket) -> bool
     requires world { IsRanged world.now }
     requires link { IsLink world.now.config link.now }
-    ensures { result ≡ can_arrive world.now link.now }
+    ensures value { result ≡ can_arrive world.now link.now }
+    ensures next { IsTrue result → HasNext link.now }
 {
     world.is_live(link.to) && link.number < count_sent(world, link)
 }
@@ -46,7 +47,7 @@ fn can_repeat(world: &World, link: &FreshPacket) -> bool
 }
 
 /// The links whose next fresh packet can arrive.
-#[tactic(auto, using(crate::proofs::Making::passes_more, crate::proofs::Making::passes_done, crate::proofs::Elements::all_at))]
+#[tactic(auto, using(crate::proofs::Making::passes_done, crate::proofs::Elements::all_at))]
 fn arriving(
     alloc: Global,
     world: &World,
@@ -54,7 +55,8 @@ fn arriving(
 ) -> Result<Vec<FreshPacket>, NoMemory>
     requires world { IsRanged world.now }
     requires links { AreLinks world.now.config links.now }
-    ensures { IfOk result (λ v. v.items ≡ filter (can_arrive world.now) links.now) }
+    ensures passing { IfOk result (λ v. v.items ≡ filter (can_arrive world.now) links.now) }
+    ensures next { IfOk result (λ v. All HasNext v.items) }
 {
     let mut arriving = Vec::with_capacity(alloc, links.len()).map_err(|_| NoMemory)?;
     for link in links {
@@ -135,14 +137,11 @@ fn arrival_at(world: &World, loss: u8, u: u32, packet: &Option<FreshPacket>) -> 
 
 /// The packet, if there is one, is fresh no more.
 #[tactic(auto, unfolding(crate::specs::Schedule::used_at))]
-fn use_found(world: &World, links: &mut [FreshPacket], packet: &Option<FreshPacket>)
-    requires world { IsRanged world.now }
-    requires packet { IfSome packet.now (IsLink world.now.config) }
-    requires sent { IfSome packet.now (λ p. p.number < count_sent world.now p) }
+fn use_found(links: &mut [FreshPacket], packet: &Option<FreshPacket>)
+    requires { IfSome packet.now HasNext }
     ensures { links.new ≡ used_at links.old packet.now }
 {
     if let Some(packet) = packet {
-        let _ = count_sent(world, packet);
         use_packet(packet, links);
     }
 }
@@ -167,7 +166,7 @@ pub(crate) fn fresh_step(
 {
     let arriving = arriving(alloc, world, links)?;
     let packet = chosen(u, arriving.as_slice());
-    use_found(world, links, &packet);
+    use_found(links, &packet);
     Ok(arrival_at(world, loss, u, &packet))
 }
 

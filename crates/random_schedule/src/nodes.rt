@@ -23,11 +23,9 @@ fn if_running(world: &World, nodes: NodeSet, node: NodeId) -> NodeSet
 }
 
 /// The nodes of the set that run.
-#[tactic(auto, using(crate::proofs::Running::all_left, crate::proofs::Running::still_running, crate::proofs::Running::runs_no_more, crate::proofs::Running::none_left))]
 pub(crate) fn running(world: &World, nodes: NodeSet) -> NodeSet
     ensures { result ≡ live_among world.now nodes }
 {
-    let _ = nodes.count();
     let mut running = nodes;
     for node in nodes {
         running = if_running(world, running, node);
